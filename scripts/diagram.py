@@ -52,7 +52,7 @@ BOXES = [
     ((20, 264, 470, 84), "proved", "Reporter", ("writes the defined texts of all calls;", "on a fault, a prefix of them")),
     ((20, 388, 470, 84), "proved", "TextBuffer", ("hands on what it accepted, in order;", "after a flush nothing is pending")),
     ((20, 512, 470, 64), "trusted", "Operating system", ("file, pipe, terminal",)),
-    ((555, 100, 325, 84), "tested", "nextest-runner 0.129.0", ("the bytes that it printed", "for more than 600 scenes")),
+    ((555, 100, 325, 84), "tested", "nextest's reporter 0.129.0", ("what it printed for 600 scenes, over our", "levels, style codes and statistics")),
     ((555, 264, 325, 84), "given", "Definitions", ("each text, from the call, the configuration", "and the calls before it")),
     ((555, 450, 325, 84), "trusted", "The kit, and linked C code", ("checker, compiler, linker, library:", "every proof and program needs them")),
 ]  # fmt: skip

@@ -56,9 +56,7 @@ def main():
     print(f'<svg xmlns="http://www.w3.org/2000/svg" role="img" {size}>')
     print("<title>The coloured report of a test run</title>")
     print(f'<rect width="{width}" height="{height}" rx="8" fill="{BACKGROUND}"/>')
-    print(
-        '<g font-family="ui-monospace, SFMono-Regular, Menlo, Consolas, monospace" font-size="14" xml:space="preserve">'
-    )
+    print('<g font-family="ui-monospace, SFMono-Regular, Menlo, Consolas, monospace" font-size="14">')
     style = (None, False)
     for number, line in enumerate(lines):
         found, style = spans(line, style)
@@ -70,7 +68,8 @@ def main():
             column += len(text)
             if text.strip():
                 fill = COLOURS.get(colour, PLAIN)
-                print(f'<text x="{x:.1f}" y="{y:.1f}" fill="{fill}"{weight}{length}>{html.escape(text)}</text>')
+                # Browsers collapse spaces unless each text says that it keeps them.
+                print(f'<text xml:space="preserve" x="{x:.1f}" y="{y:.1f}" fill="{fill}"{weight}{length}>{html.escape(text)}</text>')
     print("</g>\n</svg>")
 
 

@@ -109,15 +109,19 @@ class Browser:
                 return message["result"]
             self.events.append(message)
 
-    def open(self, address):
-        """Opens a page, and waits until it has read its run."""
+    def show(self, address, also="true"):
+        """Opens a file, and waits until it is loaded and this script is true."""
         self.events.clear()
         self.ask("Page.navigate", url=address)
         until = time.monotonic() + LIMIT
-        while not self.value("document.readyState === 'complete' && typeof ready === 'object'"):
+        while not self.value(f"document.readyState === 'complete' && {also}"):
             if time.monotonic() > until:
                 raise TimeoutError(f"{address} is not ready")
             time.sleep(0.02)
+
+    def open(self, address):
+        """Opens a page, and waits until it has read its run."""
+        self.show(address, "typeof ready === 'object'")
         self.value("ready")
 
     def value(self, script):

@@ -50,4 +50,4 @@ def sources_of(crate, top=TOP):
 def copy_crate(name, target, top=TOP):
     """Copies what a crate is built from into another repository."""
     ignored = shutil.ignore_patterns(*NOT_BUILT_FROM)
-    shutil.copytree(top / "crates" / name, target / "crates" / name, ignore=ignored)
+    shutil.copytree(top / "crates" / name, target / "crates" / name, ignore=ignored, dirs_exist_ok=True)

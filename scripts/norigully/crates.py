@@ -53,13 +53,13 @@ class Crate:
         folder, files = sources_of(self.name, top or self.top)
         return {it: pathlib.Path(folder, it) for it in files}
 
-    def sum(self, known):
-        """A sum of all that its proof rests on: the kit, its line of crates.txt, its files, and those of the crates
-        below. What is known, by the crates' names, is not summed again, and this one is added."""
+    def sum(self, known, of_kit=None):
+        """A sum of all that its proof rests on: the kit, or what is said of it, its line of crates.txt, its files, and
+        those of the crates below. What is known, by the crates' names, is not summed again, and this one is added."""
         if self.name not in known:
             files = [(path, file.read_bytes()) for path, file in self.sources().items()]
-            below = [it.sum(known) for it in self.deps()]
-            said = ((kit.folder() / "KIT-ID").read_text(), self.line, files, below)
+            below = [it.sum(known, of_kit) for it in self.deps()]
+            said = (of_kit or (kit.folder() / "KIT-ID").read_text(), self.line, files, below)
             known[self.name] = hashlib.sha256(repr(said).encode()).hexdigest()
         return known[self.name]
 

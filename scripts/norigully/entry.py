@@ -53,8 +53,21 @@ def run(name, work):
     except NotWritten:
         status = fault(name, "write failed", FAILED)
     except OSError as error:
-        status = fault(name, unread(error.filename, error) if error.filename else error.strerror, WRONG)
-    sys.exit(status)
+        # One that names no file is of an output.
+        is_read = error.filename is not None
+        status = fault(name, *((unread(error.filename, error), WRONG) if is_read else ("write failed", FAILED)))
+    sys.exit(flushed(name, status))
+
+
+def flushed(name, status):
+    """The status, once what was printed is written."""
+    try:
+        if sys.stdout:
+            sys.stdout.flush()
+    except OSError:
+        os.dup2(os.open(os.devnull, os.O_WRONLY), OUTPUT)
+        return status or fault(name, "write failed", FAILED)
+    return status
 
 
 def on_signals(call):
@@ -167,7 +180,21 @@ def end(child):
     until = time.monotonic() + GRACE
     while child.poll() is None and time.monotonic() < until and len(CAME) < 2:
         time.sleep(TICK)
-    send(child, signal.SIGKILL)
+    # What is left is gone before its folders are removed.
+    while left := [*session_of(child)]:
+        for pid in left:
+            with contextlib.suppress(ProcessLookupError):
+                os.kill(pid, signal.SIGKILL)
+        time.sleep(TICK)
+
+
+def session_of(child):
+    """The processes that a process began and that are in its session, itself too."""
+    for pid in filter(str.isdecimal, os.listdir("/proc")):
+        with contextlib.suppress(OSError), open(f"/proc/{pid}/stat", "rb") as file:
+            state, _, _, session = file.read().rpartition(b")")[2].split()[:4]
+            if int(session) == child.pid and state != b"Z":
+                yield int(pid)
 
 
 def send(child, number):

@@ -1,7 +1,7 @@
 /* Loaded before the C library, it makes one call of a program fail: the growth of memory, the write to standard output or to a file that
    was opened, the read, the seek, or the look at what a file is (`look`). FAULT_KIND names the kind, and FAULT_AT says which call of it. A
    short write takes one byte; what is interrupted takes or gives none, and may be tried again. It creates the file FAULT_TOLD where the call
-   came. Five kinds change many calls. With `one-byte` every read gives a byte. With `random` reads and writes are interrupted or short, as
+   came. Six kinds change many calls. With `one-number` every file has the number 1 on its device. With `one-byte` every read gives a byte. With `random` reads and writes are interrupted or short, as
    FAULT_AT seeds it. With `interrupted-line` so many writes to standard error are interrupted. With `paced` each read of a file run.scene
    waits for a byte of the descriptor FAULT_AT, and ends behind a line feed. With `no-root` the folder `/` cannot be opened. `scripts/check-faults`, `scripts/check-process` and
    `scripts/check-replay` use it. */
@@ -208,5 +208,8 @@ int statx(int folder, const char *path, int flags, unsigned int mask, struct sta
         errno = EIO;
         return -1;
     }
-    return real(folder, path, flags, mask, told);
+    int status = real(folder, path, flags, mask, told);
+    if (status == 0 && is("one-number"))
+        told->stx_ino = 1;
+    return status;
 }

@@ -8,14 +8,15 @@ import os
 import signal
 import stat
 import sys
+import tempfile
 
 from norigully import VERSION, entry, print_help_if_asked
-from norigully.entry import INPUT, OUTPUT, WRONG, NotWritten, is_same_file
+from norigully.entry import INPUT, OUTPUT, WRONG, Bad, NotBuilt, NotWritten, is_same_file
 from norigully.words import options_of, usage, why_wrong
 
 # The first words that name another program than `report`.
 PROGRAMS = {"--follow": "follow", "--recorded": "replay"}
-# The first word that makes a page, and those that make a scene.
+# The first word that makes a page, and those of files of other tools, of which a scene is made.
 PAGE = "--page"
 CONVERTERS = {"--junit": "norigully.junit", "--libtest": "norigully.libtest_json"}
 
@@ -60,8 +61,8 @@ def looks_like(typed, name, options):
         return None
     for begin, kind, option, script in ((b"<", "XML", "--junit", "junit"), (b"{", "JSON", "--libtest", "libtest-json")):
         if text.startswith(begin):
-            maker = f"scripts/scene-of-{script}" if typed == "./run" else f"{typed} {option}"
-            return f"this is {kind}: {maker} makes a scene of it"
+            maker = f"scripts/scene-of-{script} makes a scene of it" if typed == "./run" else f"{typed} {option} reports it"
+            return f"this is {kind}: {maker}"
     line = next((it for it in text.split(b"\n") if it and not it.startswith(b"#")), b"")
     if line.endswith(b"\r"):
         return "its lines end with CR LF, and those of a scene with LF"
@@ -93,39 +94,61 @@ def follows_pipe(name, options):
     return stat.S_ISFIFO(mode) or stat.S_ISSOCK(mode)
 
 
-def make_page(words, program_of):
-    """Makes the page that the words ask for. A call returns where a proved program is, or None."""
+def make_page(words, find):
+    """Makes the page that the words ask for. A call returns the path of a program."""
     # Others need not wait for what only this one needs.
     from norigully import page
 
     try:
-        page.main(words, program_of)
+        page.main(words, find)
     except OSError as error:
         raise NotWritten(*error.args) from error
 
 
-def start(called, doc, kit_line, run_program, program_of):
-    """Does what the words ask, by a call that runs a program: it gets the program's name, what is asked of it, and its
-    words. `called` is what this is called in its own lines. Another call returns where a proved program is."""
+def with_scene(words):
+    """The words with - in place of the files of another tool, of which standard input is the scene from here on."""
+    at = 1
+    while at < len(words) and words[at].startswith("-") and words[at] != "-":
+        at += 2 if words[at] in ("--level", "--store", "-o", "--title", "--choices") else 1
+    files = words[at:]
+    for option, to in zip(words[:at], words[1:at]):
+        if option in ("--store", "-o") and any(is_same_file(to, INPUT if it == "-" else it) for it in files):
+            raise Bad(f"cannot write {to}")
+    if not files:
+        return words[1:]
+    lines = importlib.import_module(CONVERTERS[words[0]]).convert(files)
+    with tempfile.TemporaryFile() as scene:
+        entry.write("".join(lines), scene.fileno())
+        os.lseek(scene.fileno(), 0, os.SEEK_SET)
+        os.dup2(scene.fileno(), INPUT)
+    return [*words[1:at], "-"]
+
+
+def start(called, doc, kit_line, find):
+    """Does what the words ask. `called` is what this is called in its own lines. A call returns the path of a program,
+    and may build it first."""
     print_help_if_asked(doc)
     typed = "./run" if called == "run" else called
-    entry.run(called, lambda: do(typed, sys.argv[1:], kit_line, run_program, program_of))
+    entry.run(called, lambda: do(typed, sys.argv[1:], kit_line, find))
 
 
-def do(typed, words, kit_line, run_program, program_of):
+def do(typed, words, kit_line, find):
     if words in (["--version"], ["-V"]):
         about = f"norigully {VERSION}, the console reporter of nextest-runner 0.129.0 with a proof\n"
         entry.write(about + kit_line())
-    elif words[:1] == [PAGE]:
-        make_page(words[1:], program_of)
-    elif words[:1] and words[0] in CONVERTERS:
-        entry.write("".join(importlib.import_module(CONVERTERS[words[0]]).convert(words[1:])))
+        return
+    is_page = words[:1] == [PAGE]
+    words = words[is_page:]
+    if words and words[0] in CONVERTERS:
+        words = with_scene(words)
+    if is_page:
+        make_page(words, find)
     else:
-        run_words(typed, words, run_program)
+        become(typed, words, find)
 
 
-def run_words(typed, words, run_program):
-    """Runs the program that the words name, unless they are wrong."""
+def become(typed, words, find):
+    """Becomes the program that the words name, unless they are wrong."""
     name = PROGRAMS.get(words[0] if words else None, "report")
     words = words[name != "report" :]
     options = options_of(name, words)
@@ -133,14 +156,17 @@ def run_words(typed, words, run_program):
     if not is_file and (why := why_wrong(name, words) or (None if options else usage(name))):
         fault(typed, f"{why} ({typed} --help)", WRONG)
     check_files(name, options)
-    words = words_for(name, options)
+    words, program = words_for(name, options), find(name)
     if follows_pipe(name, options):
         # Ctrl-C is for the producer, which then writes how its run ends; what it writes is reported to the end.
         signal.signal(signal.SIGINT, signal.SIG_IGN)
     looks = looks_like(typed, name, options)
     if looks and (child := os.fork()):
         sys.exit(said_behind(child, typed, looks))
-    run_program(name, options, words)
+    try:
+        os.execv(program, [name, *words])
+    except OSError as error:
+        raise NotBuilt(f"cannot run {program}: {error.strerror}") from error
 
 
 def said_behind(child, typed, what):

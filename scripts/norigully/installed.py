@@ -2,7 +2,7 @@
        norigully --follow [OPTIONS] [FILE]
        norigully --recorded [OPTIONS] DIR
        norigully --page [-o PAGE] FILE
-       norigully --junit [FILE..] | --libtest [FILE]
+       norigully --junit|--libtest [OPTIONS] FILE..
 
 Prints the console report of a run that is written as text. FILE is the last word; - is standard input.
 
@@ -11,8 +11,8 @@ Prints the console report of a run that is written as text. FILE is the last wor
                     the captured output that the report shows
   --page            as the first word: makes an HTML page of the run, which goes to PAGE or standard output; --recorded
                     DIR is a recorded run, --title T its title, and --choices all or few says how many reports it has
-  --junit           as the first word: writes JUnit XML, of FILEs or of standard input, as a run that FILE can be
-  --libtest         as the first word: the same of the lines of libtest's JSON
+  --junit           as the first word, or behind --page: of JUnit XML, in FILEs
+  --libtest         as the first word, or behind --page: of libtest's JSON, in FILE
   --color           with colours, which is the default on a terminal unless NO_COLOR is set
   --no-color        without colours, also on a terminal
   --counter         a counter on the line of each test
@@ -38,7 +38,6 @@ import tempfile
 import zipapp
 
 from norigully import own_doc
-from norigully.entry import NotBuilt
 from norigully.front import start
 
 # What it is made of.
@@ -47,6 +46,8 @@ MODULES = (
     *("page.py", "page_table.py", "scene_lines.py", "junit.py", "libtest_json.py", "cargo.py"),
 )
 HERE = pathlib.Path(__file__).parent
+# The least that a zip file can tell, and a day for other time zones.
+TIME = 315_619_200
 MAIN = "from norigully.installed import main\n\nmain()\n"
 
 
@@ -64,6 +65,10 @@ def write(target):
             shutil.copy(HERE / module, made / "norigully")
         shutil.copytree(HERE / "page", made / "norigully/page")
         (made / "__main__.py").write_text(MAIN)
+        for it in made.rglob("*"):
+            # The same sources give the same bytes.
+            it.chmod(0o755 if it.is_dir() else 0o644)
+            os.utime(it, (TIME, TIME))
         zipapp.create_archive(made, target, "/usr/bin/env python3")
 
 
@@ -72,14 +77,5 @@ def program_of(name):
     return pathlib.Path(sys.argv[0]).resolve().parent / beside(name)
 
 
-def run_program(name, _options, words):
-    """Becomes the program."""
-    program = program_of(name)
-    try:
-        os.execv(program, [name, *words])
-    except OSError as error:
-        raise NotBuilt(f"cannot run {program}: {error.strerror}") from error
-
-
 def main():
-    start("norigully", own_doc(__name__), str, run_program, program_of)
+    start("norigully", own_doc(__name__), str, program_of)

@@ -14,7 +14,7 @@ from dataclasses import dataclass
 from pathlib import Path
 
 from norigully import entry
-from norigully.entry import INPUT, OUTPUT, Bad, NotBuilt, is_same_file
+from norigully.entry import INPUT, OUTPUT, Bad, is_same_file
 from norigully.page_table import Reports, Table
 from norigully.scene_lines import unescaped
 from norigully.words import FILES_OF_RUN, LEVELS
@@ -102,11 +102,9 @@ def failures(lines):
 class Run:
     """The run that a page is made of, in a folder of files that go in the end."""
 
-    def __init__(self, asked, folder, program_of):
+    def __init__(self, asked, folder, find):
         self.name = "replay" if asked.is_recorded else "report"
-        self.asked, self.program, self.folder = asked, program_of(self.name), folder
-        if self.program is None:
-            raise NotBuilt(f"a page needs the proved program {self.name}: ./build makes it")
+        self.asked, self.program, self.folder = asked, find(self.name), folder
         self.words = folder / "changed"
         self.lines = folder / "lines"
         self.changed = self.words / FILES_OF_RUN[0] if asked.is_recorded else self.words
@@ -213,8 +211,8 @@ def write_packed(source, file):
     file.write(base64.b64encode(held + packer.flush()))
 
 
-def main(words, program_of):
-    """Makes the page that the words ask for. A call answers where a program stands."""
+def main(words, find):
+    """Makes the page that the words ask for. A call returns the path of a program."""
     asked = asked_by(words)
     if asked is None:
         raise Bad(f"usage: page {USAGE}")
@@ -223,7 +221,7 @@ def main(words, program_of):
     with tempfile.TemporaryDirectory(prefix="norigully-") as folder:
         made = Path(folder, "page")
         with open(made, "wb") as file:
-            make(Run(asked, Path(folder), program_of), file)
+            make(Run(asked, Path(folder), find), file)
         with open(OUTPUT, "wb", closefd=False) if asked.to is None else open(asked.to, "wb") as file:
             for piece in entry.pieces_of(made):
                 entry.write(piece, file.fileno())

@@ -6,12 +6,18 @@ sums, since a built program runs where there is none; it is part of the gate's m
 proved.
 """
 
+import contextlib
 import hashlib
+import os
+import pathlib
+import tempfile
 
-from norigully import TOP
+from norigully import TOP, kept, kit
 from norigully.crate_list import lines_of, sources_of, with_those_below
 
 PROGRAMS = ("report", "follow", "replay")
+# So many are kept for other checkouts, those last used.
+MOST = 9
 
 
 def program(name, top=TOP):
@@ -49,13 +55,50 @@ def note_sources(name, sources, top=TOP):
     sum_file(name, top).write_text(sums_of(name, sources, top))
 
 
-def is_current(name, top=TOP):
+def shared():
+    """What ./build and ./test proved in any checkout of this machine."""
+    return kept.Kept(kept.folder("proved"), MOST)
+
+
+def share(name, sources):
+    """Keeps a program that was just proved for the other checkouts of this machine."""
+    shared().keep(shared_name(name, sources), program(name).read_bytes())
+    shared().shrink()
+
+
+def shared_name(name, sources):
+    return f"{name}-{kit.LOGIC}-{sources}"
+
+
+def take(name, sources, top=TOP):
+    """Puts a program of these sources in its place that another checkout proved. Whether there is one."""
+    found = shared().find(shared_name(name, sources))
+    if found is None:
+        return False
+    with contextlib.suppress(OSError):
+        put(found, program(name, top))
+        note_sources(name, sources, top)
+    return is_of(name, sources, top)
+
+
+def put(text, to, mode=0o755):
+    """Puts a program or another file in its place at once: one that runs there keeps its file."""
+    to.parent.mkdir(parents=True, exist_ok=True)
+    with tempfile.TemporaryDirectory(dir=to.parent) as made:
+        new = pathlib.Path(made) / to.name
+        new.write_bytes(text)
+        new.chmod(mode)
+        os.replace(new, to)
+
+
+def is_of(name, sources, top=TOP):
     """Whether the proved program is there, and is that of these sources."""
     if not program(name, top).is_file() or not sum_file(name, top).is_file():
         return False
-    return sum_file(name, top).read_text() == sums_of(name, sum_of_sources(name, top), top)
+    return sum_file(name, top).read_text() == sums_of(name, sources, top)
 
 
-def proved(name):
-    """Where the proved program stands, or None where it is not there or not that of these sources."""
-    return program(name) if is_current(name) else None
+def is_current(name, top=TOP):
+    """Whether the proved program of these sources is there, or another checkout of this machine has it."""
+    sources = sum_of_sources(name, top)
+    return is_of(name, sources, top) or take(name, sources, top)

@@ -19,6 +19,11 @@ class Progress:
     def __init__(self, count):
         self.count, self.done, self.began, self.telling = count, 0, time.monotonic(), threading.Lock()
 
+    def begin(self, part):
+        """Says that a part begins."""
+        with self.telling:
+            print(f"{self.minutes()}  begins: {part}", flush=True)
+
     def tell(self, part, how):
         """Says that a part is done, and how it ended."""
         with self.telling:

@@ -35,7 +35,6 @@ use Rattle.run_model.specs.declared.call.ReportCall.{ReportCall}
 use Rattle.run_model.specs.declared.call.ReportCall.TheVariants.{Event, Header, Prefix}
 use Rattle.reporter_state.specs.declared.final_output.FinalOutputEntry.{FinalOutputEntry}
 
--- the text of the test that an event finishes
 -- what a text may read of the calls before it: the prefix of the run's id, the rank of the reason, and the entries as they stand
 pub record Known : Type 0 where
   pub prefix : Option UniquePrefix

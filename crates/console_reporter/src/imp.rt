@@ -13,7 +13,7 @@ mod store;
 mod unload;
 
 pub use builder::{DisplayReporterBuilder, Surroundings};
-pub use reporter::DisplayReporter;
+pub use reporter::{ConsoleReporter, DisplayReporter};
 pub use reporter_state::decider::{OutputLoadDecider, first_refused};
 pub use reporter_state::faults::{RunFault, WriteEventError};
 pub use reporter_state::kept::one_final_order;

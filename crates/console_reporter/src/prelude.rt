@@ -10,8 +10,8 @@
 
 pub use crate::error::ReportError;
 pub use crate::imp::{
-    DisplayReporter, DisplayReporterBuilder, DisplayerKind, OutputLoadDecider, ReportCall,
-    RunFault, StoreConfig, Surroundings, WriteEventError, first_refused, run_report,
+    ConsoleReporter, DisplayReporter, DisplayReporterBuilder, DisplayerKind, OutputLoadDecider,
+    ReportCall, RunFault, StoreConfig, Surroundings, WriteEventError, first_refused, run_report,
     run_report_with_store, unload_skipped,
 };
 pub use bytes::Bytes;
@@ -20,11 +20,13 @@ pub use plain_text::write_str::{RetryInterrupted, TextBuffer, WriteStr};
 pub use run_model::abort::DescriptionText;
 pub use run_model::command::CommandLine;
 pub use run_model::config::{NextestRunMode, TestOutputDisplay};
-pub use run_model::event::{TestEvent, TestEventKind};
+pub use run_model::event::{SkipCounts, TestCounts, TestEvent, TestEventKind};
 pub use run_model::level::{CancelReason, FinalStatusLevel, StatusLevel};
 pub use run_model::memory::OutOfMemory;
-pub use run_model::name::{OwnedTestInstanceId, RustBinaryId, TestCaseName, TestInstanceId};
-pub use run_model::output::{ChildOutputDescription, ErrorChain};
+pub use run_model::name::{
+    OwnedTestInstanceId, ProfileName, RustBinaryId, TestCaseName, TestInstanceId,
+};
+pub use run_model::output::{ChildOutputDescription, ErrorChain, LiveSpec};
 pub use run_model::output_event::LoadOutput;
 pub use run_model::stats::RunStats;
 pub use run_model::status::{
@@ -32,3 +34,4 @@ pub use run_model::status::{
 };
 pub use run_model::time::Nanos;
 pub use unit_report::config::{DisplayConfig, ShowProgress};
+pub use uuid::Uuid;

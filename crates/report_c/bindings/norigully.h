@@ -52,8 +52,9 @@ typedef struct {
    the buffer stays as it was. The report is bytes, with no zero at its end.
 
    The caller owes what C cannot check: `options` points to options whose bools are 0 or 1; `scene` is not null and points to `scene_len`
-   bytes that nobody writes during the call; `out` is not null and points to `out_len` bytes that nobody else reads or writes during it,
-   and that are initialised. Neither length is above PTRDIFF_MAX. A length of 0 is allowed. */
+   bytes that nobody writes during the call; `out` is not null and points to `out_len` bytes that nobody else reads or writes during it.
+   Neither length is above PTRDIFF_MAX. A length of 0 is allowed. `options` and `scene` are read, so they must be initialised; `out` need
+   not be, since it is only written. */
 NorigullyOutcome norigully_report(const NorigullyOptions *options, const uint8_t *scene, size_t scene_len, uint8_t *out, size_t out_len);
 
 #ifdef __cplusplus

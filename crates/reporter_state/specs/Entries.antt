@@ -76,8 +76,8 @@ final_level_of_output (ExecutedWithOutput summary output) = final_level_of summa
 final_level_of_output Skipped = final.Skip
 
 -- how far it stands below all
-abbrev pub level_key : FinalOutputEntry → ℕ
-level_key e = 7 - final_rank (final_level_of_output e.output)
+abbrev pub level_key : FinalOutput → ℕ
+level_key o = 7 - final_rank (final_level_of_output o)
 
 -- the names' part of a key: the bytes of the binary's id and of the test's name
 abbrev pub instance_key : OwnedTestInstanceId → List (List ℕ)
@@ -89,7 +89,7 @@ test_key t = iteration_key t.stress_index ∷ counter_key t.counter ∷ instance
 
 -- the key of an entry: the final level, the greatest first, then the test
 abbrev pub entry_key : FinalOutputEntry → List (List ℕ)
-entry_key e = (level_key e ∷ []) ∷ test_key e.test
+entry_key e = (level_key e.output ∷ []) ∷ test_key e.test
 
 abbrev pub entry_cmp : FinalOutputEntry → FinalOutputEntry → Ordering
 entry_cmp a b = key_cmp (entry_key a) (entry_key b)

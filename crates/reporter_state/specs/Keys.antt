@@ -1,50 +1,62 @@
 -- The keys at which entries are kept, and what a map of them shows.
-use Rattle.std.specs.Prelude.{◌≡◌, ℕ, ◌<◌, None, List, map, reverse}
+use Rattle.std.specs.Prelude.{◌≡◌, ℕ, ◌<◌, None, List, [], ◌∷◌, map, reverse}
 use Rattle.std.specs.declared.cmp.Ordering.{Ordering}
 use Rattle.std.specs.declared.cmp.Reverse.{Reverse}
 use Rattle.std.specs.Ordering.{nat_cmp, on, then_cmp}
 use Rattle.std.specs.Cmp.{IsTotalOrder, then_total, on_total, nat_cmp_total}
 use Rattle.std.specs.Cmp.Lexicographic.{lists_total, nat_list_cmp_total}
 use Rattle.std.specs.List.{AllByRecursion}
-use Rattle.reporter_state.specs.Entries.{entry_key}
+use Rattle.reporter_state.specs.Entries.{level_key, test_key}
 use Rattle.reporter_state.specs.Order.{key_cmp}
+use Rattle.reporter_state.specs.declared.final_output.FinalOutput.{FinalOutput}
 use Rattle.reporter_state.specs.declared.final_output.FinalOutputEntry.{FinalOutputEntry}
 use Rattle.reporter_state.specs.declared.kept_test.KeptTest.{KeptTest}
 
--- an entry, and how many entries were kept before it
+-- how far an entry's level is below all, its test, and how many entries were kept before it
 pub record Placed : Type 0 where
-  pub entry : FinalOutputEntry
+  pub below : ℕ
+  pub test : KeptTest
   pub place : ℕ
+
+-- the final order's part of a key
+abbrev pub placed_key : Placed → List (List ℕ)
+placed_key p = (p.below ∷ []) ∷ test_key p.test
 
 -- the order of keys: the final order's, and then that in which the entries were kept
 abbrev pub placed_cmp : Placed → Placed → Ordering
-placed_cmp = then_cmp (on (λ p. entry_key p.entry) key_cmp) (on (λ p. p.place) nat_cmp)
+placed_cmp = then_cmp (on placed_key key_cmp) (on (λ p. p.place) nat_cmp)
 
 pub placed_total : IsTotalOrder placed_cmp
-placed_total = then_total (on_total (λ p. entry_key p.entry) (lists_total nat_list_cmp_total)) (on_total (λ p. p.place) nat_cmp_total)
+placed_total = then_total (on_total placed_key (lists_total nat_list_cmp_total)) (on_total (λ p. p.place) nat_cmp_total)
 
 -- neither an iteration nor a counter
 abbrev pub IsPlain : KeptTest → Type 0
 IsPlain t = (t.stress_index ≡ None) × (t.counter ≡ None)
 
--- an entry before which so many were kept
-abbrev pub placed_at : FinalOutputEntry → ℕ → Placed
-placed_at e place = record { entry = e; place = place }
-
--- a map holds its keys greatest first, and nothing beside them
+-- a map holds its keys greatest first, and at each the output of its entry
 abbrev pub Held : Type 0
-Held = Reverse Placed × Unit {0}
+Held = Reverse Placed × FinalOutput
 
 abbrev pub held_cmp : Reverse Placed → Reverse Placed → Ordering
 held_cmp k l = placed_cmp l.0 k.0
 
+-- the key of an entry, where `place` entries were kept before
+abbrev pub key_at : FinalOutputEntry → ℕ → Reverse Placed
+key_at e place = record { 0 = record { below = level_key e.output; test = e.test; place = place } }
+
+abbrev pub entry_held : Held → FinalOutputEntry
+entry_held p = record { test = p.0.0.test; output = p.1 }
+
 abbrev pub entries_of : List Held → List FinalOutputEntry
-entries_of ps = map (λ (p : Held). p.0.0.entry) ps
+entries_of ps = map entry_held ps
 
 -- it shows them from the last one on
 abbrev pub shown_of : List Held → List FinalOutputEntry
 shown_of ps = reverse (entries_of ps)
 
--- each place is one of the first so many
+-- each place is below the count, and each key has its entry's level
+abbrev pub IsPlaced : ℕ → Held → Type 0
+IsPlaced count p = (p.0.0.place < count) × (p.0.0.below ≡ level_key p.1)
+
 abbrev pub ArePlaced : ℕ → List Held → Type 0
-ArePlaced count ps = AllByRecursion (λ (p : Held). p.0.0.place < count) ps
+ArePlaced count ps = AllByRecursion (IsPlaced count) ps

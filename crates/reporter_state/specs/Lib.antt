@@ -1,6 +1,7 @@
 pub mod Effects
 pub mod Entries
 pub mod Fronts
+pub mod KeptOutputs
 pub mod KeptTests
 pub mod Keys
 pub mod Loads

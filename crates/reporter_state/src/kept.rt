@@ -9,12 +9,14 @@ ghost use Rattle.reporter_state.specs.Entries.{final_text, shown_entries, final_
 ghost use Rattle.reporter_state.specs.KeptTests.{borrowed_test};
 ghost use Rattle.reporter_state.specs.declared.final_output.FinalOutputEntry.{FinalOutputEntry};
 
+use crate::entry_key::EntryKey;
 use crate::final_output::{FinalOutput, FinalOutputEntry};
+use crate::kept_output::{KeptOutput, OutputForm};
 use crate::kept_test::KeptTest;
-use crate::placed_entry::PlacedEntry;
 use plain_text::write_str::{WriteFault, WriteStr};
 use run_model::memory::OutOfMemory;
 use run_model::status::StatusSummary;
+use run_model::time::Nanos;
 use std::alloc::Global;
 use std::cmp::Reverse;
 use std::collections::BTreeMap;
@@ -28,7 +30,7 @@ use text_parts::settings::Settings;
 #[derive(Drop)]
 pub struct KeptEntries {
     // Greatest first: a search of a map looks at the first keys first, and most runs keep entries in their order.
-    by_key: BTreeMap<Reverse<PlacedEntry>, ()>,
+    by_key: BTreeMap<Reverse<EntryKey>, KeptOutput>,
 }
 
 impl Model for KeptEntries {
@@ -60,8 +62,10 @@ impl KeptEntries {
         ensures ok { OnOk result ((kept : List FinalOutputEntry) → self.old ≡ final_order kept → self.new ≡ final_order (kept ++ entry ∷ [])) }
         ensures err { OnErr result (self.new ≡ self.old) }
     {
-        let placed = PlacedEntry::new(alloc, entry, self.by_key.len())?;
-        self.by_key.insert(Reverse(placed), ())?;
+        let FinalOutputEntry { test, output } = entry;
+        let key = EntryKey::new(alloc, test, &output, self.by_key.len())?;
+        let kept = KeptOutput::new(alloc, output)?;
+        self.by_key.insert(Reverse(key), kept)?;
         Ok(())
     }
 
@@ -69,9 +73,8 @@ impl KeptEntries {
     pub fn write<W: WriteStr>(&self, w: &mut W, settings: &Settings) -> Result<(), WriteFault>
         ensures { Puts W.meaning w.old (shown_entries settings.now self.now) result w.new }
     {
-        for (key, ()) in self.by_key.iter().rev() {
-            let FinalOutputEntry { test, output } = key.0.entry();
-            write_entry(w, settings, test, output)?;
+        for (key, output) in self.by_key.iter().rev() {
+            write_kept(w, settings, key.0.test(), output)?;
         }
         Ok(())
     }
@@ -85,7 +88,39 @@ pub fn one_final_order()
     ensures only { (kept order : List FinalOutputEntry) → IsFinalOrder kept order → order ≡ final_order kept }
 {}
 
-// Writes an entry: its line, and what the last attempt wrote where that is kept; or that the test was skipped.
+// Writes an entry.
+#[tactic(auto, unfolding(crate::specs::Entries::final_text), using(crate::proofs::lemmas::KeptTests::skip_of_kept))]
+fn write_kept<W: WriteStr>(
+    w: &mut W,
+    settings: &Settings,
+    test: &KeptTest,
+    output: &KeptOutput,
+) -> Result<(), WriteFault>
+    ensures { Puts W.meaning w.old (paint settings.now.styles (final_text settings.now (borrowed_test test.now) output.now)) result w.new }
+{
+    match &output.form {
+        OutputForm::Skipped => write_skip_line(w, settings, test.as_counted()),
+        OutputForm::Line {
+            case,
+            is_slow,
+            end,
+            retry_data,
+            nanos,
+        } => {
+            let summary = StatusSummary {
+                case: *case,
+                retry_data: *retry_data,
+                result: end.result(),
+                time_taken: Nanos(*nanos as u128),
+                is_slow: *is_slow,
+            };
+            write_line(w, settings, test, &summary)
+        }
+        OutputForm::Whole(output) => write_entry(w, settings, test, output.get()),
+    }
+}
+
+// Writes what is shown of a test: its line, and what the last attempt wrote where that is kept; or that the test was skipped.
 #[tactic(auto, unfolding(crate::specs::Entries::final_text), using(crate::proofs::lemmas::KeptTests::skip_of_kept))]
 fn write_entry<W: WriteStr>(
     w: &mut W,

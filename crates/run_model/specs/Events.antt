@@ -1,20 +1,33 @@
--- The events that most runs are made of.
-use Rattle.std.specs.Prelude.{None}
+-- The events that most runs are made of. None is of a stress run.
+use Rattle.std.specs.Prelude.{List, None, ℕ}
 use Rattle.run_model.specs.Attempts.{Attempts}
 use Rattle.run_names.specs.declared.config.TestOutputDisplay.TheVariants.{Never, Immediate}
+use Rattle.run_model.specs.declared.event.TestCounts.{TestCounts}
 use Rattle.run_model.specs.declared.event.TestEvent.{TestEvent}
-use Rattle.run_model.specs.declared.event.TestEventKind.TheVariants.{TestFinished, RunFinished}
+use Rattle.run_model.specs.declared.event.TestEventKind.TheVariants.{RunFinished, RunStarted, TestAttemptFailedWillRetry, TestFinished, TestSkipped}
 use Rattle.run_names.specs.declared.name.TestInstanceId.{TestInstanceId}
 use Rattle.run_model.specs.declared.output.ChildOutputDescription.{ChildOutputDescription}
 use Rattle.run_model.specs.declared.output.LiveSpec.{LiveSpec}
 use Rattle.run_model.specs.declared.stats.RunStats.{RunStats}
+use Rattle.run_model.specs.declared.status.ExecuteStatus.{ExecuteStatus}
 use Rattle.run_model.specs.declared.stats.RunFinishedStats.TheVariants.{Single}
 use Rattle.run_names.specs.declared.time.Nanos.{Nanos}
+
+abbrev pub run_started : Nanos → TestCounts → List ℕ → List ℕ → TestEvent
+run_started elapsed counts id profile = record { elapsed = elapsed; kind = RunStarted counts id profile }
+
+abbrev pub test_skipped : Nanos → TestInstanceId → TestEvent
+test_skipped elapsed test = record { elapsed = elapsed; kind = TestSkipped None test }
+
+-- an attempt whose output is shown at once
+abbrev pub test_attempt_failed_will_retry : Nanos → TestInstanceId → ExecuteStatus LiveSpec ChildOutputDescription → Nanos → TestEvent
+test_attempt_failed_will_retry elapsed test status delay =
+    record { elapsed = elapsed; kind = TestAttemptFailedWillRetry None test status delay Immediate }
 
 -- a test whose output is shown at once where it failed
 abbrev pub test_finished : Nanos → TestInstanceId → Attempts LiveSpec ChildOutputDescription → RunStats → TestEvent
 test_finished elapsed test statuses stats = record { elapsed = elapsed; kind = TestFinished None test Never Immediate statuses stats }
 
--- a run that is no stress run, and no rerun with tests that it has not seen
+-- a run that is no rerun with tests that it has not seen
 abbrev pub run_finished : Nanos → RunStats → TestEvent
 run_finished elapsed stats = record { elapsed = elapsed; kind = RunFinished elapsed (Single stats) None }

@@ -1,7 +1,7 @@
 //! What happens in a run.
 
 ghost use Rattle.std.specs.Prelude.{◌≡◌, IfOk};
-ghost use Rattle.run_model.specs.Events.{run_finished, test_finished};
+ghost use Rattle.run_model.specs.Events.{run_finished, run_started, test_attempt_failed_will_retry, test_finished, test_skipped};
 ghost use Rattle.run_model.specs.Recorded.{recorded_kind};
 ghost use Rattle.run_model.specs.Unloaded.{unloaded_event};
 
@@ -35,6 +35,77 @@ pub struct TestEvent<'a> {
 }
 
 impl<'a> TestEvent<'a> {
+    /// The run has started.
+    ///
+    /// ```
+    /// let test_list = TestCounts { run_count: 2, listed_binary_count: 1, skip_counts: SkipCounts::default() };
+    /// let id = uuid::Uuid::from_u128(0x4000_8000_0000_0000_0001);
+    /// let profile = run_model::name::ProfileName::new(alloc, "default")?;
+    /// let event = TestEvent::run_started(Nanos(0), test_list, id, profile);
+    /// ```
+    pub fn run_started(
+        elapsed: Nanos,
+        test_list: TestCounts,
+        run_id: Uuid,
+        profile_name: ProfileName,
+    ) -> Self
+        ensures { result ≡ run_started elapsed test_list run_id profile_name }
+    {
+        TestEvent {
+            elapsed,
+            kind: TestEventKind::RunStarted {
+                test_list,
+                run_id,
+                profile_name,
+            },
+        }
+    }
+
+    /// A test is not to run.
+    ///
+    /// ```
+    /// let event = TestEvent::test_skipped(time, test.as_ref());
+    /// assert!(matches!(event.kind, TestEventKind::TestSkipped { stress_index: None, .. }));
+    /// ```
+    pub fn test_skipped(elapsed: Nanos, test_instance: TestInstanceId<'a>) -> Self
+        ensures { result ≡ test_skipped elapsed test_instance.entry }
+    {
+        TestEvent {
+            elapsed,
+            kind: TestEventKind::TestSkipped {
+                stress_index: None,
+                test_instance,
+            },
+        }
+    }
+
+    /// An attempt of a test has failed, and after the delay another one follows. Its output is shown at once.
+    ///
+    /// ```
+    /// let retry_data = RetryData { attempt: 1, total_attempts: 2 };
+    /// let failed = ExecuteStatus::failed(101, time).with_retry_data(retry_data);
+    /// let event = TestEvent::test_attempt_failed_will_retry(time, test.as_ref(), failed, Nanos::from_secs(1));
+    /// ```
+    pub fn test_attempt_failed_will_retry(
+        elapsed: Nanos,
+        test_instance: TestInstanceId<'a>,
+        run_status: ExecuteStatus<LiveSpec>,
+        delay_before_next_attempt: Nanos,
+    ) -> Self
+        ensures { result ≡ test_attempt_failed_will_retry elapsed test_instance.entry run_status delay_before_next_attempt }
+    {
+        TestEvent {
+            elapsed,
+            kind: TestEventKind::TestAttemptFailedWillRetry {
+                stress_index: None,
+                test_instance,
+                run_status,
+                delay_before_next_attempt,
+                failure_output: TestOutputDisplay::Immediate,
+            },
+        }
+    }
+
     /// A test has finished, so long after the run began. What it wrote is shown as nextest shows it where nothing is configured: at
     /// once where the test failed, and never where it passed.
     ///

@@ -1,5 +1,6 @@
-//! Settings, skip counts and warnings.
+//! Captured output, settings, skip counts and warnings.
 
+mod child_output;
 mod config;
 mod skip_counts;
 mod warnings;

@@ -120,7 +120,8 @@ impl DisplayReporterBuilder {
     /// assert_eq!(out.as_str(), "        PASS [   0.020s] (1/1) alpha t1\n");
     /// ```
     ///
-    /// It is the one that [`DisplayReporterBuilder::build`] makes of nextest's four flags. It allocates nothing.
+    /// It is the one that [`DisplayReporterBuilder::build`] makes of nextest's four flags. It allocates nothing itself: the reporter keeps
+    /// `alloc` for the tests that the summary is going to list.
     pub fn build_for<'a, W: WriteStr>(
         self,
         alloc: Global,

@@ -54,6 +54,9 @@ pub struct DisplayReporter<'a, W, S> {
     pub(super) state: ReporterState,
 }
 
+/// A reporter without a store, which [`DisplayReporterBuilder::build_for`](super::DisplayReporterBuilder::build_for) makes.
+pub type ConsoleReporter<'a, W> = DisplayReporter<'a, W, String>;
+
 impl<'a, W: WriteStr, S: WriteStr> DisplayReporter<'a, W, S> {
     // A reporter that goes by these settings, and has made no call yet. It allocates nothing.
     pub(super) fn new(

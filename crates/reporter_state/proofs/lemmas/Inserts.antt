@@ -3,13 +3,13 @@ use Rattle.std.proofs.Common.{◌≡◌, ℕ, ◌<◌, ◌+◌, Bool, List, [], 
 use Rattle.std.specs.Cmp.Lexicographic.{nat_list_cmp_total, lists_total}
 use Rattle.std.specs.Ordering.{ordering_reverse, ordering_then}
 use Rattle.std.specs.BTreeMap.{insert_entry}
-use Rattle.std.specs.declared.cmp.Reverse.{Reverse}
 use Rattle.std.proofs.lemmas.List.{map-append, reverse-append, reverse-reverse}
 use Rattle.text_parts.specs.declared.settings.Settings.{Settings}
 use Rattle.reporter_state.specs.Entries.{shown_entries, entry_cmp, entry_key, shown_entry, final_order, is_before}
-use Rattle.reporter_state.specs.Keys.{ArePlaced, Held, Placed, entries_of, held_cmp, placed_at, shown_of}
+use Rattle.reporter_state.specs.Keys.{ArePlaced, Held, IsPlaced, entries_of, entry_held, held_cmp, key_at, shown_of}
 use Rattle.reporter_state.specs.Order.{put_in}
 use Rattle.reporter_state.specs.declared.final_output.FinalOutputEntry.{FinalOutputEntry}
+use Rattle.reporter_state.specs.declared.kept_test.KeptTest.{KeptTest}
 use Rattle.reporter_state.proofs.lemmas.Keys.{is_before-ranks}
 use Rattle.reporter_state.proofs.lemmas.Orders.{order_more, put_back, rising-ordered_by}
 
@@ -18,7 +18,7 @@ earlier n p h = grind arith
 
 placed-more : (n : ℕ) (ps : List Held) → ArePlaced n ps → ArePlaced (n + 1) ps
 placed-more n [] h = tt
-placed-more n (p ∷ ps) h = (omega (arith, h.0), placed-more n ps h.1)
+placed-more n (p ∷ ps) h = ((omega (arith, h.0.0), h.0.1), placed-more n ps h.1)
 
 -- what an insertion makes of the entries: where they are held, greater ones come first
 abbrev pub is_after : FinalOutputEntry → FinalOutputEntry → Bool
@@ -29,45 +29,46 @@ pub record Inserts (e : FinalOutputEntry) (n : ℕ) (ps qs : List Held) : Type 0
   pub placed : ArePlaced (n + 1) qs
   pub longer : length qs ≡ length ps + 1
 
-abbrev key_of : FinalOutputEntry → ℕ → Reverse Placed
-key_of e n = record { 0 = placed_at e n }
+at_last : (e : FinalOutputEntry) (n : ℕ) → IsPlaced (n + 1) (key_at e n, e.output)
+at_last e n = (omega arith, refl)
 
 -- the same by how the first of them compares to the entry
 by_first : (e : FinalOutputEntry) (n : ℕ) (p : Held) (ps : List Held) → ArePlaced (n + 1) (p ∷ ps)
-    → (c : Ordering) → entry_cmp p.0.0.entry e ≡ c → is_after p.0.0.entry e ≡ is_lt (ordering_reverse c) → held_cmp (key_of e n) p.0 ≡ ordering_then c Less
-    → Inserts e n ps (insert_entry held_cmp ps (key_of e n) tt) → Inserts e n (p ∷ ps) (insert_entry held_cmp (p ∷ ps) (key_of e n) tt)
+    → (c : Ordering) → entry_cmp (entry_held p) e ≡ c → is_after (entry_held p) e ≡ is_lt (ordering_reverse c) → held_cmp (key_at e n) p.0 ≡ ordering_then c Less
+    → Inserts e n ps (insert_entry held_cmp ps (key_at e n) e.output) → Inserts e n (p ∷ ps) (insert_entry held_cmp (p ∷ ps) (key_at e n) e.output)
 unfolding put_in
-by_first e n p ps all Less q a s more = rw s (record { held = rw a refl; placed = (omega arith, all); longer = omega arith })
-by_first e n p ps all Equal q a s more = rw s (record { held = rw a refl; placed = (omega arith, all); longer = omega arith })
-by_first e n p ps all Greater q a s more = rw s (record { held = rw a (ap (λ l. p.0.0.entry ∷ l) more.held); placed = (all.0, more.placed); longer = omega (arith, more.longer) })
+by_first e n p ps all Less q a s more = rw s (record { held = rw a refl; placed = (at_last e n, all); longer = omega arith })
+by_first e n p ps all Equal q a s more = rw s (record { held = rw a refl; placed = (at_last e n, all); longer = omega arith })
+by_first e n p ps all Greater q a s more = rw s (record { held = rw a (ap (λ l. entry_held p ∷ l) more.held); placed = (all.0, more.placed); longer = omega (arith, more.longer) })
 
-inserts : (e : FinalOutputEntry) (n : ℕ) (ps : List Held) → ArePlaced n ps → Inserts e n ps (insert_entry held_cmp ps (key_of e n) tt)
+inserts : (e : FinalOutputEntry) (n : ℕ) (ps : List Held) → ArePlaced n ps → Inserts e n ps (insert_entry held_cmp ps (key_at e n) e.output)
 unfolding put_in
-inserts e n [] all = record { held = refl; placed = (omega arith, tt); longer = refl }
-inserts e n (p ∷ ps) all = by_first e n p ps (placed-more n (p ∷ ps) all) (entry_cmp p.0.0.entry e) refl
-    (ap is_lt ((lists_total nat_list_cmp_total).antisymm (entry_key e) (entry_key p.0.0.entry)))
-    (ap (ordering_then (entry_cmp p.0.0.entry e)) (earlier n p.0.0.place all.0))
+inserts e n [] all = record { held = refl; placed = (at_last e n, tt); longer = refl }
+inserts e n (p ∷ ps) all = by_first e n p ps (placed-more n (p ∷ ps) all) (entry_cmp (entry_held p) e) refl
+    (ap is_lt ((lists_total nat_list_cmp_total).antisymm (entry_key e) (entry_key (entry_held p))))
+    (rw all.0.1 (ap (ordering_then (entry_cmp (entry_held p) e)) (earlier n p.0.0.place all.0.0)))
     (inserts e n ps all.1)
 
 module _ (e : FinalOutputEntry) (place : ℕ) (ps : List Held) (at_end : place ≡ length ps) (all : ArePlaced (length ps) ps) where
-  inserted : Inserts e place ps (insert_entry held_cmp ps (key_of e place) tt)
+  inserted : Inserts e place ps (insert_entry held_cmp ps (key_at e place) e.output)
   inserted = inserts e place ps (subst (λ n. ArePlaced n ps) (sym at_end) all)
 
   -- the entries are shown in the final order, with this one after the others
-  pub shown_more : (kept : List FinalOutputEntry) → shown_of ps ≡ final_order kept → shown_of (insert_entry held_cmp ps (key_of e place) tt) ≡ final_order (kept ++ e ∷ [])
+  pub shown_more : (kept : List FinalOutputEntry) → shown_of ps ≡ final_order kept → shown_of (insert_entry held_cmp ps (key_at e place) e.output) ≡ final_order (kept ++ e ∷ [])
   shown_more kept is =
       ap reverse (inserted.held ∙ ap (put_in is_after e) (sym (reverse-reverse (entries_of ps)) ∙ ap reverse is))
       ∙ put_back is_before is_before-ranks e (final_order kept) (rising-ordered_by is_before is_before-ranks kept)
       ∙ sym (order_more is_before is_before-ranks kept e)
 
   -- each place is one of the first, by the number of the entries
-  pub places_more : ArePlaced (length (insert_entry held_cmp ps (key_of e place) tt)) (insert_entry held_cmp ps (key_of e place) tt)
-  places_more = subst (λ n. ArePlaced n (insert_entry held_cmp ps (key_of e place) tt)) (ap (λ n. n + 1) at_end ∙ sym inserted.longer) inserted.placed
+  pub places_more : ArePlaced (length (insert_entry held_cmp ps (key_at e place) e.output)) (insert_entry held_cmp ps (key_at e place) e.output)
+  places_more = subst (λ n. ArePlaced n (insert_entry held_cmp ps (key_at e place) e.output)) (ap (λ n. n + 1) at_end ∙ sym inserted.longer) inserted.placed
 
 -- a walk from the last one on shows it first
-pub text-left : (s : Settings) (e : FinalOutputEntry) (ps qs : List Held) (p : Held) → ps ≡ qs ++ p ∷ [] → e ≡ p.0.0.entry → shown_entries s (shown_of ps) ≡ shown_entry s e ++ shown_entries s (shown_of qs)
-text-left s e ps qs p is same =
+pub text-left : (s : Settings) (t : KeptTest) (ps qs : List Held) (p : Held) → ps ≡ qs ++ p ∷ [] → t ≡ p.0.0.test →
+    shown_entries s (shown_of ps) ≡ shown_entry s (record { test = t; output = p.1 }) ++ shown_entries s (shown_of qs)
+text-left s t ps qs p is same =
     ap (λ l. shown_entries s (shown_of l)) is
-    ∙ ap (λ es. shown_entries s (reverse es)) (map-append (λ (q : Held). q.0.0.entry) qs (p ∷ []))
-    ∙ ap (shown_entries s) (reverse-append (entries_of qs) (p.0.0.entry ∷ []))
-    ∙ ap (λ f. shown_entry s f ++ shown_entries s (shown_of qs)) (sym same)
+    ∙ ap (λ es. shown_entries s (reverse es)) (map-append entry_held qs (p ∷ []))
+    ∙ ap (shown_entries s) (reverse-append (entries_of qs) (entry_held p ∷ []))
+    ∙ ap (λ (u : KeptTest). shown_entry s (record { test = u; output = p.1 }) ++ shown_entries s (shown_of qs)) (sym same)

@@ -2,12 +2,34 @@
 //! machine could keep.
 #![tactic(auto)]
 
-mod tee;
-
 use console_reporter::prelude::*;
 use std::alloc::Global;
 use std::io;
-use tee::Tee;
+
+// Hands each event to two reporters, which may be configured differently and write to different places.
+#[derive(Drop)]
+struct Tee<'a, V, W> {
+    first: ConsoleReporter<'a, V>,
+    second: ConsoleReporter<'a, W>,
+}
+
+// What each of two reporters returned.
+type Answers = (Result<(), WriteEventError>, Result<(), WriteEventError>);
+
+impl<'a, V: WriteStr, W: WriteStr> Tee<'a, V, W> {
+    // Writes the event by both: a fault of one output does not keep the other from its report.
+    fn write_event(&mut self, event: &TestEvent<'_>) -> Answers {
+        let first = self.first.write_event(event);
+        let second = self.second.write_event(event);
+        (first, second)
+    }
+
+    fn finish(&mut self) -> Answers {
+        let first = self.first.finish();
+        let second = self.second.finish();
+        (first, second)
+    }
+}
 
 fn main(rt: HostRuntime) -> Result<(), ReportError> {
     let failures = report(&rt, rt.alloc())?;

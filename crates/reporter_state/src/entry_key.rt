@@ -1,14 +1,14 @@
-//! An entry of the summary with its place among those that were kept.
+//! The keys at which the entries of the summary are kept.
 
 ghost use Rattle.std.specs.Prelude.{◌≡◌, refl, Some, IfOk};
 ghost use Rattle.std.specs.Ordering.{as_partial_cmp, eq_by_cmp, nat_cmp};
 ghost use Rattle.std.specs.Cmp.{eq_by_cmp_equiv, partial_equiv_from_equiv, partial_order_from_total};
 ghost use Rattle.std.specs.Cmp.Lexicographic.{slice_cmp};
-ghost use Rattle.reporter_state.specs.Entries.{counter_key, entry_key, iteration_key, test_key};
-ghost use Rattle.reporter_state.specs.Keys.{placed_at, placed_cmp, placed_total};
+ghost use Rattle.reporter_state.specs.Entries.{counter_key, iteration_key, level_key, test_key};
+ghost use Rattle.reporter_state.specs.Keys.{Placed, placed_cmp, placed_key, placed_total};
 ghost use Rattle.reporter_state.specs.Order.{key_cmp};
 
-use crate::final_output::FinalOutputEntry;
+use crate::final_output::FinalOutput;
 use crate::kept_test::KeptTest;
 use report_text::helpers::DisplayCounterIndex;
 use run_model::boxed::Boxed;
@@ -18,84 +18,98 @@ use std::alloc::Global;
 use std::cmp::Ordering;
 use std::marker::Model;
 
-/// An entry with its place. It is ordered by its final level, the greatest first, then by the iteration, then by the counter where
-/// one is shown, then by the bytes of the binary's id and of the test's name, and then by how many entries were kept before.
+/// The key of an entry. It is ordered by the entry's final level, the greatest first, then by the iteration, then by the counter where one
+/// is shown, then by the bytes of the binary's id and of the test's name, and then by how many entries were kept before.
 #[derive(Drop)]
-pub struct PlacedEntry {
-    // It stands apart, so that a move is cheap.
-    entry: Boxed<FinalOutputEntry>,
-    // How many entries were kept before, so that no two are equal.
-    place: usize,
-    // How far its level is below all. Most entries that are compared are of one level.
-    below: u8,
-    // Whether it has neither an iteration nor a counter, as most have.
-    is_plain: bool,
+pub struct EntryKey {
+    // They stand apart, so that a move is cheap.
+    parts: Boxed<KeyParts>,
 }
 
-impl Model for PlacedEntry {
+#[derive(Drop)]
+struct KeyParts {
+    // How far the level is below all. Most entries that are compared are of one level.
+    below: u8,
+    // Whether the test has neither an iteration nor a counter, as most have.
+    is_plain: bool,
+    // How many entries were kept before, so that no two are equal.
+    place: usize,
+    test: KeptTest,
+}
+
+impl Model for KeyParts {
     ghost use Rattle.std.specs.Prelude.{◌≡◌, true};
-    ghost use Rattle.reporter_state.specs.Entries.{level_key};
     ghost use Rattle.reporter_state.specs.Keys.{IsPlain, Placed};
 
     ghost Value = { Placed };
 
-    ghost view = { λ p. record { entry = p.entry; place = p.place } };
+    ghost view = { λ p. record { below = p.below; test = p.test; place = p.place } };
 
-    ghost invariant = { λ p. (p.below ≡ level_key p.entry) × (p.is_plain ≡ true → IsPlain p.entry.test) };
+    ghost invariant = { λ p. p.is_plain ≡ true → IsPlain p.test };
 }
 
-impl PlacedEntry {
-    /// An entry before which so many were kept. It allocates for the entry.
+impl Model for EntryKey {
+    ghost use Rattle.reporter_state.specs.Keys.{Placed};
+
+    ghost Value = { Placed };
+
+    ghost view = { λ k. k.parts };
+}
+
+impl EntryKey {
+    /// The key of a test of which this is shown, where `place` entries were kept before. It allocates for the test.
     pub fn new(
         alloc: Global,
-        entry: FinalOutputEntry,
+        test: KeptTest,
+        output: &FinalOutput,
         place: usize,
-    ) -> Result<PlacedEntry, OutOfMemory>
-        ensures { IfOk result (λ p. p ≡ placed_at entry place) }
+    ) -> Result<EntryKey, OutOfMemory>
+        ensures { IfOk result (λ k. k ≡ record { below = level_key output.now; test = test; place = place }) }
     {
-        let below = entry.output.final_status_level().below_all();
-        let is_plain = entry.test.stress_index.is_none() && entry.test.counter.is_none();
-        Ok(PlacedEntry {
-            entry: Boxed::new(alloc, entry)?,
+        let parts = KeyParts {
+            below: output.final_status_level().below_all(),
+            is_plain: test.stress_index.is_none() && test.counter.is_none(),
             place,
-            below,
-            is_plain,
+            test,
+        };
+        Ok(EntryKey {
+            parts: Boxed::new(alloc, parts)?,
         })
     }
 
-    /// The entry.
-    pub fn entry(&self) -> &FinalOutputEntry
-        ensures { result.now ≡ self.now.entry }
+    /// The test.
+    pub fn test(&self) -> &KeptTest
+        ensures { result.now ≡ self.now.test }
     {
-        self.entry.get()
+        &self.parts.get().test
     }
 }
 
-impl PartialEq for PlacedEntry {
+impl PartialEq for EntryKey {
     ghost eq = { eq_by_cmp placed_cmp };
 
     ghost laws = { partial_equiv_from_equiv (eq_by_cmp_equiv placed_total) };
 
-    fn eq(&self, other: &PlacedEntry) -> bool {
+    fn eq(&self, other: &EntryKey) -> bool {
         self.cmp(other).is_eq()
     }
 }
 
-impl Eq for PlacedEntry {
+impl Eq for EntryKey {
     ghost laws = { eq_by_cmp_equiv placed_total };
 }
 
-impl PartialOrd for PlacedEntry {
+impl PartialOrd for EntryKey {
     ghost partial_cmp = { as_partial_cmp placed_cmp };
 
     ghost laws = { partial_order_from_total placed_total };
 
-    fn partial_cmp(&self, other: &PlacedEntry) -> Option<Ordering> {
+    fn partial_cmp(&self, other: &EntryKey) -> Option<Ordering> {
         Some(self.cmp(other))
     }
 }
 
-impl Ord for PlacedEntry {
+impl Ord for EntryKey {
     ghost cmp = { placed_cmp };
 
     ghost total = { placed_total };
@@ -104,23 +118,23 @@ impl Ord for PlacedEntry {
 
     ghost matches_eq = { λ x y. refl };
 
-    fn cmp(&self, other: &PlacedEntry) -> Ordering {
-        compare_order(self, other).then_with(|| self.place.cmp(&other.place))
+    fn cmp(&self, other: &EntryKey) -> Ordering {
+        let (left, right) = (self.parts.get(), other.parts.get());
+        compare_order(left, right).then_with(|| left.place.cmp(&right.place))
     }
 }
 
 // Compares as the final order does, which does not look at places.
-fn compare_order(left: &PlacedEntry, right: &PlacedEntry) -> Ordering
-    ensures { result ≡ key_cmp (entry_key left.now.entry) (entry_key right.now.entry) }
+fn compare_order(left: &KeyParts, right: &KeyParts) -> Ordering
+    ensures { result ≡ key_cmp (placed_key left.now) (placed_key right.now) }
 {
     if left.below != right.below {
         return left.below.cmp(&right.below);
     }
-    let (left_test, right_test) = (&left.entry.get().test, &right.entry.get().test);
     if left.is_plain && right.is_plain {
-        return left_test.instance.compare(&right_test.instance);
+        return left.test.instance.compare(&right.test.instance);
     }
-    compare_tests(left_test, right_test)
+    compare_tests(&left.test, &right.test)
 }
 
 // Compares the iterations, then the counters, then the bytes of the binaries' ids and of the tests' names.

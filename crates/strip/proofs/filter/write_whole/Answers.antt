@@ -1,5 +1,0 @@
-use Rattle.plain_text.proofs.lemmas.Flushes.{puts_flushed}
-use Rattle.strip.proofs.filter.write_whole.Goals as goal
-
-pub returns-clause-text : goal.returns-clause-text
-returns-clause-text g c = puts_flushed g.met.W.WriteStr.laws _ _ _ _ _ c.in_ok-write_str.ensures c.write_str_flush.ensures.text

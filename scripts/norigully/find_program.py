@@ -1,0 +1,63 @@
+"""The program that ./run and scripts/page start: the proved one of these sources, or else one without a proof, which is
+built once (unproved_program.py)."""
+
+import sys
+import threading
+import time
+
+from norigully import kit, unproved_program
+from norigully.entry import NOT_BUILT
+from norigully.front import fault
+from norigully.programs import is_of, program, sum_of_sources, take
+
+# How often the line of a build is shown anew on a terminal, and how long a build takes, in seconds.
+TICK, BUILD = 1.0, 60
+
+
+class Told:
+    """Says that a program is built without its proof. On a terminal it shows the seconds, and the line goes in the
+    end."""
+
+    def __init__(self, called, name):
+        self.line = f"{called}: building {name} without its proof, once for these sources"
+        self.ended, self.teller = threading.Event(), threading.Thread(target=self.tell, daemon=True)
+
+    def tell(self):
+        began, is_ended = time.monotonic(), False
+        while not is_ended:
+            seconds = int(time.monotonic() - began)
+            print(f"\r{self.line}: {seconds} of some {BUILD} s ", end="", file=sys.stderr, flush=True)
+            is_ended = self.ended.wait(TICK)
+        print("\r\033[K", end="", file=sys.stderr, flush=True)
+
+    def __enter__(self):
+        if sys.stderr.isatty():
+            self.teller.start()
+        else:
+            print(f"{self.line}, in some {BUILD} s", file=sys.stderr, flush=True)
+
+    def __exit__(self, *_):
+        self.ended.set()
+        if self.teller.is_alive():
+            self.teller.join()
+
+
+def build(called, name):
+    """Has the kit build the program without its proof. A signal that ends this ends what the kit began."""
+    kit.require(called)
+    try:
+        with Told(called, name):
+            return unproved_program.build(name)
+    except unproved_program.NotBuilt as error:
+        sys.stderr.write(str(error))
+    except OSError as error:
+        print(f"{called}: {error}", file=sys.stderr)
+    fault(called, "the program was not built", NOT_BUILT)
+
+
+def find(called, name):
+    """The path of the program. It ends this where there is none and none can be built."""
+    sources = sum_of_sources(name)
+    if is_of(name, sources) or take(name, sources):
+        return program(name)
+    return unproved_program.find(name, sources) or build(called, name)
