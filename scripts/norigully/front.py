@@ -59,10 +59,13 @@ def looks_like(typed, name, options):
             text = os.pread(file.fileno(), 4096, file.tell()).removeprefix(codecs.BOM_UTF8).lstrip()
     except OSError:
         return None
-    for begin, kind, option, script in ((b"<", "XML", "--junit", "junit"), (b"{", "JSON", "--libtest", "libtest-json")):
+    for begin, what, option, script in (
+        (b"<", "this is XML", "--junit", "junit"),
+        (b"{", "this is JSON", "--libtest", "libtest-json"),
+    ):
         if text.startswith(begin):
             maker = f"scripts/scene-of-{script} makes a scene of it" if typed == "./run" else f"{typed} {option} reports it"
-            return f"this is {kind}: {maker}"
+            return f"{what}: {maker}"
     line = next((it for it in text.split(b"\n") if it and not it.startswith(b"#")), b"")
     if line.endswith(b"\r"):
         return "its lines end with CR LF, and those of a scene with LF"
