@@ -186,12 +186,11 @@ def write_page(title, packed, file):
     script, style = f"\n{part('page.js')}", f"\n{part('page.css')}"
     policy = f"default-src 'none'; script-src {own_source(script)}; style-src {own_source(style)}; worker-src blob:"
     policy += "; img-src data:; base-uri 'none'; form-action 'none'"
-    parts = {"POLICY": policy, "TITLE": html.escape(title), "STYLE": style, "WORKER": f"\n{part('worker.js')}"}
+    parts = {"POLICY": policy, "TITLE": html.escape(entry.encoded(title).decode(errors="replace")), "STYLE": style, "WORKER": f"\n{part('worker.js')}"}
     before, data, behind = part("page.html").partition("<!--DATA-->\n")
     for name, text in {**parts, "SCRIPT": script}.items():
         before, behind = (it.replace(f"<!--{name}-->", text) for it in (before, behind))
-    # A title may be no UTF-8.
-    file.write(before.encode(errors="replace"))
+    file.write(before.encode())
     for name, source in packed.items():
         file.write(f'<script type="text/plain" id="{name}">'.encode())
         write_packed(source, file)

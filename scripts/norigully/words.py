@@ -2,7 +2,6 @@
 the programs' own."""
 
 import os
-import re
 from dataclasses import dataclass, field
 
 FLAGS = ("--color", "--counter", "--replay", "--unload", "--store-success", "--store-failure")
@@ -52,7 +51,7 @@ class Options:
 def options_of(program, words):
     """Reads the words of a program; None where they are used wrongly. The rules are those of the program, which takes
     words that are UTF-8 alone; `--no-color` is a word of ./run."""
-    if any(re.search("[\ud800-\udfff]", word) for word in words):
+    if not is_utf8(words):
         return None
     options, at = Options(program), 0
     while at < len(words):
@@ -80,10 +79,18 @@ def options_of(program, words):
     return options
 
 
+def is_utf8(words):
+    """Whether words are UTF-8, whatever Python takes them for in this locale."""
+    try:
+        return os.fsencode("".join(words)).decode() is not None
+    except UnicodeError:
+        return False
+
+
 def why_wrong(program, words):
     """Why words are used wrongly, or None where they are not."""
     given, at, file = set(), 0, None
-    if re.search("[\ud800-\udfff]", "".join(words)):
+    if not is_utf8(words):
         return "a word that is not UTF-8"
     while at < len(words):
         word, more = words[at], words[at + 1 :]
