@@ -165,7 +165,8 @@ def started(command, **how):
     try:
         child = subprocess.Popen(command, start_new_session=True, **how)
     except OSError as error:
-        raise NotBuilt(f"cannot run {command[0]}: {error.strerror}") from error
+        # The file that is missing, or the folder where it is to run.
+        raise NotBuilt(f"cannot run {os.fsdecode(error.filename or command[0])}: {error.strerror}") from error
     with child:
         try:
             yield child

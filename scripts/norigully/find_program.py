@@ -6,7 +6,7 @@ import threading
 import time
 
 from norigully import kit, unproved_program
-from norigully.entry import NOT_BUILT
+from norigully.entry import NOT_BUILT, NotBuilt
 from norigully.front import fault
 from norigully.programs import is_of, program, sum_of_sources, take
 
@@ -50,7 +50,7 @@ def build(called, name):
             return unproved_program.build(name)
     except unproved_program.NotBuilt as error:
         sys.stderr.write(str(error))
-    except OSError as error:
+    except (NotBuilt, OSError) as error:
         print(f"{called}: {error}", file=sys.stderr)
     fault(called, "the program was not built", NOT_BUILT)
 
