@@ -1,4 +1,5 @@
 pub mod Calls
+pub mod Earlier
 pub mod Exactness
 pub mod Independence
 pub mod Isolation

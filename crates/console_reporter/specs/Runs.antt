@@ -39,15 +39,17 @@ pub record Runs {W S : Type 0} (m : Meaning W) (n : Meaning S) (config : Configu
   pub store_delivered : OnOk result (n.is_delivered new.1)
   pub accepted : OnOk result (AreAccepted config calls)
   pub no_failure : OnOk result (m.failures new.0 ≡ m.failures old.0)
-  -- the calls before a position were made, and that at it, or past the last one the end of the report, was stopped
+  -- the calls before a position were made and delivered, and that at it, or past the last one the end of the report, was stopped
   pub position : IfErr result (λ stop. stop.position ≤ length calls)
   pub err : IfErr result (λ stop. (mid : W) × m.accepts old.0 (report config (past_at calls stop.position)) mid
-      × Stops Report m mid (text_at config calls stop.position) stop.fault new.0)
+      × Stops Report m mid (text_at config calls stop.position) stop.fault new.0
+      × (m.is_delivered old.0 → n.is_delivered old.1 → m.is_delivered mid))
   pub store_err : IfErr result (λ stop. (mid : S) × n.accepts old.1 (stored_by config.store (past_at calls stop.position)) mid
-      × Stops Records n mid (stored_at config.store calls stop.position) stop.fault new.1)
-  -- no byte of a record was accepted before the whole text of its call
+      × Stops Records n mid (stored_at config.store calls stop.position) stop.fault new.1
+      × (m.is_delivered old.0 → n.is_delivered old.1 → n.is_delivered mid))
+  -- no byte of a record was accepted before the whole text of its call was delivered
   pub text_first : IfErr result (λ stop. n.accepts old.1 (stored_by config.store (past_at calls stop.position)) new.1
-      ⊎ m.accepts old.0 (report config (past_at calls stop.position) ++ text_at config calls stop.position) new.0)
+      ⊎ (m.accepts old.0 (report config (past_at calls stop.position) ++ text_at config calls stop.position) new.0 × m.is_delivered new.0))
   -- a refusal is of the first call that is not accepted
   pub accepted_before : IfErr result (λ stop. AreAccepted config (take stop.position calls))
   pub refused : IfErr result (λ stop. refusal_at config calls stop.position ≡ refusal_in stop.fault)

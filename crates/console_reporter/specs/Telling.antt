@@ -71,11 +71,11 @@ module _ {W S : Type 0} (m : Meaning W) (n : Meaning S) where
     pub stored : (config : Configuration) (past : List ReportCall) → StandsAfter config past old → (store_meaning n).accepts old.store (kept_text config call) new.store
     pub stands : (config : Configuration) (past : List ReportCall) → StandsAfter config past old → StandsAfter config (past_with call past) new
 
-  -- the error stopped the call, and no byte of its record was accepted before its whole text
+  -- the error stopped the call, and no byte of its record was accepted before its whole text was delivered
   pub record Breaks (old : DisplayReporter W S) (call : Option ReportCall) (e : WriteEventError) (new : DisplayReporter W S) : Type 0 where
     pub stopped : (config : Configuration) (past : List ReportCall) → StandsAfter config past old → Stops Report m old.writer.now (told_text config past call) e new.writer.now
     pub store_stopped : (config : Configuration) (past : List ReportCall) → StandsAfter config past old → Stops Records (store_meaning n) old.store (kept_text config call) e new.store
-    pub order : (config : Configuration) (past : List ReportCall) → StandsAfter config past old → (new.store ≡ old.store) ⊎ m.accepts old.writer.now (told_text config past call) new.writer.now
+    pub order : (config : Configuration) (past : List ReportCall) → StandsAfter config past old → (new.store ≡ old.store) ⊎ (m.accepts old.writer.now (told_text config past call) new.writer.now × m.is_delivered new.writer.now)
     pub io : e ≡ Io → m.failures new.writer.now ≡ successor (m.failures old.writer.now)
     pub store_io : e ≡ StoreIo → (store_meaning n).failures new.store ≡ successor ((store_meaning n).failures old.store)
     pub memory : e ≡ Memory → m.may_refuse old.writer.now ⊎ MayGrowFor old call ⊎ (store_meaning n).may_refuse old.store

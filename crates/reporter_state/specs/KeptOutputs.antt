@@ -1,23 +1,33 @@
 -- What the summary shows of a test, from its short form.
-use Rattle.std.specs.Prelude.{false}
+use Rattle.std.specs.Prelude.{Bool, ℕ, ℤ, pos, false, if◌then◌else◌}
+use Rattle.std.specs.Ordering.{int_eq}
 use Rattle.run_model.specs.declared.status.ExecutionResultDescription.{ExecutionResultDescription}
 use Rattle.run_model.specs.declared.status.ExecutionResultDescription.TheVariants as outcome
 use Rattle.run_model.specs.declared.status.FailureDescription.TheVariants as failure
+use Rattle.run_model.specs.declared.status.RetryData.{RetryData}
+use Rattle.run_model.specs.declared.status.StatusCase.{StatusCase}
+use Rattle.run_model.specs.declared.status.StatusSummary.{StatusSummary}
 use Rattle.reporter_state.specs.declared.final_output.FinalOutput.{FinalOutput}
 use Rattle.reporter_state.specs.declared.final_output.FinalOutput.TheVariants as output
 use Rattle.reporter_state.specs.declared.kept_output.OutputForm.{OutputForm}
-use Rattle.reporter_state.specs.declared.kept_output.OutputForm.TheVariants.{Skipped, Line, Whole}
-use Rattle.reporter_state.specs.declared.kept_output.ShortEnd.{ShortEnd}
-use Rattle.reporter_state.specs.declared.kept_output.ShortEnd.TheVariants.{Pass, ExitCode}
+use Rattle.reporter_state.specs.declared.kept_output.OutputForm.TheVariants.{Skipped, Line, LineWithOutput, Whole}
+use Rattle.reporter_state.specs.declared.kept_output.ShortSummary.{ShortSummary}
 
--- how the last attempt ended
-abbrev pub ended_by : ShortEnd → ExecutionResultDescription
-ended_by Pass = outcome.Pass
-ended_by (ExitCode code) = outcome.Fail (failure.ExitCode code) false
+-- how an attempt ended, by the code of its process, or 0 where it passed
+abbrev pub ended_by : ℤ → ExecutionResultDescription
+ended_by code = if int_eq code (pos 0) then outcome.Pass else outcome.Fail (failure.ExitCode code) false
+
+-- what the attempts came to
+abbrev pub summary_of_line : ShortSummary → StatusSummary
+summary_of_line l = record { case = l.case; retry_data = l.retry_data; result = ended_by l.exit_code; time_taken = record { 0 = l.nanos }; is_slow = l.is_slow }
+
+-- a line by its fields
+abbrev line_of : StatusCase → Bool → ℤ → RetryData → ℕ → ShortSummary
+line_of case slow code retry nanos = record { nanos = nanos; retry_data = retry; exit_code = code; case = case; is_slow = slow }
 
 -- what is shown
-abbrev pub output_of : OutputForm → FinalOutput
-output_of Skipped = output.Skipped
-output_of (Line case is_slow end retry_data nanos) =
-    output.Executed (record { case = case; retry_data = retry_data; result = ended_by end; time_taken = record { 0 = nanos }; is_slow = is_slow })
-output_of (Whole shown) = shown
+abbrev pub final_output_of : OutputForm → FinalOutput
+final_output_of Skipped = output.Skipped
+final_output_of (Line case slow code retry nanos) = output.Executed (summary_of_line (line_of case slow code retry nanos))
+final_output_of (LineWithOutput case slow code retry nanos written) = output.ExecutedWithOutput (summary_of_line (line_of case slow code retry nanos)) written
+final_output_of (Whole shown) = shown

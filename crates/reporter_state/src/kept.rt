@@ -7,16 +7,17 @@ ghost use Rattle.test_text.specs.declared.status_line.StatusLineKind.{StatusLine
 ghost use Rattle.report_words.specs.Parts.{paint};
 ghost use Rattle.reporter_state.specs.Entries.{final_text, shown_entries, final_order, IsFinalOrder};
 ghost use Rattle.reporter_state.specs.KeptTests.{borrowed_test};
+ghost use Rattle.reporter_state.specs.declared.final_output.FinalOutput.TheVariants.{ExecutedWithOutput};
 ghost use Rattle.reporter_state.specs.declared.final_output.FinalOutputEntry.{FinalOutputEntry};
 
 use crate::entry_key::EntryKey;
 use crate::final_output::{FinalOutput, FinalOutputEntry};
-use crate::kept_output::{KeptOutput, OutputForm};
+use crate::kept_output::{KeptOutput, OutputForm, ShortSummary};
 use crate::kept_test::KeptTest;
+use crate::loaded_output::LoadedOutput;
 use plain_text::write_str::{WriteFault, WriteStr};
 use run_model::memory::OutOfMemory;
 use run_model::status::StatusSummary;
-use run_model::time::Nanos;
 use std::alloc::Global;
 use std::cmp::Reverse;
 use std::collections::BTreeMap;
@@ -103,18 +104,35 @@ fn write_kept<W: WriteStr>(
         OutputForm::Line {
             case,
             is_slow,
-            end,
+            exit_code,
             retry_data,
             nanos,
         } => {
-            let summary = StatusSummary {
-                case: *case,
+            let line = ShortSummary {
+                nanos: *nanos,
                 retry_data: *retry_data,
-                result: end.result(),
-                time_taken: Nanos(*nanos as u128),
+                exit_code: *exit_code,
+                case: *case,
                 is_slow: *is_slow,
             };
-            write_line(w, settings, test, &summary)
+            write_line(w, settings, test, &line.summary())
+        }
+        OutputForm::LineWithOutput {
+            case,
+            is_slow,
+            exit_code,
+            retry_data,
+            nanos,
+            output,
+        } => {
+            let line = ShortSummary {
+                nanos: *nanos,
+                retry_data: *retry_data,
+                exit_code: *exit_code,
+                case: *case,
+                is_slow: *is_slow,
+            };
+            write_line_with_output(w, settings, test, &line.summary(), output)
         }
         OutputForm::Whole(output) => write_entry(w, settings, test, output.get()),
     }
@@ -133,11 +151,25 @@ fn write_entry<W: WriteStr>(
     match output {
         FinalOutput::Executed { summary } => write_line(w, settings, test, summary),
         FinalOutput::ExecutedWithOutput { summary, output } => {
-            write_line(w, settings, test, summary)?;
-            write_test_execute_status(w, settings, false, &summary.result, output.get())
+            write_line_with_output(w, settings, test, summary, output)
         }
         FinalOutput::Skipped => write_skip_line(w, settings, test.as_counted()),
     }
+}
+
+// Writes the line of a test that was run, and what its last attempt wrote.
+#[tactic(auto, unfolding(crate::specs::Entries::final_text))]
+fn write_line_with_output<W: WriteStr>(
+    w: &mut W,
+    settings: &Settings,
+    test: &KeptTest,
+    summary: &StatusSummary,
+    output: &LoadedOutput,
+) -> Result<(), WriteFault>
+    ensures { Puts W.meaning w.old (paint settings.now.styles (final_text settings.now (borrowed_test test.now) (ExecutedWithOutput summary.now output.now))) result w.new }
+{
+    write_line(w, settings, test, summary)?;
+    write_test_execute_status(w, settings, false, &summary.result, output.get())
 }
 
 // Writes the line of a test that was run.

@@ -1,10 +1,11 @@
-//! A short form of what the summary shows of a test: an ordered map moves its values, and most entries are a line alone.
+//! A short form of what the summary shows of a test: an ordered map moves its values, and most lines take few bytes.
 
 ghost use Rattle.std.specs.Prelude.{◌≡◌, IfOk, IfSome};
-ghost use Rattle.reporter_state.specs.KeptOutputs.{ended_by, output_of};
-ghost use Rattle.reporter_state.specs.declared.final_output.FinalOutput.TheVariants.{Executed};
+ghost use Rattle.reporter_state.specs.KeptOutputs.{ended_by, final_output_of, summary_of_line};
+ghost use Rattle.reporter_state.specs.declared.final_output.FinalOutput.TheVariants.{Executed, ExecutedWithOutput};
 
 use crate::final_output::FinalOutput;
+use crate::loaded_output::LoadedOutput;
 use run_model::boxed::Boxed;
 use run_model::memory::OutOfMemory;
 use run_model::status::{
@@ -20,47 +21,54 @@ pub struct KeptOutput {
     pub form: OutputForm,
 }
 
-/// The forms.
+/// The forms. A line has the fields of a `ShortSummary`: within a form they take fewer bytes than that does.
 #[derive(Drop)]
 pub enum OutputForm {
     /// The test was not to run.
     Skipped,
-    /// It was run, and its line is shown alone, as most are.
+    /// It was run, and its line is shown alone.
     Line {
-        /// What its attempts came to.
         case: StatusCase,
-        /// Whether the last one was marked as slow.
         is_slow: bool,
-        /// How it ended.
-        end: ShortEnd,
-        /// Which one it was.
+        exit_code: i32,
         retry_data: RetryData,
-        /// How many nanoseconds it ran.
         nanos: u64,
     },
-    /// It is shown with its output, or its line takes more bytes.
+    /// Its line is shown with what its last attempt wrote.
+    LineWithOutput {
+        case: StatusCase,
+        is_slow: bool,
+        exit_code: i32,
+        retry_data: RetryData,
+        nanos: u64,
+        output: LoadedOutput,
+    },
+    /// Its line takes more bytes.
     Whole(Boxed<FinalOutput>),
 }
 
-/// How an attempt ended, where it takes few bytes to say so.
+/// What the attempts of a test came to, where the last one passed or its process ended with a code.
 #[derive(Clone, Copy)]
-pub enum ShortEnd {
-    /// It passed.
-    Pass,
-    /// Its process ended with a code other than 0.
-    ExitCode {
-        /// The code.
-        code: i32,
-    },
+pub struct ShortSummary {
+    /// How many nanoseconds the last attempt ran.
+    pub nanos: u64,
+    /// Which one it was.
+    pub retry_data: RetryData,
+    /// The code with which its process ended, or 0 where it passed.
+    pub exit_code: i32,
+    /// What the attempts came to.
+    pub case: StatusCase,
+    /// Whether the last one was marked as slow.
+    pub is_slow: bool,
 }
 
 impl Model for KeptOutput {
-    ghost use Rattle.reporter_state.specs.KeptOutputs.{output_of};
+    ghost use Rattle.reporter_state.specs.KeptOutputs.{final_output_of};
     ghost use Rattle.reporter_state.specs.declared.final_output.FinalOutput.{FinalOutput};
 
     ghost Value = { FinalOutput };
 
-    ghost view = { λ k. output_of k.form };
+    ghost view = { λ k. final_output_of k.form };
 }
 
 impl KeptOutput {
@@ -68,65 +76,110 @@ impl KeptOutput {
     pub fn new(alloc: Global, output: FinalOutput) -> Result<KeptOutput, OutOfMemory>
         ensures { IfOk result (λ k. k ≡ output) }
     {
-        let form = match short_form(&output) {
-            Some(form) => form,
-            None => OutputForm::Whole(Boxed::new(alloc, output)?),
+        let form = match output {
+            FinalOutput::Skipped => OutputForm::Skipped,
+            FinalOutput::Executed { summary } => line_alone(alloc, summary)?,
+            FinalOutput::ExecutedWithOutput { summary, output } => {
+                line_with_output(alloc, summary, output)?
+            }
         };
         Ok(KeptOutput { form })
     }
 }
 
-impl ShortEnd {
-    /// How it ended.
-    pub fn result(self) -> ExecutionResultDescription
-        ensures { result ≡ ended_by self }
+// A line that is shown alone.
+fn line_alone(alloc: Global, summary: StatusSummary) -> Result<OutputForm, OutOfMemory>
+    ensures { IfOk result (λ form. final_output_of form ≡ Executed summary) }
+{
+    match ShortSummary::of(&summary) {
+        Some(line) => Ok(OutputForm::Line {
+            case: line.case,
+            is_slow: line.is_slow,
+            exit_code: line.exit_code,
+            retry_data: line.retry_data,
+            nanos: line.nanos,
+        }),
+        None => Ok(OutputForm::Whole(Boxed::new(alloc, FinalOutput::Executed { summary })?)),
+    }
+}
+
+// A line that is shown with output.
+fn line_with_output(
+    alloc: Global,
+    summary: StatusSummary,
+    output: LoadedOutput,
+) -> Result<OutputForm, OutOfMemory>
+    ensures { IfOk result (λ form. final_output_of form ≡ ExecutedWithOutput summary output) }
+{
+    match ShortSummary::of(&summary) {
+        Some(line) => Ok(OutputForm::LineWithOutput {
+            case: line.case,
+            is_slow: line.is_slow,
+            exit_code: line.exit_code,
+            retry_data: line.retry_data,
+            nanos: line.nanos,
+            output,
+        }),
+        None => Ok(OutputForm::Whole(Boxed::new(
+            alloc,
+            FinalOutput::ExecutedWithOutput { summary, output },
+        )?)),
+    }
+}
+
+impl ShortSummary {
+    // The short form of what the attempts came to, where there is one.
+    fn of(summary: &StatusSummary) -> Option<ShortSummary>
+        ensures { IfSome result (λ line. summary_of_line line ≡ summary.now) }
     {
-        match self {
-            ShortEnd::Pass => ExecutionResultDescription::Pass,
-            ShortEnd::ExitCode { code } => ExecutionResultDescription::Fail {
-                failure: FailureDescription::ExitCode { code },
-                leaked: false,
-            },
+        let exit_code = exit_code_of(&summary.result)?;
+        let nanos = u64::try_from(summary.time_taken.0).ok()?;
+        Some(ShortSummary {
+            nanos,
+            retry_data: summary.retry_data,
+            exit_code,
+            case: summary.case,
+            is_slow: summary.is_slow,
+        })
+    }
+
+    /// What the attempts came to.
+    pub fn summary(&self) -> StatusSummary
+        ensures { result ≡ summary_of_line self.now }
+    {
+        StatusSummary {
+            case: self.case,
+            retry_data: self.retry_data,
+            result: ended_by(self.exit_code),
+            time_taken: Nanos(self.nanos as u128),
+            is_slow: self.is_slow,
         }
     }
 }
 
-// The short form of what is shown, where it has one.
-fn short_form(output: &FinalOutput) -> Option<OutputForm>
-    ensures { IfSome result (λ form. output_of form ≡ output.now) }
+// How an attempt ended, by the code of its process, or 0 where it passed.
+fn ended_by(exit_code: i32) -> ExecutionResultDescription
+    ensures { result ≡ ended_by exit_code }
 {
-    match output {
-        FinalOutput::Skipped => Some(OutputForm::Skipped),
-        FinalOutput::Executed { summary } => short_line(summary),
-        FinalOutput::ExecutedWithOutput { .. } => None,
+    if exit_code == 0 {
+        return ExecutionResultDescription::Pass;
+    }
+    ExecutionResultDescription::Fail {
+        failure: FailureDescription::ExitCode { code: exit_code },
+        leaked: false,
     }
 }
 
-// The short form of a line, where it has one.
-fn short_line(summary: &StatusSummary) -> Option<OutputForm>
-    ensures { IfSome result (λ form. output_of form ≡ Executed summary.now) }
-{
-    let end = short_end(&summary.result)?;
-    let nanos = u64::try_from(summary.time_taken.0).ok()?;
-    Some(OutputForm::Line {
-        case: summary.case,
-        is_slow: summary.is_slow,
-        end,
-        retry_data: summary.retry_data,
-        nanos,
-    })
-}
-
-// How an attempt ended that did so, if that takes few bytes to say.
-fn short_end(outcome: &ExecutionResultDescription) -> Option<ShortEnd>
-    ensures { IfSome result (λ end. ended_by end ≡ outcome.now) }
+// The code that tells how an attempt ended, where there is one.
+fn exit_code_of(outcome: &ExecutionResultDescription) -> Option<i32>
+    ensures { IfSome result (λ code. ended_by code ≡ outcome.now) }
 {
     match outcome {
-        ExecutionResultDescription::Pass => Some(ShortEnd::Pass),
+        ExecutionResultDescription::Pass => Some(0),
         ExecutionResultDescription::Fail {
             failure: FailureDescription::ExitCode { code },
             leaked: false,
-        } => Some(ShortEnd::ExitCode { code: *code }),
+        } if *code != 0 => Some(*code),
         _ => None,
     }
 }

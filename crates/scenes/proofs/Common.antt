@@ -40,7 +40,7 @@ pub use Rattle.scenes.specs.Follow.{Followed, KeepsUp, StopsBy}
 pub use Rattle.scenes.specs.Judged.{ChecksEvent, IsSceneRefused, Refuses}
 pub use Rattle.scenes.specs.Outcomes.{outcome_after}
 pub use Rattle.scenes.specs.ParsedScenes.{scene_lines}
-pub use Rattle.scenes.specs.Prints.{AreWhole, Begins, HasBeginning, HasFirstCalls, OfCalls, Prints, PrintsFollowed, Reported, device}
+pub use Rattle.scenes.specs.Prints.{AreWhole, Begins, HasAtLeast, HasAtMost, HasBeginning, HasFirstCalls, OfCalls, Prints, PrintsFollowed, Reported, StandAtOneCall, device}
 pub use Rattle.scenes.specs.Read.{AreLeft, AreLeftOf, AtLine, HasReadLines, IsMore}
 pub use Rattle.scenes.specs.Reports.{AreCallsOf, configuration_for, fault_at_call, report_of, store_for, stored_of, AreReadyCallsOf, decider_for, unloaded_for}
 pub use Rattle.scenes.specs.SceneReporter.{Follows, StopsAtEvent, writers}

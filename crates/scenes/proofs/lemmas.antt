@@ -1,5 +1,6 @@
 pub mod Devices
 pub mod FollowedRuns
+pub mod NothingStored
 pub mod PlainReports
 pub mod Prints
 pub mod ReadLines

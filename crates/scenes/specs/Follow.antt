@@ -27,14 +27,14 @@ pub record IsWrongLine (options : Options) (run : ParsedLines) (lines : List Run
   pub is : fault ≡ Line number f
   pub wrong : (line_value (lines_before run) t ≡ Err f) ⊎ ((event : SceneEvent) × (line_value (lines_before run) t ≡ Ok (EventLine event)) × RefusesEvent options run.config event f)
 
--- Where a fault stops lines that are followed: P holds of the lines before a line that is wrong, and of those before the reader failed; Q
--- of those that were begun, and of the fault, where a device failed or memory was refused.
+-- Where a fault stops lines that are followed: P holds of the lines before a line that is wrong, and of those before the file of the options
+-- could not be read; Q of those that were begun, and of the fault, where a device failed or memory was refused.
 pub record StopsBy (options : Options) (all : List RunLine) (P : ParsedLines → Type 0) (Q : ParsedLines → Fault → Type 0) (fault : Fault) : Type 0 where
   pub run : ParsedLines
   pub lines : List RunLine
   pub number : ℕ
   pub at : AtLine all run lines number
-  pub holds : (P run × (IsWrongLine options run lines number fault ⊎ ((file : Bor (List ℕ)) × (fault ≡ CannotRead file)))) ⊎ Q run fault
+  pub holds : (P run × (IsWrongLine options run lines number fault ⊎ ((file : Bor (List ℕ)) × (fault ≡ CannotRead file) × (file.now ≡ options.file.now)))) ⊎ Q run fault
 
 -- How lines that are followed end: all were reported, the run stands so, and IsDone holds of it; or a fault stopped them.
 abbrev pub Followed : {W T : Type 0} → Meaning W → Meaning T → Options → List RunLine → W × T → W × T → (ParsedLines → Type 0) → Result RunOutcome Fault → Type 0

@@ -1,10 +1,11 @@
 -- What two writers have of the report of a run and of what is stored of it: all of both, or a beginning of each.
-use Rattle.std.specs.Prelude.{◌≡◌, ◌⊎◌, ℕ, List, ◌++◌, true, reverse, Option, None, Result, IfErr, OnOk, ⊤}
+use Rattle.std.specs.Prelude.{◌≡◌, ◌≤◌, ◌⊎◌, ℕ, List, ◌++◌, true, length, reverse, Option, None, Result, IfErr, OnOk, ⊤}
 use Rattle.std.specs.Io.KnownBytes.{Appends}
 use Rattle.std.specs.List.{AllZip}
 use Rattle.std.specs.Option.{is_some}
 use Rattle.plain_text.specs.Texts.{Text}
 use Rattle.plain_text.specs.Writer.{AppendsFront, Meaning}
+use Rattle.plain_text.specs.declared.write_str.WriteFault.{WriteFault}
 use Rattle.plain_text.specs.declared.write_str.WriteFault.TheVariants.{Device, Memory}
 use Rattle.console_reporter.specs.Outcomes.{HasFront}
 use Rattle.reporter_state.specs.Refusals.{first_refused}
@@ -40,10 +41,38 @@ pub record HasFirstCalls {S : Type 0} (m : Meaning S) (texts : List ReportCall �
   pub delivered : m.is_delivered new
 
 -- What a writer has of these calls at a fault, which may be of its own device or of the other's: of all their texts a beginning, since its
--- device failed, or memory was refused, or the fault was another's; and at a fault of the other's device the whole texts of the first calls.
+-- device failed, or memory was refused, or the fault was another's. A fault of its own device has its cause: that device failed. At a fault of
+-- the other's device it has the whole texts of the first calls.
 pub record HasBeginning {S : Type 0} (m : Meaning S) (texts : List ReportCall → Text) (OfOwn OfOther : Type 0) (calls : List ReportCall) (old new : S) : Type 0 where
   pub begun : (OfOwn × m.stops old (texts calls) Device new) ⊎ m.stops old (texts calls) Memory new ⊎ HasFront m old (texts calls) new
+  pub own : OfOwn → m.stops old (texts calls) Device new
   pub whole : OfOther → HasFirstCalls m texts calls old new
+
+-- a writer was given this text whole, and delivered it, and may have more
+pub record HasAtLeast {S : Type 0} (m : Meaning S) (old : S) (text : Text) (new : S) : Type 0 where
+  pub mid : S
+  pub accepted : m.accepts old text mid
+  pub delivered : m.is_delivered mid
+  pub more : Text
+  pub goes_on : m.accepts mid more new ⊎ ((e : WriteFault) × m.stops mid more e new)
+
+-- it has this text or a beginning of it, and no more
+abbrev pub HasAtMost : {S : Type 0} → Meaning S → S → Text → S → Type 0
+HasAtMost m old text new = HasFront m old text new ⊎ ((e : WriteFault) × m.stops old text e new)
+
+-- At a fault both writers stand at the same one of these calls, or past the last. Each has the texts, or the records, of the calls before it
+-- whole, and no more than those of it too. Of its record there is no byte before its whole text was delivered.
+pub record StandAtOneCall {W T : Type 0} (m : Meaning W) (k : Meaning T) (texts records : List ReportCall → Text) (calls : List ReportCall) (old new : W × T) : Type 0 where
+  pub before : List ReportCall
+  pub here : List ReportCall
+  pub rest : List ReportCall
+  pub is : calls ≡ before ++ (here ++ rest)
+  pub one : length here ≤ 1
+  pub printed : HasAtLeast m old.0 (texts before) new.0
+  pub no_more_printed : HasAtMost m old.0 (texts (before ++ here)) new.0
+  pub kept : HasAtLeast k old.1 (records before) new.1
+  pub no_more_kept : HasAtMost k old.1 (records (before ++ here)) new.1
+  pub text_first : HasAtMost k old.1 (records before) new.1 ⊎ HasAtLeast m old.0 (texts (before ++ here)) new.0
 
 -- a report stops by a fault of its device, of the store's where there is one, or for want of memory
 abbrev pub IsStop : Options → Fault → Type 0
@@ -72,11 +101,12 @@ module _ {W T : Type 0} (m : Meaning W) (k : Meaning T) (options : Options) (old
   abbrev pub PrintsFollowed : RunOutcome → ParsedLines → Type 0
   PrintsFollowed come_to run = OfCalls options run (λ calls. AreWhole run.config calls × (come_to ≡ run_outcome (reverse calls)))
 
-  -- this fault stopped these calls, and each has a beginning
+  -- this fault stopped these calls, and each has a beginning: with a store, both up to the same call
   abbrev pub AreBegun : SceneConfig → Fault → List ReportCall → Type 0
   AreBegun config fault calls = IsStop options fault
       × HasBeginning m (report_of options config) (fault ≡ WriteFailed) (fault ≡ StoreFailed) calls old.0 new.0
       × HasBeginning k (stored_of options) (fault ≡ StoreFailed) (fault ≡ WriteFailed) calls old.1 new.1
+      × (is_some (store_for options) ≡ true → StandAtOneCall m k (report_of options config) (stored_of options) calls old new)
 
   -- it stopped the report of the run
   abbrev pub Begins : ParsedLines → Fault → Type 0

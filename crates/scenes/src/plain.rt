@@ -17,7 +17,7 @@ use console_reporter::imp::{
     run_report_with_store,
 };
 use console_reporter::write_str::TextBuffer;
-use std::alloc::Global;
+use std::alloc::{AllocError, Global};
 use std::io::Write;
 
 /// The fault of the line of the first call of a scene that its reporter refuses.
@@ -33,38 +33,41 @@ pub(crate) fn refused_call(
     Some(fault_at_call(scene.line_of(place), error))
 }
 
-/// Writes the report of calls of a scene to a device, without records. None of them may be refused.
-pub(crate) fn write_calls<W: Write + Drop>(
+/// Writes the report of calls of a scene to a device, without records, and gives the device back. None of them may be refused.
+pub(crate) fn write_calls<W: Write>(
     alloc: Global,
     options: &Options<'_>,
     scene: &Scene,
     calls: &[ReportCall<'_>],
     writer: W,
-) -> Result<(), Fault<'static>>
+) -> (Result<(), Fault<'static>>, W)
     requires no_store { store_for options.now ≡ None }
     requires accepted { first_refused (decider_for options.now scene.now.config) calls.now ≡ None }
-    ensures ok { OnOk result ((last : W) × ((held : Option (List ℕ)) → AreWhole device device options.now (W.contents writer, held) (W.contents last, held) scene.now.config calls.now)) }
-    ensures err { IfErr result (λ fault. (last : W) × ((held : Option (List ℕ)) → AreBegun device device options.now (W.contents writer, held) (W.contents last, held) scene.now.config fault calls.now)) }
+    ensures ok { OnOk result.0 ((held : Option (List ℕ)) → AreWhole device device options.now (W.contents writer, held) (W.contents result.1, held) scene.now.config calls.now) }
+    ensures err { IfErr result.0 (λ fault. (held : Option (List ℕ)) → AreBegun device device options.now (W.contents writer, held) (W.contents result.1, held) scene.now.config fault calls.now) }
 {
     let Ok(builder) = builder_of(alloc, options, &scene.config) else {
-        return Err(Fault::OutOfMemory);
+        return (Err(Fault::OutOfMemory), writer);
     };
     let mut out = match TextBuffer::new(alloc, writer) {
         Ok(out) => out,
-        Err(_refused) => return Err(Fault::OutOfMemory),
+        Err((AllocError, writer)) => return (Err(Fault::OutOfMemory), writer),
     };
     let unicode = scene.config.use_unicode;
     let empty = scene.config.display_empty_outputs;
-    match run_report(
+    let ran = run_report(
         alloc, builder, &mut out, unicode, false, false, empty, calls,
-    ) {
-        Ok(()) => Ok(()),
-        Err(stop) => Err(fault_of_stop(scene, stop)),
+    );
+    let (writer, _pending) = out.into_inner();
+    match ran {
+        Ok(()) => (Ok(()), writer),
+        Err(stop) => (Err(fault_of_stop(scene, stop)), writer),
     }
 }
 
-/// Writes the report of calls of a scene to a device, and their records to a second one. None of them may be refused.
-pub(crate) fn write_calls_and_records<W: Write + Drop, S: Write + Drop>(
+/// Writes the report of calls of a scene to a device, and their records to a second one, and gives both devices back. None of the calls may
+/// be refused.
+pub(crate) fn write_calls_and_records<W: Write, S: Write>(
     alloc: Global,
     options: &Options<'_>,
     scene: &Scene,
@@ -72,26 +75,29 @@ pub(crate) fn write_calls_and_records<W: Write + Drop, S: Write + Drop>(
     writer: W,
     store_writer: S,
     store: StoreConfig,
-) -> Result<(), Fault<'static>>
+) -> (Result<(), Fault<'static>>, W, S)
     requires store { store_for options.now ≡ Some store }
     requires accepted { first_refused (decider_for options.now scene.now.config) calls.now ≡ None }
-    ensures ok { OnOk result ((last : W) × (store_last : S) × AreWhole device device options.now (W.contents writer, S.contents store_writer) (W.contents last, S.contents store_last) scene.now.config calls.now) }
-    ensures err { IfErr result (λ fault. (last : W) × (store_last : S) × AreBegun device device options.now (W.contents writer, S.contents store_writer) (W.contents last, S.contents store_last) scene.now.config fault calls.now) }
+    ensures ok { OnOk result.0 (AreWhole device device options.now (W.contents writer, S.contents store_writer) (W.contents result.1, S.contents result.2) scene.now.config calls.now) }
+    ensures err { IfErr result.0 (λ fault. AreBegun device device options.now (W.contents writer, S.contents store_writer) (W.contents result.1, S.contents result.2) scene.now.config fault calls.now) }
 {
     let Ok(builder) = builder_of(alloc, options, &scene.config) else {
-        return Err(Fault::OutOfMemory);
+        return (Err(Fault::OutOfMemory), writer, store_writer);
     };
     let mut out = match TextBuffer::new(alloc, writer) {
         Ok(out) => out,
-        Err(_refused) => return Err(Fault::OutOfMemory),
+        Err((AllocError, writer)) => return (Err(Fault::OutOfMemory), writer, store_writer),
     };
     let mut records = match TextBuffer::new(alloc, store_writer) {
         Ok(records) => records,
-        Err(_refused) => return Err(Fault::OutOfMemory),
+        Err((AllocError, store_writer)) => {
+            let (writer, _pending) = out.into_inner();
+            return (Err(Fault::OutOfMemory), writer, store_writer);
+        }
     };
     let unicode = scene.config.use_unicode;
     let empty = scene.config.display_empty_outputs;
-    match run_report_with_store(
+    let ran = run_report_with_store(
         alloc,
         builder,
         &mut out,
@@ -102,9 +108,12 @@ pub(crate) fn write_calls_and_records<W: Write + Drop, S: Write + Drop>(
         false,
         empty,
         calls,
-    ) {
-        Ok(()) => Ok(()),
-        Err(stop) => Err(fault_of_stop(scene, stop)),
+    );
+    let (writer, _pending) = out.into_inner();
+    let (store_writer, _unstored) = records.into_inner();
+    match ran {
+        Ok(()) => (Ok(()), writer, store_writer),
+        Err(stop) => (Err(fault_of_stop(scene, stop)), writer, store_writer),
     }
 }
 

@@ -8,7 +8,9 @@ ghost use Rattle.command_line.specs.declared.fault.Fault.{Fault};
 ghost use Rattle.command_line.specs.Faults.{IsJudgeFault};
 ghost use Rattle.console_reporter.specs.OptionalStore.{IsSameStore, config_of, store_delivered, store_meaning};
 ghost use Rattle.scenes.specs.Judged.{IsJudged, IsRefusedText, IsRejected, IsSceneAccepted, IsSceneRefused, ChecksEvent};
-ghost use Rattle.scenes.specs.Prints.{Begins, Prints, Reported, device};
+ghost use Rattle.plain_text.specs.Texts.{Text};
+ghost use Rattle.run_model.specs.declared.call.ReportCall.{ReportCall};
+ghost use Rattle.scenes.specs.Prints.{Begins, Prints, Reported, StandAtOneCall, device};
 ghost use Rattle.scenes.specs.Reports.{store_for};
 ghost use Rattle.scene_text.specs.SceneTexts.{AllRead, event_lines, no_lines, text_lines, text_read};
 ghost use Rattle.scenes.specs.ParsedScenes.{IsReadFault, IsSceneRead, OfText, scene_lines};
@@ -187,8 +189,7 @@ pub fn report_scene<'a, R: Read + Drop, W: Write, S: Write>(
 }
 
 /// Writes the report of a scene to a device, and its records to a second one, if the options ask for them: the plain way, by the calls of
-/// the scene. Of these the first that is refused is asked for, and a scene that has one leaves the devices as they were; else `run_report`
-/// writes their report. [`report_accepted`] promises the same, holds one call at a time, and gives the devices back.
+/// the scene. It keeps both devices. [`report_by_calls`] does the same and gives them back, so that its clauses can speak of them.
 pub fn write_report<W: Write + Drop, S: Write + Drop>(
     alloc: Global,
     options: &Options<'_>,
@@ -200,14 +201,46 @@ pub fn write_report<W: Write + Drop, S: Write + Drop>(
     ensures err { IfErr result (λ fault. IsSceneRefused options.now scene.now fault
         ⊎ ((last : W) × (store_last : S) × Begins device device options.now (W.contents writer, S.contents store_writer) (W.contents last, S.contents store_last) (scene_lines scene.now) fault)) }
 {
-    let all = scene.calls(alloc, options)?;
+    let (outcome, _writer, _store_writer) = report_by_calls(
+        alloc,
+        options,
+        scene,
+        writer,
+        store_writer,
+    );
+    outcome
+}
+
+/// Writes the report of a scene to a device, and its records to a second one, if the options ask for them, and gives both devices back.
+/// All calls of the scene are made, and the first that is refused is asked for. A scene that has one leaves the devices as they were; else
+/// `run_report` writes their report. [`report_accepted`] promises the same, and holds one call at a time.
+pub fn report_by_calls<W: Write, S: Write>(
+    alloc: Global,
+    options: &Options<'_>,
+    scene: &Scene,
+    writer: W,
+    store_writer: S,
+) -> (Result<(), Fault<'static>>, W, S)
+    ensures ok { OnOk result.0 (Prints device device options.now (W.contents writer, S.contents store_writer) (W.contents result.1, S.contents result.2) (scene_lines scene.now)) }
+    ensures err { IfErr result.0 (λ fault. (IsSceneRefused options.now scene.now fault × (result.1 ≡ writer) × (result.2 ≡ store_writer))
+        ⊎ Begins device device options.now (W.contents writer, S.contents store_writer) (W.contents result.1, S.contents result.2) (scene_lines scene.now) fault) }
+    ensures no_store { options.now.store ≡ None → result.2 ≡ store_writer }
+{
+    let all = match scene.calls(alloc, options) {
+        Ok(all) => all,
+        Err(fault) => return (Err(fault), writer, store_writer),
+    };
     let calls = all.as_slice();
-    let decider = decider_of(alloc, options, &scene.config)?;
+    let decider = match decider_of(alloc, options, &scene.config) {
+        Ok(decider) => decider,
+        Err(fault) => return (Err(fault), writer, store_writer),
+    };
     if let Some(fault) = refused_call(&decider, scene, calls) {
-        return Err(fault);
+        return (Err(fault), writer, store_writer);
     }
     let Some(store) = options.store else {
-        return write_calls(alloc, options, scene, calls, writer);
+        let (outcome, writer) = write_calls(alloc, options, scene, calls, writer);
+        return (outcome, writer, store_writer);
     };
     write_calls_and_records(
         alloc,
@@ -219,6 +252,13 @@ pub fn write_report<W: Write + Drop, S: Write + Drop>(
         store.config,
     )
 }
+
+/// What [`report_accepted`] and `follow_source` promise of two devices where a fault stops a report with records: the records come after
+/// the texts. So where nothing came of the report nothing came of the records, if calls without a text have no record.
+pub fn records_come_after_texts()
+    ensures { (texts records : List ReportCall → Text) (calls : List ReportCall) (stored : List ℕ) → ((first : List ReportCall) → texts first ≡ [] → records first ≡ [])
+        → StandAtOneCall device device texts records calls (Some [], Some []) (Some [], Some stored) → stored ≡ [] }
+{}
 
 /// Writes the report of an accepted scene to a device, and its records to a second one where the options ask for them, and gives
 /// both devices back. Without records the text goes to its device when 8,192 bytes are gathered and at the end; with records it goes

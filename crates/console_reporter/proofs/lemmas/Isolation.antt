@@ -221,7 +221,7 @@ all-accepted : (d : OutputLoadDecider) (calls : List ReportCall) → AreAccepted
 all-accepted d [] h = tt
 all-accepted d (call ∷ calls) h = (same-call-refusal d call ∙ h.0, all-accepted d calls h.1)
 
-map_reverse : {X Y : Type 0} (f : X → Y) (xs : List X) → map f (reverse xs) ≡ reverse (map f xs)
+pub map_reverse : {X Y : Type 0} (f : X → Y) (xs : List X) → map f (reverse xs) ≡ reverse (map f xs)
 map_reverse f [] = refl
 map_reverse f (x ∷ xs) =
     ap (map f) (reverse-append (x ∷ []) xs) ∙ map-append f (reverse xs) (x ∷ []) ∙ ap (λ ys. ys ++ f x ∷ []) (map_reverse f xs)

@@ -70,8 +70,8 @@ module _ {W S : Type 0} {m : Meaning W} {n : Meaning S} (laws : WriterLaws m) (s
     abbrev here : Text
     here = text_at config calls stop.position
 
-    run_stopped : (mid : W) × m.accepts old.writer.now before mid × Stops Report m mid here stop.fault new.writer.now
-    run_stopped = (h.0.writer.now, h.1.accepted config stands, h.2.err.stopped config _ (h.1.stands config stands))
+    run_stopped : (mid : W) × m.accepts old.writer.now before mid × Stops Report m mid here stop.fault new.writer.now × (AreDelivered m n old → m.is_delivered mid)
+    run_stopped = (h.0.writer.now, h.1.accepted config stands, h.2.err.stopped config _ (h.1.stands config stands), λ held. (h.3 held).writer)
 
     run_failed : stop.fault ≡ Io → m.failures new.writer.now ≡ successor (m.failures old.writer.now)
     run_failed = let s = run_stopped in stopped_device Report laws old.writer.now s.0 new.writer.now before here stop.fault s.1 s.2
@@ -89,10 +89,10 @@ module _ {W S : Type 0} {m : Meaning W} {n : Meaning S} (laws : WriterLaws m) (s
     records_stopped : Stops Records (store_meaning n) h.0.store stored_here stop.fault new.store
     records_stopped = h.2.err.store_stopped config _ (h.1.stands config stands)
 
-    text_first : store_accepts n old.store stored_before new.store ⊎ m.accepts old.writer.now (before ++ here) new.writer.now
+    text_first : store_accepts n old.store stored_before new.store ⊎ (m.accepts old.writer.now (before ++ here) new.writer.now × m.is_delivered new.writer.now)
     text_first = elim (h.2.err.order config _ (h.1.stands config stands)) [
       | inl same ↦ inl (subst (λ s. store_accepts n old.store stored_before s) (sym same) (h.1.stored config stands))
-      | inr told ↦ inr (laws.joins _ _ _ _ _ (h.1.accepted config stands) told)
+      | inr told ↦ inr (laws.joins _ _ _ _ _ (h.1.accepted config stands) told.0, told.1)
     ]
 
     memory : stop.fault ≡ Memory → m.may_refuse old.writer.now ⊎ MayGrowAt config calls stop.position ⊎ store_may_refuse n old.store
@@ -116,17 +116,28 @@ module _ {W S : Type 0} {m : Meaning W} {n : Meaning S} (laws : WriterLaws m) (s
     records_delivered_there {a} {b} old_is new_is w r is =
         subst (store_meaning n).is_delivered new_is (records_delivered (record { writer = w; store = subst (store_meaning n).is_delivered (sym old_is) r }) is)
 
-    records_there : {a b : Store S} → old.store ≡ Some a → new.store ≡ Some b → (mid : S) × n.accepts a.writer.now stored_before mid × Stops Records n mid stored_here stop.fault b.writer.now
+    records_there : {a b : Store S} → old.store ≡ Some a → new.store ≡ Some b → (mid : S) × n.accepts a.writer.now stored_before mid × Stops Records n mid stored_here stop.fault b.writer.now × (AreDelivered m n old → n.is_delivered mid)
     records_there {a} {b} old_is new_is =
         stopped_there n a b h.0.store stored_before stored_here stop.fault
         (subst (λ x. store_accepts n x stored_before h.0.store) old_is (h.1.stored config stands))
         (subst (λ x. Stops Records (store_meaning n) h.0.store stored_here stop.fault x) new_is records_stopped)
+        (AreDelivered m n old) (λ held. (h.3 held).store)
 
     records_failed : {a b : Store S} → old.store ≡ Some a → new.store ≡ Some b → stop.fault ≡ StoreIo → n.failures b.writer.now ≡ successor (n.failures a.writer.now)
     records_failed {a} {b} old_is new_is = let s = records_there old_is new_is in stopped_device Records store_laws a.writer.now s.0 b.writer.now stored_before stored_here stop.fault s.1 s.2
 
-    text_first_there : {a b : Store S} → old.store ≡ Some a → new.store ≡ Some b → n.accepts a.writer.now stored_before b.writer.now ⊎ m.accepts old.writer.now (before ++ here) new.writer.now
+    text_first_there : {a b : Store S} → old.store ≡ Some a → new.store ≡ Some b → n.accepts a.writer.now stored_before b.writer.now ⊎ (m.accepts old.writer.now (before ++ here) new.writer.now × m.is_delivered new.writer.now)
     text_first_there old_is new_is = let s = text_first in rw (old_is, new_is) at s
+
+    -- what the two writers had delivered where the calls before were made
+    report_held : {a : Store S} → old.store ≡ Some a → (mid : W) × m.accepts old.writer.now before mid × Stops Report m mid here stop.fault new.writer.now × (m.is_delivered old.writer.now → n.is_delivered a.writer.now → m.is_delivered mid)
+    report_held old_is = let s = run_stopped in (s.0, s.1, s.2, λ w r. s.3 (record { writer = w; store = subst (store_meaning n).is_delivered (sym old_is) r }))
+
+    records_held : {a b : Store S} → old.store ≡ Some a → new.store ≡ Some b → (mid : S) × n.accepts a.writer.now stored_before mid × Stops Records n mid stored_here stop.fault b.writer.now × (m.is_delivered old.writer.now → n.is_delivered a.writer.now → n.is_delivered mid)
+    records_held old_is new_is = let s = records_there old_is new_is in (s.0, s.1, s.2, λ w r. s.3 (record { writer = w; store = subst (store_meaning n).is_delivered (sym old_is) r }))
+
+    report_held_alone : old.store ≡ None → (mid : W) × m.accepts old.writer.now before mid × Stops Report m mid here stop.fault new.writer.now × (m.is_delivered old.writer.now → Unit {0} → m.is_delivered mid)
+    report_held_alone none = let s = run_stopped in (s.0, s.1, s.2, λ w r. s.3 (record { writer = w; store = subst (store_meaning n).is_delivered (sym none) tt }))
 
     memory_there : {a : Store S} → old.store ≡ Some a → stop.fault ≡ Memory → m.may_refuse old.writer.now ⊎ MayGrowAt config calls stop.position ⊎ n.may_refuse a.writer.now
     memory_there old_is is = let s = memory is in rw old_is at s
@@ -176,8 +187,8 @@ module _ {W S : Type 0} {m : Meaning W} {n : Meaning S} (laws : WriterLaws m) (s
         accepted = ok_here config old stands (λ config. AreAccepted config calls) result accepted;
         no_failure = on_ok_weaker _ (λ h. (laws.kept _ _ _ h).0) told;
         position = position;
-        err = IfErr-weaker _ _ _ (run_stopped laws store_laws config calls stands) stopped;
-        store_err = IfErr-weaker _ _ _ (λ stop h. records_there laws store_laws config calls stands stop h old_is new_is) stopped;
+        err = IfErr-weaker _ _ _ (λ stop h. report_held laws store_laws config calls stands stop h old_is) stopped;
+        store_err = IfErr-weaker _ _ _ (λ stop h. records_held laws store_laws config calls stands stop h old_is new_is) stopped;
         text_first = IfErr-weaker _ _ _ (λ stop h. text_first_there laws store_laws config calls stands stop h old_is new_is) stopped;
         accepted_before = err_here config old stands (λ config stop. AreAccepted config (take stop.position calls)) result accepted_before;
         refused = IfErr-weaker _ _ _ (run_refusal laws store_laws config calls stands) stopped;
@@ -206,8 +217,8 @@ module _ {W S : Type 0} {m : Meaning W} {n : Meaning S} (laws : WriterLaws m) (s
         accepted = ok_here config old stands (λ config. AreAccepted config calls) result accepted;
         no_failure = on_ok_weaker _ (λ h. (laws.kept _ _ _ h).0) told;
         position = position;
-        err = IfErr-weaker _ _ _ (run_stopped laws store_laws config calls stands) stopped;
-        store_err = IfErr-weaker _ _ (λ (stop : RunFault). (mid : Unit {0}) × Unit {0} × Stops Records absent mid (stored_at config.store calls stop.position) stop.fault tt) (λ stop h. (tt, tt, absent_stops stop.fault _ (run_known laws store_laws config calls stands stop h) (no_store_fails laws store_laws config calls stands stop h none))) stopped;
+        err = IfErr-weaker _ _ _ (λ stop h. report_held_alone laws store_laws config calls stands stop h none) stopped;
+        store_err = IfErr-weaker _ _ (λ (stop : RunFault). (mid : Unit {0}) × Unit {0} × Stops Records absent mid (stored_at config.store calls stop.position) stop.fault tt × (m.is_delivered old.writer.now → Unit {0} → Unit {0})) (λ stop h. (tt, tt, absent_stops stop.fault _ (run_known laws store_laws config calls stands stop h) (no_store_fails laws store_laws config calls stands stop h none), λ w r. tt)) stopped;
         text_first = IfErr-weaker _ _ _ (λ stop h. inl tt) stopped;
         accepted_before = err_here config old stands (λ config stop. AreAccepted config (take stop.position calls)) result accepted_before;
         refused = IfErr-weaker _ _ _ (run_refusal laws store_laws config calls stands) stopped;

@@ -14,7 +14,7 @@ use Rattle.run_names.specs.Levels.{reason_rank}
 use Rattle.reporter_state.specs.declared.faults.WriteEventError.{WriteEventError}
 use Rattle.reporter_state.specs.declared.faults.WriteEventError.TheVariants.{RetriedSuccess, OutputNotLoaded, Io, Memory, Failed, StoreIo}
 use Rattle.plain_text.specs.declared.write_str.WriteFault.{WriteFault}
-use Rattle.console_reporter.specs.OptionalStore.{IsSameStore, config_of, store_accepts, store_adds, store_failures, store_known, store_may_refuse, store_meaning, store_stops}
+use Rattle.console_reporter.specs.OptionalStore.{IsSameStore, config_of, store_accepts, store_adds, store_delivered, store_failures, store_known, store_may_refuse, store_meaning, store_stops}
 use Rattle.console_reporter.specs.declared.imp.store.Store.{Store}
 
 pub same-store : {S : Type 0} (a : Option (Store S)) → IsSameStore a a
@@ -121,10 +121,10 @@ module _ {S : Type 0} (m : Meaning S) where
   stops_there a b t Memory (inr h) = inr (record { front = h.front; rest = h.rest; whole = h.whole; accepted = h.accepted })
   stops_there a b t Failed h = h
 
-  pub stopped_there : (a b : Store S) (mid : Option (Store S)) (t u : List ℕ) (e : WriteEventError) → store_accepts m (Some a) t mid → Stops Records (store_meaning m) mid u e (Some b)
-      → (there : S) × m.accepts a.writer.now t there × Stops Records m there u e b.writer.now
-  stopped_there a b None t u e before stopped = absurd before
-  stopped_there a b (Some x) t u e before stopped = (x.writer.now, before, stops_there x b u e stopped)
+  pub stopped_there : (a b : Store S) (mid : Option (Store S)) (t u : List ℕ) (e : WriteEventError) → store_accepts m (Some a) t mid → Stops Records (store_meaning m) mid u e (Some b) → (Held : Type 0) → (Held → store_delivered m mid)
+      → (there : S) × m.accepts a.writer.now t there × Stops Records m there u e b.writer.now × (Held → m.is_delivered there)
+  stopped_there a b None t u e before stopped Held delivered = absurd before
+  stopped_there a b (Some x) t u e before stopped Held delivered = (x.writer.now, before, stops_there x b u e stopped, delivered)
 
   -- where there is no store, none fails
   pub absent_stop : (mid : Option (Store S)) (t u : List ℕ) (new : Option (Store S)) → store_accepts m None t mid → Stops Records (store_meaning m) mid u StoreIo new → ⊥

@@ -25,9 +25,9 @@ pub fn texts_make_the_report()
 /// Makes the calls in order on a reporter of its own, ends the report, and stops at the first fault. What that promises is one record, `Runs`
 /// in specs/Runs.antt.
 ///
-/// On `Ok` the writer has accepted the report of the calls and delivered it. On an error at position `i` it has accepted the report of the
-/// calls before `i` and a prefix of the text of call `i`. A refusal is of the first call that is not accepted, and nothing of that call was
-/// written.
+/// On `Ok` the writer has accepted the report of the calls and delivered it. On an error at position `i` it has accepted and delivered the
+/// report of the calls before `i`, if it held nothing back before, and accepted a prefix of the text of call `i`. A refusal is of the first
+/// call that is not accepted, and nothing of that call was written.
 ///
 /// ```
 /// run_report(alloc, builder, &mut out, true, false, false, false, &calls)?;
@@ -69,7 +69,8 @@ pub fn run_report<W: WriteStr>(
 ///
 /// It promises what [`run_report`] does. On `Ok` the second writer has accepted the records of the calls and delivered them; on an error at
 /// position `i` those of the calls before `i` and a prefix of the record of call `i`. No byte of that record was written before the whole
-/// text of its call: after `StoreIo` the first writer has that text, after `Io` the second has the records of the calls before and no more.
+/// text of its call was delivered: after `StoreIo` the first writer has that text, after `Io` the second has the records of the calls before
+/// and no more.
 ///
 /// No record is held in memory. `Memory` comes of either writer, or where the call's test is kept for the summary or a prefix is
 /// copied.

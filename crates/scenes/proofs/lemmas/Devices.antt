@@ -1,13 +1,14 @@
 -- What devices hold of a report that was written to buffers (for `report_accepted`, `follow_source`).
-use Rattle.std.proofs.Common.{◌≡◌, ℕ, List, [], ◌∷◌, ◌++◌, reverse, Option, None, Some, Result, Ok, Err, IfErr, OnOk, refl, sym, ap, ◌∙◌, subst, append-nil, inl, inr}
+use Rattle.std.proofs.Common.{◌≡◌, ◌⊎◌, ℕ, List, [], ◌∷◌, ◌++◌, reverse, Option, None, Some, Result, Ok, Err, IfErr, OnOk, refl, sym, ap, ◌∙◌, subst, append-nil, inl, inr}
 use Rattle.std.specs.Io.KnownBytes.{Appends, append_known}
-use Rattle.scenes.proofs.Common.{Appends-nil, AreWhole, Begins, buffer_meaning, BufferAccepts, DeliversRest, device, Event, false≢true, Fault, HasBeginning, Header, is_some, IsSameStore, Meaning, Options, ParsedLines, Prefix, report_of, ReportCall, Reported, SceneConfig, Store, store_for, store_meaning, stored, stored_of, StoreFailed, Text, TextBuffer, WriteFailed}
+use Rattle.scenes.proofs.Common.{Appends-nil, AreWhole, Begins, buffer_meaning, BufferAccepts, DeliversRest, device, Event, false≢true, Fault, HasAtLeast, HasAtMost, HasBeginning, Header, is_some, IsSameStore, Meaning, Options, ParsedLines, Prefix, report_of, ReportCall, Reported, SceneConfig, StandAtOneCall, Store, store_for, store_meaning, stored, stored_of, StoreFailed, Text, TextBuffer, WriteFailed}
 use Rattle.plain_text.specs.TextBuffer.{BufferStops, buffer_laws, GrowsWithin, Holds}
 use Rattle.plain_text.specs.Writer.{AppendsFront}
+use Rattle.plain_text.specs.declared.write_str.WriteFault.{WriteFault}
 use Rattle.plain_text.specs.declared.write_str.WriteFault.TheVariants.{Device, Memory}
 use Rattle.plain_text.proofs.lemmas.Deliveries.{accepted_delivers, begins_of, stopped_begins}
 use Rattle.scenes.specs.Deferred.{deferred_meaning}
-use Rattle.scenes.specs.Prints.{IsStop}
+use Rattle.scenes.specs.Prints.{AreBegun, IsStop}
 use Rattle.scenes.specs.declared.deferred.Deferred.{Deferred}
 use Rattle.scenes.proofs.lemmas.Prints.{Begun, calls_so, memory_no_store, write_no_store}
 
@@ -35,11 +36,33 @@ module _ {W : Type 0} (contents : W → Option (List ℕ)) (a b : TextBuffer W) 
   begun_here F t (inr (inr h)) = known_front (contents a.writer) (contents b.writer) t h.accepted.holds (λ xs ys before after.
       begins_of xs a.pending ys b.pending t none (record { front = h.front; rest = h.rest; whole = h.whole; delivers = accepted_delivers contents a b xs ys h.front before after h.accepted }))
 
+  stops_here : (e : WriteFault) (t : Text) → BufferStops contents a t e b → AppendsFront (contents a.writer) (contents b.writer) t
+  stops_here e t h = known_front (contents a.writer) (contents b.writer) t h.holds (λ xs ys before after. stopped_begins contents a b xs ys t before after _ none h)
+
   pub beginning_here : (texts : List ReportCall → Text) (F G : Type 0) (calls : List ReportCall) → HasBeginning (buffer_meaning contents) texts F G calls a b → HasBeginning device texts F G calls (contents a.writer) (contents b.writer)
   beginning_here texts F G calls h = record {
     begun = inr (inl (begun_here F (texts calls) h.begun));
+    own = λ failed. stops_here Device (texts calls) (h.own failed);
     whole = λ other. let w = h.whole other in record { first = w.first; rest = w.rest; is = w.is; accepted = whole_here (texts w.first) w.accepted w.delivered; delivered = tt };
   }
+
+  pub most_here : (t : Text) → HasAtMost (buffer_meaning contents) a t b → HasAtMost device (contents a.writer) t (contents b.writer)
+  most_here t (inl f) = inr (Device, begun_here (Unit {0}) t (inr (inr f)))
+  most_here t (inr s) = inr (Device, stops_here s.0 t s.1)
+
+-- and at least what it has delivered
+goes_here : {W : Type 0} (contents : W → Option (List ℕ)) (mid b : TextBuffer W) → mid.pending ≡ [] → (t : Text) → BufferAccepts contents mid t b ⊎ ((e : WriteFault) × BufferStops contents mid t e b) → AppendsFront (contents mid.writer) (contents b.writer) t
+goes_here contents mid b none t (inl h) = begun_here contents mid b none (Unit {0}) t (inr (inr (record { front = t; rest = []; whole = sym (append-nil t); accepted = h })))
+goes_here contents mid b none t (inr s) = stops_here contents mid b none s.0 t s.1
+
+pub least_here : {W : Type 0} (contents : W → Option (List ℕ)) (a b : TextBuffer W) → a.pending ≡ [] → (t : Text) → HasAtLeast (buffer_meaning contents) a t b → HasAtLeast device (contents a.writer) t (contents b.writer)
+least_here contents a b none t h = record {
+  mid = contents h.mid.writer;
+  accepted = whole_here contents a h.mid none t h.accepted h.delivered;
+  delivered = tt;
+  more = h.more;
+  goes_on = inr (Device, goes_here contents h.mid b h.delivered h.more h.goes_on);
+}
 
 -- a store that is there has what its writer has
 begun_there : {S : Type 0} (n : Meaning S) (F : Type 0) (c d : Store S) (t : Text) → Begun (store_meaning n) F (Some c) t (Some d) → Begun n F c.writer.now t d.writer.now
@@ -50,7 +73,51 @@ begun_there n F c d t (inr (inr h)) = inr (inr (record { front = h.front; rest =
 beginning_there : {S : Type 0} (n : Meaning S) (c d : Store S) (texts : List ReportCall → Text) (F G : Type 0) (calls : List ReportCall) → HasBeginning (store_meaning n) texts F G calls (Some c) (Some d) → HasBeginning n texts F G calls c.writer.now d.writer.now
 beginning_there n c d texts F G calls h = record {
   begun = begun_there n F c d (texts calls) h.begun;
+  own = h.own;
   whole = λ other. let w = h.whole other in record { first = w.first; rest = w.rest; is = w.is; accepted = w.accepted; delivered = w.delivered };
+}
+
+most_there : {S : Type 0} (n : Meaning S) (c d : Store S) (t : Text) → HasAtMost (store_meaning n) (Some c) t (Some d) → HasAtMost n c.writer.now t d.writer.now
+most_there n c d t (inl h) = inl (record { front = h.front; rest = h.rest; whole = h.whole; accepted = h.accepted })
+most_there n c d t (inr h) = inr (h.0, h.1)
+
+least_there : {S : Type 0} (n : Meaning S) (c d : Store S) (t : Text) → HasAtLeast (store_meaning n) (Some c) t (Some d) → HasAtLeast n c.writer.now t d.writer.now
+least_there {S} n c d t h = by h.mid h.accepted h.delivered h.goes_on
+  where
+    by : (mid : Option (Store S)) → (store_meaning n).accepts (Some c) t mid → (store_meaning n).is_delivered mid → (store_meaning n).accepts mid h.more (Some d) ⊎ ((e : WriteFault) × (store_meaning n).stops mid h.more e (Some d)) → HasAtLeast n c.writer.now t d.writer.now
+    by None accepted delivered goes_on = absurd accepted
+    by (Some x) accepted delivered (inl g) = record { mid = x.writer.now; accepted = accepted; delivered = delivered; more = h.more; goes_on = inl g }
+    by (Some x) accepted delivered (inr g) = record { mid = x.writer.now; accepted = accepted; delivered = delivered; more = h.more; goes_on = inr (g.0, g.1) }
+
+-- two devices stand where two buffers do
+pub stand_there : {W S : Type 0} (contents : W → Option (List ℕ)) (stored_in : S → Option (List ℕ)) (a b : TextBuffer W) (c d : TextBuffer S) → a.pending ≡ [] → c.pending ≡ [] → (texts records : List ReportCall → Text) (calls : List ReportCall) →
+    StandAtOneCall (buffer_meaning contents) (buffer_meaning stored_in) texts records calls (a, c) (b, d) → StandAtOneCall device device texts records calls (contents a.writer, stored_in c.writer) (contents b.writer, stored_in d.writer)
+stand_there contents stored_in a b c d none empty texts records calls h = record {
+  before = h.before;
+  here = h.here;
+  rest = h.rest;
+  is = h.is;
+  one = h.one;
+  printed = least_here contents a b none _ h.printed;
+  no_more_printed = most_here contents a b none _ h.no_more_printed;
+  kept = least_here stored_in c d empty _ h.kept;
+  no_more_kept = most_here stored_in c d empty _ h.no_more_kept;
+  text_first = elim h.text_first [ inl most ↦ inl (most_here stored_in c d empty _ most) | inr least ↦ inr (least_here contents a b none _ least) ];
+}
+
+stand_stored : {W S : Type 0} (m : Meaning W) (n : Meaning S) (a b : W) (c d : Store S) (texts records : List ReportCall → Text) (calls : List ReportCall) → StandAtOneCall m (store_meaning n) texts records calls (a, Some c) (b, Some d) →
+    StandAtOneCall m n texts records calls (a, c.writer.now) (b, d.writer.now)
+stand_stored m n a b c d texts records calls h = record {
+  before = h.before;
+  here = h.here;
+  rest = h.rest;
+  is = h.is;
+  one = h.one;
+  printed = h.printed;
+  no_more_printed = h.no_more_printed;
+  kept = least_there n c d _ h.kept;
+  no_more_kept = most_there n c d _ h.no_more_kept;
+  text_first = elim h.text_first [ inl most ↦ inl (most_there n c d _ most) | inr least ↦ inr least ];
 }
 
 -- two devices hold what two buffers have, of which the second is a store's
@@ -69,6 +136,7 @@ module _ {W S : Type 0} (options : Options) (contents : W → Option (List ℕ))
     h.0,
     beginning_here contents a b none (report_of options run.config) _ _ calls h.1,
     beginning_here stored_in c.writer.now d.writer.now empty (stored_of options) _ _ calls (beginning_there (buffer_meaning stored_in) c d (stored_of options) _ _ calls h.2),
+    λ there. stand_there contents stored_in a b c.writer.now d.writer.now none empty _ _ calls (stand_stored (buffer_meaning contents) (buffer_meaning stored_in) a b c d _ _ calls (h.3 there)),
   ))
 
 -- a store that was handed on and came back
@@ -95,12 +163,12 @@ module _ (options : Options) (off : store_for options ≡ None) (before after he
   pub alone_whole : Appends before after (report_of options config calls) → AreWhole device device options (before, held) (after, held) config calls
   alone_whole printed = record { printed = printed; kept = keeps_none; delivered = (tt, tt) }
 
-  pub alone_begun : (f : Fault) → IsStop options f → AppendsFront before after (report_of options config calls) →
-      IsStop options f × HasBeginning device (report_of options config) (f ≡ WriteFailed) (f ≡ StoreFailed) calls before after × HasBeginning device (stored_of options) (f ≡ StoreFailed) (f ≡ WriteFailed) calls held held
+  pub alone_begun : (f : Fault) → IsStop options f → AppendsFront before after (report_of options config calls) → AreBegun device device options (before, held) (after, held) config f calls
   alone_begun f stopped front = (
     stopped,
-    record { begun = inr (inl front); whole = λ failed. absurd (no_store_stop options off f stopped failed) },
-    record { begun = inr (inr (record { front = stored_of options calls; rest = []; whole = sym (append-nil _); accepted = keeps_none })); whole = λ failed. record { first = calls; rest = []; is = sym (append-nil calls); accepted = keeps_none; delivered = tt } },
+    record { begun = inr (inl front); own = λ failed. front; whole = λ failed. absurd (no_store_stop options off f stopped failed) },
+    record { begun = inr (inr (record { front = stored_of options calls; rest = []; whole = sym (append-nil _); accepted = keeps_none })); own = λ failed. absurd (no_store_stop options off f stopped failed); whole = λ failed. record { first = calls; rest = []; is = sym (append-nil calls); accepted = keeps_none; delivered = tt } },
+    λ there. absurd (false≢true (ap is_some (sym off) ∙ there)),
   )
 
 -- a report whose delivery was put off, and its rest delivered; a buffer fails by its device alone

@@ -7,7 +7,7 @@ use Rattle.scenes.specs.Follow.{IsWrongLine}
 use Rattle.scene_fields.specs.declared.fault.ReadFault.TheVariants as read
 use Rattle.scene_text.specs.SceneTexts.{line_read}
 use Rattle.scenes.proofs.lemmas.ReadLines.{config_kept, at_behind, event_at, forgets, spells}
-use Rattle.scenes.proofs.lemmas.Prints.{begins_no_more, calls_so, memory_no_device, memory_no_store, prints_only}
+use Rattle.scenes.proofs.lemmas.Prints.{begins_no_more, calls_so, none_begun, prints_only}
 use Rattle.scenes.proofs.lemmas.SceneReporters.{StopsAt}
 
 wrong_with : (before : ParsedLines) (f : LineFault) (r : Result ParsedLine LineFault) → lines_with before r ≡ Err f → r ≡ Err f
@@ -20,36 +20,32 @@ wrong_said run t f h = wrong_with run f (line_value (lines_before run) t) h
 
 -- a fault stops lines behind those that tell this run
 stopped : {options : Options} {all : List RunLine} {P : ParsedLines → Type 0} {Q : ParsedLines → Fault → Type 0} {f : Fault} {run : ParsedLines} {lines : List RunLine} {number : ℕ} → AtLine all run lines number →
-    (P run × (IsWrongLine options run lines number f ⊎ ((file : Bor (List ℕ)) × (f ≡ CannotRead file)))) ⊎ Q run f → StopsBy options all P Q f
+    (P run × (IsWrongLine options run lines number f ⊎ ((file : Bor (List ℕ)) × (f ≡ CannotRead file) × (file.now ≡ options.file.now)))) ⊎ Q run f → StopsBy options all P Q f
 stopped {run = run} {lines = lines} {number = number} at holds = record { run = run; lines = lines; number = number; at = at; holds = holds }
 
 -- what was read so far holds, and nothing more could be read behind it
 module _ (options : Options) (all : List RunLine) (P : ParsedLines → Type 0) (Q : ParsedLines → Fault → Type 0) (run : ParsedLines) (holds : P run) (refused : Q run OutOfMemory) (left : List RunLine) (number : ℕ) (at : AtLine all run left number) where
-  left_unread : (file : List ℕ) (f : Fault) → IsUnread file f → StopsBy options all P Q f
-  left_unread file (CannotRead name) h = stopped at (inl (holds, inr (name, refl)))
-  left_unread file OutOfMemory h = stopped at (inr refused)
-  left_unread file other h = absurd h
+  left_unread : (f : Fault) → IsUnread options.file.now f → StopsBy options all P Q f
+  left_unread (CannotRead name) h = stopped at (inl (holds, inr (name, refl, h)))
+  left_unread OutOfMemory h = stopped at (inr refused)
+  left_unread other h = absurd h
 
   left_wrong : (f : ReadFault) → IsNextFault number run left f → StopsBy options all P Q (fault_of_read f)
   left_wrong (read.Line j f) h = stopped at (inl (holds, inl (record { t = h.1.0; more = h.1.1; first = h.1.2; f = f; is = ap (λ n. Line n f) h.0; wrong = inl (wrong_said run h.1.0 f h.1.3) })))
   left_wrong read.OutOfMemory h = stopped at (inr refused)
 
-  nothing_more : (file : List ℕ) (f : Fault) (Has : ParsedLines → List RunLine → Type 0) → IsMore file (Err f) run left number Has → StopsBy options all P Q f
-  nothing_more file f Has (inl h) = left_unread file f h
-  nothing_more file f Has (inr x) = subst (StopsBy options all P Q) (sym x.1) (left_wrong x.0 x.2)
+  nothing_more : (f : Fault) (Has : ParsedLines → List RunLine → Type 0) → IsMore options.file.now (Err f) run left number Has → StopsBy options all P Q f
+  nothing_more f Has (inl h) = left_unread f h
+  nothing_more f Has (inr x) = subst (StopsBy options all P Q) (sym x.1) (left_wrong x.0 x.2)
 
 -- memory was refused before anything was written
-pub nothing_stops : {W T : Type 0} (m : Meaning W) (k : Meaning T) (options : Options) (all : List RunLine) (held : W × T) → m.accepts held.0 [] held.0 → k.accepts held.1 [] held.1 → (P : ParsedLines → Type 0) (f : Fault) → f ≡ OutOfMemory →
+pub nothing_stops : {W T : Type 0} (m : Meaning W) (k : Meaning T) (options : Options) (all : List RunLine) (held : W × T) → m.accepts held.0 [] held.0 → k.accepts held.1 [] held.1 → m.is_delivered held.0 → k.is_delivered held.1 → (P : ParsedLines → Type 0) (f : Fault) → f ≡ OutOfMemory →
     StopsBy options all P (Begins m k options held held) f
-nothing_stops m k options all held nothing also P f is = rw is (stopped {run = no_lines} {lines = all} {number = 1} (record { front = []; whole = refl; place = refl; tells = refl }) (inr (record {
+nothing_stops m k options all held nothing also delivered stored P f is = rw is (stopped {run = no_lines} {lines = all} {number = 1} (record { front = []; whole = refl; place = refl; tells = refl }) (inr (record {
   calls = [];
   of_run = tt;
   accepted = refl;
-  holds = (
-    inr (inl refl),
-    record { begun = inr (inr (record { front = []; rest = _; whole = refl; accepted = nothing })); whole = λ is. absurd (memory_no_store is) },
-    record { begun = inr (inr (record { front = []; rest = _; whole = refl; accepted = also })); whole = λ is. absurd (memory_no_device is) },
-  );
+  holds = none_begun m k options _ [] held nothing also delivered stored;
 })))
 
 module _ {W S : Type 0} {m : Meaning W} {n : Meaning S} (laws : WriterLaws m) (others : WriterLaws n) (options : Options) (all : List RunLine) (start : SceneReporter W S) where
@@ -100,8 +96,8 @@ module _ {W S : Type 0} {m : Meaning W} {n : Meaning S} (laws : WriterLaws m) (o
         one_stopped next _ at.t at.more _ at.at stop.event at.says f stop.stops
 
     -- there are lines that no number counts
-    pub reported_uncounted : (file : Bor (List ℕ)) → Stops now (CannotRead file)
-    reported_uncounted file = stopped behind (inl (k.printed, inr (file, refl)))
+    pub reported_uncounted : Stops now (CannotRead options.file)
+    reported_uncounted = stopped behind (inl (k.printed, inr (options.file, refl, refl)))
 
     -- all that was read was reported
     module _ (next : SceneReporter W S) (reported : Follows m n options start next (record { config = read.run.config; events = k.before.events ++ read.run.events.items })) where
@@ -120,7 +116,7 @@ module _ {W S : Type 0} {m : Meaning W} {n : Meaning S} (laws : WriterLaws m) (o
       reported_first f is =
           nothing_more options all (Prints m (store_meaning n) options (writers start) (writers next)) (Begins m (store_meaning n) options (writers start) (writers next)) run prints
           (begins_no_more laws (store-laws others) options (writers start) (writers next) run prints)
-          k.has.left read.next here options.file.now f Has (subst (λ r. IsMore options.file.now r run k.has.left read.next Has) is k.has.more_is)
+          k.has.left read.next here f Has (subst (λ r. IsMore options.file.now r run k.has.left read.next Has) is k.has.more_is)
 
       -- or further lines were read behind it
       pub reads_on : more ≡ Ok true → (new : LinesRead) (goes_on : Result Bool Fault) (Next : ParsedLines → List RunLine → Type 0) → HasReadLines options.file.now all (k.front ++ k.has.lines) run new goes_on Next → KeepsUp m n options all start next new goes_on Next

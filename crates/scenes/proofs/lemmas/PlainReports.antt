@@ -1,14 +1,14 @@
 -- A run of all calls that stopped at one of them, and calls whose output was left unread (for `write_calls`, `write_calls_and_records`,
--- `write_report`).
-use Rattle.std.proofs.Common.{◌≡◌, ℕ, suc, ◌<◌, true, false, Bool, List, [], ◌∷◌, ◌++◌, Option, None, Some, length, take, drop, get_or, reverse, refl, sym, ap, ◌∙◌, subst, ap₂, append-nil, append_assoc, arith, inl, inr, if◌then◌else◌}
-use Rattle.std.proofs.Math.Seq.{drop-cons, take-append_seam}
-use Rattle.std.proofs.lemmas.List.{get_or-take, length-take-le, take-append-drop, take-map}
+-- `report_by_calls`).
+use Rattle.std.proofs.Common.{◌≡◌, ◌⊎◌, ℕ, suc, ◌<◌, true, false, Bool, List, [], ◌∷◌, ◌++◌, Option, None, Some, length, take, drop, get_or, reverse, refl, sym, ap, ◌∙◌, subst, ap₂, append-nil, append_assoc, arith, ◌≤◌, inl, inr, if◌then◌else◌}
+use Rattle.std.proofs.Math.Seq.{drop-append_seam, drop-cons, take-append_seam}
+use Rattle.std.proofs.lemmas.List.{get_or-take, length-take-le, drop-map, length-map, map-append, take-append-drop, take-map}
 use Rattle.std.proofs.lemmas.List.Quantifiers.{position-Some}
 use Rattle.std.proofs.lemmas.Option.{slice_get_cases}
 use Rattle.std.specs.List.{position}
 use Rattle.std.specs.Option.{option_and_then, option_map_or}
 use Rattle.std.specs.Prelude.{slice_get}
-use Rattle.scenes.proofs.Common.{AllZip, Appends-nil, AreReadyCallsOf, AreWhole, Begins, buffer_meaning, BufferAccepts, common_steps, device, Prints, scene_lines, TextBuffer, IsCallOf, position_or_len, configuration_for, decider_for, false≢true, Fault, fault_at_call, first_refused, HasBeginning, HasFirstCalls, IsSceneRefused, is_some, Meaning, option_map, Options, OutOfMemory, OutputLoadDecider, Records, refusal_by, report, report_of, ReportCall, reverse-append, Scene, SceneConfig, Stops, store_for, stored, stored_of, stored_text, take_all, Text, text, unloaded_for, unread, WriteEventError, Io, StoreIo, StoreFailed, WriteFailed}
+use Rattle.scenes.proofs.Common.{AllZip, Appends-nil, AreReadyCallsOf, AreWhole, Begins, buffer_meaning, BufferAccepts, common_steps, device, Prints, scene_lines, StandAtOneCall, TextBuffer, IsCallOf, position_or_len, configuration_for, decider_for, false≢true, Fault, fault_at_call, first_refused, HasAtLeast, HasAtMost, HasBeginning, HasFirstCalls, IsSceneRefused, is_some, Meaning, option_map, Options, OutOfMemory, OutputLoadDecider, Records, refusal_by, report, report_of, ReportCall, reverse-append, Scene, SceneConfig, Stops, store_for, stored, stored_of, stored_text, take_all, Text, text, unloaded_for, unread, unread_call, WriteEventError, Io, StoreIo, StoreFailed, WriteFailed}
 use Rattle.console_reporter.specs.Accepted.{refusal_at}
 use Rattle.console_reporter.specs.Configuration.{Configuration, configured_in}
 use Rattle.console_reporter.specs.Outcomes.Side.{Report}
@@ -16,14 +16,15 @@ use Rattle.console_reporter.specs.Report.{past_at, text_at}
 use Rattle.console_reporter.specs.Stored.{stored_at}
 use Rattle.reporter_state.specs.Refusals.{refusal_at_by, refusal_in}
 use Rattle.plain_text.specs.TextBuffer.{buffer_laws}
+use Rattle.plain_text.specs.declared.write_str.WriteFault.TheVariants.{Device}
 use Rattle.std.specs.Io.KnownBytes.{Appends}
 use Rattle.store_text.specs.declared.config.StoreConfig.{StoreConfig}
 use Rattle.console_reporter.specs.declared.imp.builder.DisplayReporterBuilder.{DisplayReporterBuilder}
 use Rattle.scenes.specs.Judged.{fault_of_first}
 use Rattle.scenes.specs.Reports.{builder_for, surroundings_of}
-use Rattle.scenes.proofs.lemmas.Devices.{alone_begun, beginning_here, begun_here}
+use Rattle.scenes.proofs.lemmas.Devices.{alone_begun, beginning_here, begun_here, stand_there}
 use Rattle.scenes.specs.Prints.{AreBegun}
-use Rattle.scenes.proofs.lemmas.Prints.{Begun, call_stopped, front_of_more, HasText, is_stop, IsNext}
+use Rattle.scenes.proofs.lemmas.Prints.{Begun, call_stopped, front_of_more, HasText, is_stop, IsNext, none_begun, stand_here}
 use Rattle.scenes.proofs.lemmas.ReadyCalls.{report_ready, stored_ready}
 use Rattle.scenes.proofs.lemmas.Refusals.{all_judged, fails_behind, mapped_none}
 
@@ -63,6 +64,33 @@ module _ (whole : List ReportCall → Text) (part : List ReportCall → ReportCa
         up_to = up_to;
         whole = record { rest = more.rest; is = ap texts up_to.is ∙ more.is ∙ ap (λ t. t ++ more.rest) up_to.has };
       }
+
+-- calls up to a place, and the one there
+record IsSplit (calls : List ReportCall) (i : ℕ) : Type 1 where
+  pub here : List ReportCall
+  pub rest : List ReportCall
+  pub is : calls ≡ take i calls ++ (here ++ rest)
+  pub one : length here ≤ 1
+  pub has : (whole : List ReportCall → Text) (part : List ReportCall → ReportCall → Text) → ((call : ReportCall) (past : List ReportCall) → whole (call ∷ past) ≡ whole past ++ part past call) →
+      whole (reverse (take i calls ++ here)) ≡ whole (past_at calls i) ++ option_map_or (part (past_at calls i)) (slice_get calls i) []
+
+split_at : (calls : List ReportCall) (i : ℕ) → IsSplit calls i
+split_at calls i = elim ((slice_get_cases calls i).1) [
+  | inl h ↦ record {
+    here = h.0 ∷ [];
+    rest = drop (suc i) calls;
+    is = around calls i h.0 h.1 h.3;
+    one = omega arith;
+    has = λ whole part one_more. ap whole (reverse-append (take i calls) (h.0 ∷ [])) ∙ one_more h.0 (past_at calls i) ∙ ap (λ o. whole (past_at calls i) ++ option_map_or (part (past_at calls i)) o []) (sym h.2);
+  }
+  | inr h ↦ record {
+    here = [];
+    rest = drop i calls;
+    is = sym (take-append-drop i calls);
+    one = omega arith;
+    has = λ whole part one_more. ap (λ cs. whole (reverse cs)) (append-nil (take i calls)) ∙ sym (append-nil _) ∙ ap (λ o. whole (past_at calls i) ++ option_map_or (part (past_at calls i)) o []) (sym h.1);
+  }
+]
 
 none_of : {X : Type 0} (o : Option X) → is_some o ≡ false → o ≡ None
 none_of None h = refl
@@ -104,7 +132,64 @@ module _ (options : Options) (config : SceneConfig) (made : List ReportCall) {S 
       }
 
   pub beginning_made : (F G : Type 0) (old new : S) → HasBeginning m texts F G (unloaded_for options config made) old new → HasBeginning m texts F G made old new
-  beginning_made F G old new h = record { begun = subst (λ t. Begun m F old t new) (same made) h.begun; whole = λ other. first_made (h.whole other) }
+  beginning_made F G old new h = record { begun = subst (λ t. Begun m F old t new) (same made) h.begun; own = λ failed. subst (λ t. m.stops old t Device new) (same made) (h.own failed); whole = λ other. first_made (h.whole other) }
+
+-- calls in two parts, with their output left unread
+parts_if : (unloads : Bool) (d : OutputLoadDecider) (xs ys : List ReportCall) → (if unloads then unread d (xs ++ ys) else xs ++ ys) ≡ (if unloads then unread d xs else xs) ++ (if unloads then unread d ys else ys)
+parts_if true d xs ys = map-append (unread_call d) xs ys
+parts_if false d xs ys = refl
+
+drop_if : (unloads : Bool) (d : OutputLoadDecider) (n : ℕ) (made : List ReportCall) → (if unloads then unread d (drop n made) else drop n made) ≡ drop n (if unloads then unread d made else made)
+drop_if true d n made = sym (drop-map _ n made)
+drop_if false d n made = refl
+
+length_if : (unloads : Bool) (d : OutputLoadDecider) (made : List ReportCall) → length (if unloads then unread d made else made) ≡ length made
+length_if true d made = length-map made (unread_call d)
+length_if false d made = refl
+
+module _ (options : Options) (config : SceneConfig) where
+  -- those that were made, of calls in two parts
+  record AreMade (made xs ys : List ReportCall) : Type 0 where
+    pub front : List ReportCall
+    pub back : List ReportCall
+    pub whole : made ≡ front ++ back
+    pub front_is : unloaded_for options config front ≡ xs
+    pub back_is : unloaded_for options config back ≡ ys
+
+  are_made : (made xs ys : List ReportCall) → unloaded_for options config made ≡ xs ++ ys → AreMade made xs ys
+  are_made made xs ys is =
+      let n : ℕ = length xs in
+      record {
+        front = take n made;
+        back = drop n made;
+        whole = sym (take-append-drop n made);
+        front_is = take_if options.unload_skipped (decider_for options config) n made ∙ ap (take n) is ∙ take-append_seam xs ys;
+        back_is = drop_if options.unload_skipped (decider_for options config) n made ∙ ap (drop n) is ∙ drop-append_seam xs ys;
+      }
+
+  stands_made : {W T : Type 0} {m : Meaning W} {k : Meaning T} (made : List ReportCall) (old new : W × T) → StandAtOneCall m k (report_of options config) (stored_of options) (unloaded_for options config made) old new →
+      StandAtOneCall m k (report_of options config) (stored_of options) made old new
+  stands_made {m = m} {k = k} made old new h =
+      let p = are_made made h.before (h.here ++ h.rest) h.is in
+      let q = are_made p.back h.here h.rest p.back_is in
+      let both : unloaded_for options config (p.front ++ q.front) ≡ h.before ++ h.here = parts_if options.unload_skipped (decider_for options config) p.front q.front ∙ ap₂ (λ xs ys. xs ++ ys) p.front_is q.front_is in
+      let text = λ (cs ds : List ReportCall) (is : unloaded_for options config cs ≡ ds). ap (report_of options config) (sym is) ∙ report_ready options config cs in
+      let kept = λ (cs ds : List ReportCall) (is : unloaded_for options config cs ≡ ds). ap (stored_of options) (sym is) ∙ stored_ready options config cs in
+      record {
+        before = p.front;
+        here = q.front;
+        rest = q.back;
+        is = p.whole ∙ ap (λ cs. p.front ++ cs) q.whole;
+        one = subst (λ n. n ≤ 1) (ap length (sym q.front_is) ∙ length_if options.unload_skipped (decider_for options config) q.front) h.one;
+        printed = subst (λ t. HasAtLeast m old.0 t new.0) (text _ _ p.front_is) h.printed;
+        no_more_printed = subst (λ t. HasAtMost m old.0 t new.0) (text _ _ both) h.no_more_printed;
+        kept = subst (λ t. HasAtLeast k old.1 t new.1) (kept _ _ p.front_is) h.kept;
+        no_more_kept = subst (λ t. HasAtMost k old.1 t new.1) (kept _ _ both) h.no_more_kept;
+        text_first = elim h.text_first [
+          | inl most ↦ inl (subst (λ t. HasAtMost k old.1 t new.1) (kept _ _ p.front_is) most)
+          | inr least ↦ inr (subst (λ t. HasAtLeast m old.0 t new.0) (text _ _ both) least)
+        ];
+      }
 
 -- what calls with their output left unread have of a report, those that were made have
 pub begun_made : {W T : Type 0} {m : Meaning W} {k : Meaning T} (options : Options) (config : SceneConfig) (made : List ReportCall) (old new : W × T) (f : Fault) → AreBegun m k options old new config f (unloaded_for options config made) → AreBegun m k options old new config f made
@@ -112,6 +197,7 @@ begun_made options config made old new f h = (
   h.0,
   beginning_made options config made (report_of options config) (report_ready options config) _ _ old.0 new.0 h.1,
   beginning_made options config made (stored_of options) (stored_ready options config) _ _ old.1 new.1 h.2,
+  λ there. stands_made options config made old new (h.3 there),
 )
 
 -- before the first item that passes none does
@@ -190,19 +276,8 @@ module _ (options : Options) (scene : Scene) (calls : List ReportCall) where
           ]
 
 -- devices that nothing was written to
-module _ (texts : List ReportCall → Text) (none : texts [] ≡ []) (F G : Type 0) (calls : List ReportCall) (held : Option (List ℕ)) where
-  begins_nothing : HasBeginning device texts F G calls held held
-  begins_nothing = record {
-    begun = inr (inr (record { front = []; rest = texts calls; whole = refl; accepted = Appends-nil held }));
-    whole = λ other. record { first = []; rest = calls; is = refl; accepted = subst (λ t. Appends held held t) (sym none) (Appends-nil held); delivered = tt };
-  }
-
 pub untouched : (options : Options) (config : SceneConfig) (calls : List ReportCall) (held : Option (List ℕ) × Option (List ℕ)) → AreBegun device device options held held config OutOfMemory calls
-untouched options config calls held = (
-  inr (inl refl),
-  begins_nothing (report_of options config) refl _ _ calls held.0,
-  begins_nothing (stored_of options) refl _ _ calls held.1,
-)
+untouched options config calls held = none_begun device device options config calls held (Appends-nil _) (Appends-nil _) tt tt
 
 -- the configuration of a scene's reporter, as `run_report` is given it
 pub configured_so : (options : Options) (config : SceneConfig) (store : Option StoreConfig) → store_for options ≡ store → (builder : DisplayReporterBuilder) → builder ≡ builder_for options config → configured_in builder (surroundings_of config) store ≡ configuration_for options config
@@ -212,7 +287,8 @@ configured_so options config store asked builder is = ap₂ (λ b s. configured_
 module _ (options : Options) (config : SceneConfig) (calls : List ReportCall) (all : first_refused (decider_for options config) calls ≡ None) (n i : ℕ) (e : WriteEventError)
     (given : Configuration) (is : given ≡ configuration_for options config) (refused : refusal_at given calls i ≡ refusal_in e)
     {W : Type 0} (contents : W → Option (List ℕ)) (a b : TextBuffer W) (empty : a.pending ≡ [])
-    (ran : (mid : TextBuffer W) × BufferAccepts contents a (report (configuration_for options config) (past_at calls i)) mid × Stops Report (buffer_meaning contents) mid (text_at (configuration_for options config) calls i) e b) where
+    {Held : Type 0} (ran : (mid : TextBuffer W) × BufferAccepts contents a (report (configuration_for options config) (past_at calls i)) mid × Stops Report (buffer_meaning contents) mid (text_at (configuration_for options config) calls i) e b
+    × (a.pending ≡ [] → Held → mid.pending ≡ [])) where
   no_refusal : refusal_in e ≡ None
   no_refusal = sym refused ∙ ap (λ c. refusal_at c calls i) is ∙ none_refused options config calls all i
 
@@ -225,14 +301,27 @@ module _ (options : Options) (config : SceneConfig) (calls : List ReportCall) (a
       alone_begun options off (contents a.writer) (contents b.writer) held config calls (fault_at_call n e) (is_stop options n e no_refusal (λ is. absurd (no_store is)))
       (begun_here contents a b empty _ (report_of options config calls) (printed (λ is. absurd (no_store is))).begun)
 
+  -- where the two stand
+  both_stand : {S : Type 0} (stored_in : S → Option (List ℕ)) (c d : TextBuffer S) → c.pending ≡ [] →
+      (kept : (mid : TextBuffer S) × BufferAccepts stored_in c (stored (store_for options) (past_at calls i)) mid × Stops Records (buffer_meaning stored_in) mid (stored_at (store_for options) calls i) e d × (a.pending ≡ [] → c.pending ≡ [] → mid.pending ≡ [])) →
+      Held → BufferAccepts stored_in c (stored (store_for options) (past_at calls i)) d ⊎ (BufferAccepts contents a (report (configuration_for options config) (past_at calls i) ++ text_at (configuration_for options config) calls i) b × (b.pending ≡ [])) →
+      StandAtOneCall (buffer_meaning contents) (buffer_meaning stored_in) (report_of options config) (stored_of options) calls (a, c) (b, d)
+  both_stand stored_in c d none kept held order =
+      let s = split_at calls i in
+      stand_here (buffer_laws contents) (buffer_laws stored_in) calls (take i calls) s.here s.rest s.is s.one _ _
+      (s.has (report (configuration_for options config)) (text (configuration_for options config)) (λ call past. refl)) (s.has (stored (store_for options)) (λ past. stored_text (store_for options)) (λ call past. refl))
+      a ran.0 b c kept.0 d ran.1 (ran.3 empty held) kept.1 (kept.3 empty none) e no_refusal ran.2 kept.2 order
+
   -- of a report and its records
   pub both_stop : is_some (store_for options) ≡ true → {S : Type 0} (stored_in : S → Option (List ℕ)) (c d : TextBuffer S) → c.pending ≡ [] →
-      (mid : TextBuffer S) × BufferAccepts stored_in c (stored (store_for options) (past_at calls i)) mid × Stops Records (buffer_meaning stored_in) mid (stored_at (store_for options) calls i) e d →
+      (kept : (mid : TextBuffer S) × BufferAccepts stored_in c (stored (store_for options) (past_at calls i)) mid × Stops Records (buffer_meaning stored_in) mid (stored_at (store_for options) calls i) e d × (a.pending ≡ [] → c.pending ≡ [] → mid.pending ≡ [])) →
+      Held → BufferAccepts stored_in c (stored (store_for options) (past_at calls i)) d ⊎ (BufferAccepts contents a (report (configuration_for options config) (past_at calls i) ++ text_at (configuration_for options config) calls i) b × (b.pending ≡ [])) →
       (e ≡ StoreIo → b.pending ≡ []) → (e ≡ Io → d.pending ≡ []) → AreBegun device device options (contents a.writer, stored_in c.writer) (contents b.writer, stored_in d.writer) config (fault_at_call n e) calls
-  both_stop asked stored_in c d none kept text_delivered records_delivered = (
+  both_stop asked stored_in c d none kept held order text_delivered records_delivered = (
     is_stop options n e no_refusal (λ is. asked),
     beginning_here contents a b empty (report_of options config) _ _ calls (printed text_delivered),
     beginning_here stored_in c d none (stored_of options) _ _ calls (call_stopped (buffer_laws stored_in) Records (in_records options config calls all i) c kept.0 d kept.1 n e no_refusal records_delivered kept.2),
+    λ there. stand_there contents stored_in a b c d empty none (report_of options config) (stored_of options) calls (both_stand stored_in c d none kept held order),
   )
 
 -- the report of the calls of a scene is that of the scene

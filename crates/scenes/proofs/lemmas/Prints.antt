@@ -1,12 +1,12 @@
 -- What two writers have of a report that stopped, and of a longer one (for `SceneReporter::report_events`, `report_to`, `follow_to`).
-use Rattle.std.proofs.Common.{◌≡◌, ℕ, true, List, [], ◌∷◌, ◌++◌, reverse, refl, sym, ap, ◌∙◌, subst, append-nil, append_assoc, ◌⊎◌, None, Result, Ok, Err, inl, inr}
-use Rattle.scenes.proofs.Common.{AllZip, AreWhole, Begins, configuration_for, decider_for, Failed, Fault, fault_at_call, first_refused, HasBeginning, HasFirstCalls, Io, is_some, IsCallOf, Meaning, OfCalls, Options, OutOfMemory, OutputNotLoaded, ParsedLines, Prints, PrintsFollowed, Records, report, ReportCall, Reported, RetriedSuccess, reverse-append, RunOutcome, SceneConfig, SceneEvent, Stops, store_for, stored, stored_text, StoreFailed, StoreIo, Text, text, WriteEventError, WriteFailed, WriterLaws}
+use Rattle.std.proofs.Common.{◌≡◌, ℕ, true, List, [], ◌∷◌, ◌++◌, reverse, refl, sym, ap, ◌∙◌, subst, append-nil, append_assoc, arith, length, ◌≤◌, ◌⊎◌, None, Result, Ok, Err, inl, inr}
+use Rattle.scenes.proofs.Common.{AllZip, AreWhole, Begins, configuration_for, decider_for, Failed, Fault, fault_at_call, first_refused, HasAtLeast, HasAtMost, HasBeginning, HasFirstCalls, Io, is_some, IsCallOf, Meaning, OfCalls, Options, OutOfMemory, OutputNotLoaded, ParsedLines, Prints, PrintsFollowed, Records, report, ReportCall, Reported, RetriedSuccess, reverse-append, RunOutcome, SceneConfig, SceneEvent, StandAtOneCall, Stops, store_for, stored, stored_text, StoreFailed, StoreIo, Text, text, WriteEventError, WriteFailed, WriterLaws}
 use Rattle.plain_text.specs.declared.write_str.WriteFault.TheVariants.{Device, Memory as RefusedMemory}
 use Rattle.console_reporter.specs.Outcomes.{HasFront, Side, error_for}
 use Rattle.console_reporter.specs.Outcomes.Side.{Report}
 use Rattle.reporter_state.specs.Refusals.{refusal_in}
 use Rattle.reporter_state.specs.declared.faults.WriteEventError.TheVariants.{Memory}
-use Rattle.scenes.specs.Prints.{IsStop}
+use Rattle.scenes.specs.Prints.{AreBegun, IsStop}
 use Rattle.scenes.proofs.lemmas.Refusals.{zip_both}
 
 -- of a text a beginning was accepted, as `HasBeginning` says it
@@ -63,9 +63,10 @@ last_next texts calls call more is = record {
 -- of one writer
 module _ {S : Type 0} {m : Meaning S} (laws : WriterLaws m) (texts : List ReportCall → Text) (OfOwn OfOther : Type 0) where
   -- of all calls it has the texts whole
-  whole_texts : (calls : List ReportCall) (a b : S) → m.accepts a (texts calls) b → (OfOther → m.is_delivered b) → HasBeginning m texts OfOwn OfOther calls a b
-  whole_texts calls a b accepted delivered = record {
+  whole_texts : (calls : List ReportCall) (a b : S) → m.accepts a (texts calls) b → (OfOwn → ⊥) → (OfOther → m.is_delivered b) → HasBeginning m texts OfOwn OfOther calls a b
+  whole_texts calls a b accepted another delivered = record {
     begun = inr (inr (record { front = texts calls; rest = []; whole = sym (append-nil (texts calls)); accepted = accepted }));
+    own = λ failed. absurd (another failed);
     whole = λ other. record { first = calls; rest = []; is = sym (append-nil calls); accepted = accepted; delivered = delivered other };
   }
 
@@ -78,25 +79,30 @@ module _ {S : Type 0} {m : Meaning S} (laws : WriterLaws m) (texts : List Report
   longer_texts : (calls more : List ReportCall) (rest : Text) → texts (calls ++ more) ≡ texts calls ++ rest → (a b : S) → HasBeginning m texts OfOwn OfOther calls a b → HasBeginning m texts OfOwn OfOther (calls ++ more) a b
   longer_texts calls more rest is a b h = record {
     begun = subst (λ t. Begun m OfOwn a t b) (sym is) (begun_longer a b (texts calls) rest h.begun);
+    own = λ failed. subst (λ t. m.stops a t Device b) (sym is) (laws.stops_within a b (texts calls) rest Device (h.own failed));
     whole = λ other. let w = h.whole other in record { first = w.first; rest = w.rest ++ more; is = ap (λ cs. cs ++ more) w.is ∙ append_assoc w.first w.rest more; accepted = w.accepted; delivered = w.delivered };
   }
 
   -- It had the texts of the first of some calls, and of the text of the next it has this.
   module _ (calls : List ReportCall) (had more : Text) (is : IsNext texts calls had more) (a b c : S) (before : m.accepts a had b) where
-    begins_next : Begun m OfOwn a (had ++ more) c → (OfOther → HasFirstCalls m texts calls a c) → HasBeginning m texts OfOwn OfOther calls a c
-    begins_next begun whole = record { begun = subst (λ t. Begun m OfOwn a t c) (sym is.whole.is) (begun_longer a c (had ++ more) is.whole.rest begun); whole = whole }
+    begins_next : Begun m OfOwn a (had ++ more) c → (OfOwn → m.stops a (had ++ more) Device c) → (OfOther → HasFirstCalls m texts calls a c) → HasBeginning m texts OfOwn OfOther calls a c
+    begins_next begun own whole = record {
+      begun = subst (λ t. Begun m OfOwn a t c) (sym is.whole.is) (begun_longer a c (had ++ more) is.whole.rest begun);
+      own = λ failed. subst (λ t. m.stops a t Device c) (sym is.whole.is) (laws.stops_within a c (had ++ more) is.whole.rest Device (own failed));
+      whole = whole;
+    }
 
-    has_first : (t u : Text) → had ++ more ≡ t ++ u → HasText texts calls t → m.accepts a t c → (OfOther → m.is_delivered c) → HasBeginning m texts OfOwn OfOther calls a c
-    has_first t u whole f accepted delivered =
-        begins_next (inr (inr (record { front = t; rest = u; whole = whole; accepted = accepted })))
+    has_first : (t u : Text) → had ++ more ≡ t ++ u → HasText texts calls t → m.accepts a t c → (OfOwn → ⊥) → (OfOther → m.is_delivered c) → HasBeginning m texts OfOwn OfOther calls a c
+    has_first t u whole f accepted another delivered =
+        begins_next (inr (inr (record { front = t; rest = u; whole = whole; accepted = accepted }))) (λ failed. absurd (another failed))
         (λ other. record { first = f.first; rest = f.rest; is = f.is; accepted = subst (λ x. m.accepts a x c) (sym f.has) accepted; delivered = delivered other })
 
     -- a beginning, where memory was refused
-    refused_call : (OfOther → ⊥) → (m.stops b more RefusedMemory c ⊎ HasFront m b more c) → HasBeginning m texts OfOwn OfOther calls a c
-    refused_call other (inl stops) = begins_next (inr (inl (laws.goes_on a b c had more _ before stops))) (λ is. absurd (other is))
-    refused_call other (inr f) =
+    refused_call : (OfOwn → ⊥) → (OfOther → ⊥) → (m.stops b more RefusedMemory c ⊎ HasFront m b more c) → HasBeginning m texts OfOwn OfOther calls a c
+    refused_call another other (inl stops) = begins_next (inr (inl (laws.goes_on a b c had more _ before stops))) (λ failed. absurd (another failed)) (λ is. absurd (other is))
+    refused_call another other (inr f) =
         begins_next (inr (inr (record { front = had ++ f.front; rest = f.rest; whole = ap (λ t. had ++ t) f.whole ∙ sym (append_assoc had f.front f.rest); accepted = laws.joins a b c had f.front before f.accepted })))
-        (λ is. absurd (other is))
+        (λ failed. absurd (another failed)) (λ is. absurd (other is))
 
 -- the side of the other writer
 abbrev pub other : Side → Side
@@ -110,12 +116,121 @@ pub call_stopped : {S : Type 0} {m : Meaning S} (laws : WriterLaws m) (side : Si
 call_stopped laws side is a b c before n RetriedSuccess none told stops = absurd (cc)
 call_stopped laws side is a b c before n OutputNotLoaded none told stops = absurd (cc)
 call_stopped laws side is a b c before n Failed none told stops = absurd stops
-call_stopped laws Report is a b c before n Memory none told stops = refused_call laws _ _ _ _ _ _ is a b c before memory_no_store stops
-call_stopped laws Records is a b c before n Memory none told stops = refused_call laws _ _ _ _ _ _ is a b c before memory_no_device stops
-call_stopped laws Report is a b c before n Io none told stops = begins_next laws _ _ _ _ _ _ is a b c before (inl (refl, laws.goes_on a b c _ _ _ before stops)) (λ is. absurd (write_no_store is))
-call_stopped laws Records is a b c before n StoreIo none told stops = begins_next laws _ _ _ _ _ _ is a b c before (inl (refl, laws.goes_on a b c _ _ _ before stops)) (λ is. absurd (write_no_store (sym is)))
-call_stopped laws Report is a b c before n StoreIo none told stops = has_first laws _ _ _ _ _ _ is a b c before _ [] (sym (append-nil _)) is.up_to (laws.joins a b c _ _ before stops) (λ is. told refl)
-call_stopped {m = m} laws Records {had = had} is a b c before n Io none told stops = has_first laws _ _ _ _ _ _ is a b c before _ _ refl is.before (subst (m.accepts a had) (sym stops) before) (λ is. told refl)
+call_stopped laws Report is a b c before n Memory none told stops = refused_call laws _ _ _ _ _ _ is a b c before memory_no_device memory_no_store stops
+call_stopped laws Records is a b c before n Memory none told stops = refused_call laws _ _ _ _ _ _ is a b c before memory_no_store memory_no_device stops
+call_stopped laws Report is a b c before n Io none told stops = begins_next laws _ _ _ _ _ _ is a b c before (inl (refl, laws.goes_on a b c _ _ _ before stops)) (λ failed. laws.goes_on a b c _ _ _ before stops) (λ is. absurd (write_no_store is))
+call_stopped laws Records is a b c before n StoreIo none told stops = begins_next laws _ _ _ _ _ _ is a b c before (inl (refl, laws.goes_on a b c _ _ _ before stops)) (λ failed. laws.goes_on a b c _ _ _ before stops) (λ is. absurd (write_no_store (sym is)))
+call_stopped laws Report is a b c before n StoreIo none told stops = has_first laws _ _ _ _ _ _ is a b c before _ [] (sym (append-nil _)) is.up_to (laws.joins a b c _ _ before stops) (λ failed. write_no_store (sym failed)) (λ is. told refl)
+call_stopped {m = m} laws Records {had = had} is a b c before n Io none told stops = has_first laws _ _ _ _ _ _ is a b c before _ _ refl is.before (subst (m.accepts a had) (sym stops) before) write_no_store (λ is. told refl)
+
+-- a writer that was given a text whole
+module _ {S : Type 0} {m : Meaning S} (laws : WriterLaws m) where
+  least_whole : (a b : S) (t : Text) → m.accepts a t b → m.is_delivered b → HasAtLeast m a t b
+  least_whole a b t accepted delivered = record { mid = b; accepted = accepted; delivered = delivered; more = []; goes_on = inl (laws.nothing b) }
+
+  most_whole : (a b : S) (t : Text) → m.accepts a t b → HasAtMost m a t b
+  most_whole a b t accepted = inl (record { front = t; rest = []; whole = sym (append-nil t); accepted = accepted })
+
+  -- and that an error stopped in the next one
+  module _ (a b c : S) (had more : Text) (before : m.accepts a had b) (held : m.is_delivered b) where
+    least_stopped : (side : Side) (e : WriteEventError) → refusal_in e ≡ None → Stops side m b more e c → HasAtLeast m a had c
+    least_stopped side RetriedSuccess none stops = absurd (cc)
+    least_stopped side OutputNotLoaded none stops = absurd (cc)
+    least_stopped side Failed none stops = absurd stops
+    least_stopped side Memory none (inl stops) = record { mid = b; accepted = before; delivered = held; more = more; goes_on = inr (RefusedMemory, stops) }
+    least_stopped side Memory none (inr f) = record { mid = b; accepted = before; delivered = held; more = f.front; goes_on = inl f.accepted }
+    least_stopped Report Io none stops = record { mid = b; accepted = before; delivered = held; more = more; goes_on = inr (Device, stops) }
+    least_stopped Records StoreIo none stops = record { mid = b; accepted = before; delivered = held; more = more; goes_on = inr (Device, stops) }
+    least_stopped Report StoreIo none stops = record { mid = b; accepted = before; delivered = held; more = more; goes_on = inl stops }
+    least_stopped Records Io none stops = record { mid = b; accepted = before; delivered = held; more = []; goes_on = inl (subst (m.accepts b []) (sym stops) (laws.nothing b)) }
+
+    most_stopped : (side : Side) (e : WriteEventError) → refusal_in e ≡ None → Stops side m b more e c → HasAtMost m a (had ++ more) c
+    most_stopped side RetriedSuccess none stops = absurd (cc)
+    most_stopped side OutputNotLoaded none stops = absurd (cc)
+    most_stopped side Failed none stops = absurd stops
+    most_stopped side Memory none (inl stops) = inr (RefusedMemory, laws.goes_on a b c had more _ before stops)
+    most_stopped side Memory none (inr f) =
+        inl (record { front = had ++ f.front; rest = f.rest; whole = ap (λ t. had ++ t) f.whole ∙ sym (append_assoc had f.front f.rest); accepted = laws.joins a b c had f.front before f.accepted })
+    most_stopped Report Io none stops = inr (Device, laws.goes_on a b c had more _ before stops)
+    most_stopped Records StoreIo none stops = inr (Device, laws.goes_on a b c had more _ before stops)
+    most_stopped Report StoreIo none stops = most_whole a c (had ++ more) (laws.joins a b c had more before stops)
+    most_stopped Records Io none stops = inl (record { front = had; rest = more; whole = refl; accepted = subst (m.accepts a had) (sym stops) before })
+
+-- where two writers stand
+module _ {W T : Type 0} {m : Meaning W} {k : Meaning T} (laws : WriterLaws m) (others : WriterLaws k) {texts records : List ReportCall → Text} where
+  -- an error stopped the call here
+  pub stand_here : (calls before here rest : List ReportCall) → calls ≡ before ++ (here ++ rest) → length here ≤ 1 → (text record_text : Text) → texts (before ++ here) ≡ texts before ++ text → records (before ++ here) ≡ records before ++ record_text →
+      (a b c : W) (x y z : T) → m.accepts a (texts before) b → m.is_delivered b → k.accepts x (records before) y → k.is_delivered y →
+      (e : WriteEventError) → refusal_in e ≡ None → Stops Report m b text e c → Stops Records k y record_text e z →
+      k.accepts x (records before) z ⊎ (m.accepts a (texts before ++ text) c × m.is_delivered c) → StandAtOneCall m k texts records calls (a, x) (c, z)
+  stand_here calls before here rest is one text record_text text_is record_is a b c x y z printed delivered kept held e none stops store_stops order = record {
+    before = before;
+    here = here;
+    rest = rest;
+    is = is;
+    one = one;
+    printed = least_stopped laws a b c _ text printed delivered Report e none stops;
+    no_more_printed = subst (λ t. HasAtMost m a t c) (sym text_is) (most_stopped laws a b c _ text printed delivered Report e none stops);
+    kept = least_stopped others x y z _ record_text kept held Records e none store_stops;
+    no_more_kept = subst (λ t. HasAtMost k x t z) (sym record_is) (most_stopped others x y z _ record_text kept held Records e none store_stops);
+    text_first = elim order [ inl same ↦ inl (most_whole others x z _ same) | inr told ↦ inr (subst (λ t. HasAtLeast m a t c) (sym text_is) (least_whole laws a c _ told.0 told.1)) ];
+  }
+
+  -- all was written
+  pub stand_past : (calls : List ReportCall) (a b : W) (x y : T) → m.accepts a (texts calls) b → m.is_delivered b → k.accepts x (records calls) y → k.is_delivered y → StandAtOneCall m k texts records calls (a, x) (b, y)
+  stand_past calls a b x y printed delivered kept held = record {
+    before = calls;
+    here = [];
+    rest = [];
+    is = sym (append-nil calls);
+    one = omega arith;
+    printed = least_whole laws a b _ printed delivered;
+    no_more_printed = subst (λ cs. HasAtMost m a (texts cs) b) (sym (append-nil calls)) (most_whole laws a b _ printed);
+    kept = least_whole others x y _ kept held;
+    no_more_kept = subst (λ cs. HasAtMost k x (records cs) y) (sym (append-nil calls)) (most_whole others x y _ kept);
+    text_first = inl (most_whole others x y _ kept);
+  }
+
+-- nothing was written
+pub stand_first : {W T : Type 0} (m : Meaning W) (k : Meaning T) (texts records : List ReportCall → Text) → texts [] ≡ [] → records [] ≡ [] → (calls : List ReportCall) (old : W × T) → m.accepts old.0 [] old.0 → k.accepts old.1 [] old.1 →
+    m.is_delivered old.0 → k.is_delivered old.1 → StandAtOneCall m k texts records calls old old
+stand_first m k texts records none also calls old nothing kept delivered held = record {
+  before = [];
+  here = [];
+  rest = calls;
+  is = refl;
+  one = omega arith;
+  printed = record { mid = old.0; accepted = subst (λ t. m.accepts old.0 t old.0) (sym none) nothing; delivered = delivered; more = []; goes_on = inl nothing };
+  no_more_printed = inl (record { front = []; rest = texts []; whole = refl; accepted = nothing });
+  kept = record { mid = old.1; accepted = subst (λ t. k.accepts old.1 t old.1) (sym also) kept; delivered = held; more = []; goes_on = inl kept };
+  no_more_kept = inl (record { front = []; rest = records []; whole = refl; accepted = kept });
+  text_first = inl (inl (record { front = []; rest = records []; whole = refl; accepted = kept }));
+}
+
+-- so memory was refused before anything was
+pub none_begun : {W T : Type 0} (m : Meaning W) (k : Meaning T) (options : Options) (config : SceneConfig) (calls : List ReportCall) (held : W × T) → m.accepts held.0 [] held.0 → k.accepts held.1 [] held.1 → m.is_delivered held.0 → k.is_delivered held.1 →
+    AreBegun m k options held held config OutOfMemory calls
+none_begun m k options config calls held nothing also delivered stored = (
+  inr (inl refl),
+  record { begun = inr (inr (record { front = []; rest = _; whole = refl; accepted = nothing })); own = λ is. absurd (memory_no_device is); whole = λ is. absurd (memory_no_store is) },
+  record { begun = inr (inr (record { front = []; rest = _; whole = refl; accepted = also })); own = λ is. absurd (memory_no_store is); whole = λ is. absurd (memory_no_device is) },
+  λ there. stand_first m k _ _ refl refl calls held nothing also delivered stored,
+)
+
+-- where they stand at a call of some, they stand at it of more
+pub stand_longer : {W T : Type 0} {m : Meaning W} {k : Meaning T} {texts records : List ReportCall → Text} (calls more : List ReportCall) {old new : W × T} → StandAtOneCall m k texts records calls old new → StandAtOneCall m k texts records (calls ++ more) old new
+stand_longer calls more h = record {
+  before = h.before;
+  here = h.here;
+  rest = h.rest ++ more;
+  is = ap (λ cs. cs ++ more) h.is ∙ append_assoc h.before (h.here ++ h.rest) more ∙ ap (λ cs. h.before ++ cs) (append_assoc h.here h.rest more);
+  one = h.one;
+  printed = h.printed;
+  no_more_printed = h.no_more_printed;
+  kept = h.kept;
+  no_more_kept = h.no_more_kept;
+  text_first = h.text_first;
+}
 
 -- and such an error stops a report
 pub is_stop : (options : Options) (n : ℕ) (e : WriteEventError) → refusal_in e ≡ None → (e ≡ StoreIo → is_some (store_for options) ≡ true) → IsStop options (fault_at_call n e)
@@ -142,8 +257,9 @@ module _ {W T : Type 0} {m : Meaning W} {k : Meaning T} (laws : WriterLaws m) (o
   pub begins_no_more : (run : ParsedLines) → Prints m k options old new run → Begins m k options old new run OutOfMemory
   begins_no_more run = calls_so (λ calls h. (
     inr (inl refl),
-    whole_texts laws _ _ _ calls _ _ h.printed (λ is. h.delivered.0),
-    whole_texts others _ _ _ calls _ _ h.kept (λ is. h.delivered.1),
+    whole_texts laws _ _ _ calls _ _ h.printed memory_no_device (λ is. h.delivered.0),
+    whole_texts others _ _ _ calls _ _ h.kept memory_no_store (λ is. h.delivered.1),
+    λ there. stand_past laws others calls _ _ _ _ h.printed h.delivered.0 h.kept h.delivered.1,
   ))
 
   -- what stopped the report of a run stopped that of a longer one whose calls are all accepted
@@ -157,7 +273,7 @@ module _ {W T : Type 0} {m : Meaning W} {k : Meaning T} (laws : WriterLaws m) (o
         calls = h.calls ++ more;
         of_run = of_all;
         accepted = accepted (h.calls ++ more) of_all;
-        holds = (h.holds.0, longer_texts laws _ _ _ h.calls more t.rest t.is _ _ h.holds.1, longer_texts others _ _ _ h.calls more s.rest s.is _ _ h.holds.2);
+        holds = (h.holds.0, longer_texts laws _ _ _ h.calls more t.rest t.is _ _ h.holds.1, longer_texts others _ _ _ h.calls more s.rest s.is _ _ h.holds.2, λ there. stand_longer h.calls more (h.holds.3 there));
       }
 
 -- how a report ends by two writers it ends by others that have what these have

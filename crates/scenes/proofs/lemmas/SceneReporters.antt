@@ -17,7 +17,7 @@ use Rattle.scenes.specs.declared.outcome.RunOutcome.TheVariants as outcome
 use Rattle.scenes.specs.Reports.{IsReadyCall, ready_if, unloaded_for}
 use Rattle.scenes.proofs.lemmas.ReadyCalls.{more_if, none_ready, outcome_if, refusal_if, report_ready, stored_ready}
 use Rattle.scenes.proofs.lemmas.Refusals.{fails_behind, none_mapped, none_more, first_of, refusal_of_call, told_refusal, zip_after}
-use Rattle.scenes.proofs.lemmas.Prints.{begins_longer, begins_no_more, call_stopped, is_stop, last_next, prints_only}
+use Rattle.scenes.proofs.lemmas.Prints.{begins_longer, begins_no_more, call_stopped, is_stop, last_next, prints_only, stand_here}
 
 -- a store is there where its device failed
 store_there : {S : Type 0} (n : Meaning S) (options : Options) (old new : Option (Store S)) (text : Text) → config_of old ≡ store_for options → Stops Records (store_meaning n) old text StoreIo new → is_some (store_for options) ≡ true
@@ -121,6 +121,12 @@ module _ {W S : Type 0} {m : Meaning W} {n : Meaning S} (laws : WriterLaws m) (o
             call_stopped laws Report (last_next (report_of options run.config) before r.made _ text_is) _ _ _ whole.printed number error none promises.err.delivered (promises.err.stopped config past follows.stands),
             call_stopped (store-laws others) Records (last_next (stored_of options) before r.made _ record_is) _ _ _ whole.kept number error none
                 (λ is. subst (store_meaning n).is_delivered (sym (store_stops Io is)) whole.delivered.1) stops,
+            λ there. stand_here laws (store-laws others) calls before (r.made ∷ []) [] refl (omega arith) (text config past call) (stored_text config.store call) (sym text_is) (sym record_is)
+                _ _ _ _ _ _ whole.printed whole.delivered.0 whole.kept whole.delivered.1 error none (promises.err.stopped config past follows.stands) stops
+                (elim (promises.err.order config past follows.stands) [
+                  | inl same ↦ inl (subst ((store_meaning n).accepts start.reporter.store (stored_of options before)) (sym same) whole.kept)
+                  | inr told ↦ inr (laws.joins _ _ _ _ _ whole.printed told.0, told.1)
+                ]),
           );
         }))
 

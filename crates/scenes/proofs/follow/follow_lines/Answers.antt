@@ -46,4 +46,4 @@ loop-turn-preserved g c = record {
 
 pub returns-clause-ends : goal.returns-clause-ends
 returns-clause-ends g c = λ total all has begun start.
-    (tt, tt, reported_uncounted g.met.W.WriteStr.laws g.met.S.WriteStr.laws c.args.options.now all c.args.reporter.now c.loop-turn.reporter c.loop-turn.read c.loop-turn.more _ (c.loop-turn.invariant.keeps_up total all has begun start) c.args.options.now.file)
+    (tt, tt, reported_uncounted g.met.W.WriteStr.laws g.met.S.WriteStr.laws c.args.options.now all c.args.reporter.now c.loop-turn.reporter c.loop-turn.read c.loop-turn.more _ (c.loop-turn.invariant.keeps_up total all has begun start))

@@ -10,4 +10,4 @@ pub returns-in-Ok-clause-err : goal.returns-in-Ok-clause-err
 returns-in-Ok-clause-err g c = λ text known. c.follow_source.ensures.err 0 _ (text, c.in-Ok.ensures ∙ known, inl refl)
 
 pub returns-in-Err-clause-err : goal.returns-in-Err-clause-err
-returns-in-Err-clause-err g c = λ text known. nothing_stops device device c.args.options.now _ _ (Appends-nil _) (Appends-nil _) _ OutOfMemory refl
+returns-in-Err-clause-err g c = λ text known. nothing_stops device device c.args.options.now _ _ (Appends-nil _) (Appends-nil _) tt tt _ OutOfMemory refl

@@ -41,7 +41,7 @@ both g c total all known =
 
 pub returns-in-Err-clause-err : goal.returns-in-Err-clause-err
 returns-in-Err-clause-err g c = λ total all known.
-    rw (ap (λ x. x.0) c.in-Err.ensures.err, ap (λ x. x.1) c.in-Err.ensures.err) (nothing_stops device device c.args.options.now all _ (Appends-nil _) (Appends-nil _) _ OutOfMemory refl)
+    rw (ap (λ x. x.0) c.in-Err.ensures.err, ap (λ x. x.1) c.in-Err.ensures.err) (nothing_stops device device c.args.options.now all _ (Appends-nil _) (Appends-nil _) tt tt _ OutOfMemory refl)
 
 pub returns-in-Unused : goal.returns-in-Unused
 returns-in-Unused g c =

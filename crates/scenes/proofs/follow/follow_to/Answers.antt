@@ -6,7 +6,7 @@ use Rattle.scenes.proofs.follow.follow_to.Goals as goal
 
 pub returns-in-Err-clause-ends : goal.returns-in-Err-clause-ends
 returns-in-Err-clause-ends g c = λ total all known.
-    (tt, tt, nothing_stops g.W.WriteStr.meaning (store_meaning g.S.WriteStr.meaning) c.args.options.now all (c.args.writer.now, c.args.store) (g.met.W.WriteStr.laws.nothing _) ((store-laws g.met.S.WriteStr.laws).nothing _) _ c.in-Err.fault c.in-Err.ensures.err)
+    (tt, tt, nothing_stops g.W.WriteStr.meaning (store_meaning g.S.WriteStr.meaning) c.args.options.now all (c.args.writer.now, c.args.store) (g.met.W.WriteStr.laws.nothing _) ((store-laws g.met.S.WriteStr.laws).nothing _) c.requires.delivered c.requires.store_delivered _ c.in-Err.fault c.in-Err.ensures.err)
 
 pub returns-clause-ends : goal.returns-clause-ends
 returns-clause-ends g c = λ total all known.

@@ -1,7 +1,8 @@
 use Rattle.std.proofs.Common.{◌≡◌, ◌∙◌, Some, ap, rules, subst, refl}
-use Rattle.scenes.proofs.Common.{buffer_meaning, device, Reported, scene_lines, store_meaning, string_meaning}
+use Rattle.scenes.proofs.Common.{Appends-nil, buffer_meaning, device, Reported, scene_lines, store_meaning, string_meaning}
 use Rattle.scenes.proofs.lemmas.Devices.{both_begun, both_whole, delivered, same_there}
-use Rattle.scenes.proofs.lemmas.Prints.{moved, reported_so}
+use Rattle.scenes.proofs.lemmas.Prints.{moved, none_begun, reported_so}
+use Rattle.scenes.specs.Judged.{IsSceneAccepted}
 use Rattle.scenes.proofs.report.report_accepted.Given as given
 use Rattle.scenes.proofs.report.report_accepted.Goals as goal
 use Rattle.scenes.proofs.report.report_accepted.Goals.{After-into_inner-writer, After-into_inner-store_writer}
@@ -38,6 +39,17 @@ both g c =
     (reported_so run (both_whole options g.W.Write.contents g.S.Write.contents c.in-Ok.devices.0 made.result.1.now store.result c.in-Some.store out.1 empty run.config)
     (both_begun options g.W.Write.contents g.S.Write.contents c.in-Ok.devices.0 made.result.1.now store.result c.in-Some.store out.1 empty run) made.result.0
     (subst (λ y. Reported (buffer_meaning g.W.Write.contents) (store_meaning (buffer_meaning g.S.Write.contents)) options (c.in-Ok.devices.0, Some store.result) (made.result.1.now, y) run made.result.0) c.in-Some.is made.ensures.ends))
+
+pub returns-in-Err-clause-err : goal.returns-in-Err-clause-err
+returns-in-Err-clause-err g c =
+    let accepted : IsSceneAccepted c.judged.inside.options.now c.judged.inside.scene.now = search rules in
+    rw (← c.judged.view_is, ap (λ x. x.0) c.in-Err.ensures.err, ap (λ x. x.1) c.in-Err.ensures.err)
+    (record {
+      calls = accepted.calls;
+      of_run = accepted.of_scene;
+      accepted = accepted.accepted;
+      holds = none_begun device device c.judged.inside.options.now c.judged.inside.scene.now.config accepted.calls (g.W.Write.contents c.args.writer, g.S.Write.contents c.args.store_writer) (Appends-nil _) (Appends-nil _) tt tt;
+    })
 
 pub returns-in-Unused : goal.returns-in-Unused
 returns-in-Unused g c = let ends = alone g (goal.at.returns-in-Unused g c).After-into_inner-writer in rw (← c.judged.view_is) (record { ok = ends.0; err = ends.1; no_store = search rules })

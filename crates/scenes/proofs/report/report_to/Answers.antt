@@ -1,6 +1,22 @@
 use Rattle.std.proofs.Common.{ap}
+use Rattle.scenes.proofs.Common.{store-laws, store_meaning}
+use Rattle.scenes.proofs.lemmas.Prints.{none_begun}
 use Rattle.scenes.proofs.lemmas.SceneReporters.{reported_scene}
 use Rattle.scenes.proofs.report.report_to.Goals as goal
+
+pub returns-in-Err-clause-ends : goal.returns-in-Err-clause-ends
+returns-in-Err-clause-ends g c =
+    let accepted = c.requires.accepted in (
+      tt,
+      rw c.in-Err.ensures.err
+          (record {
+            calls = accepted.calls;
+            of_run = accepted.of_scene;
+            accepted = accepted.accepted;
+            holds = none_begun g.W.WriteStr.meaning (store_meaning g.S.WriteStr.meaning) c.args.options.now c.args.scene.now.config accepted.calls (c.args.writer.now, c.args.store) (g.met.W.WriteStr.laws.nothing _) ((store-laws g.met.S.WriteStr.laws).nothing _)
+                c.requires.delivered c.requires.store_delivered;
+          }),
+    )
 
 pub returns-clause-ends : goal.returns-clause-ends
 returns-clause-ends g c =

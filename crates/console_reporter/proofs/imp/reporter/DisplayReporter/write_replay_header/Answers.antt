@@ -60,7 +60,7 @@ returns-in-Err-flush_store g c =
       stopped = λ config past stands.
           stops_after g.W.WriteStr.meaning c.args.self.now.writer.now c.flush_store.new.self.writer.now (text config past (Header c.args.header.now)) c.in-Err-flush_store.fault c.store_error_of.result c.store_error_of.ensures.error (told config past stands);
       store_stopped = search rules;
-      order = λ config past stands. inr (told config past stands);
+      order = λ config past stands. inr (told config past stands, search rules);
       io = search rules;
       store_io = search rules;
       memory = search rules;
