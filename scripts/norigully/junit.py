@@ -25,15 +25,6 @@ INSIDE = {
 DEEPEST = 100
 
 
-def name_of(element):
-    return local(element.tag)
-
-
-def local(name):
-    """A name without its namespace."""
-    return name.rsplit("}", 1)[-1]
-
-
 class Tree:
     """Builds the elements of a file. What JUnit XML has no use for is refused where it begins, so nothing is expanded."""
 
@@ -43,18 +34,18 @@ class Tree:
         self.close = self.builder.close
 
     def start(self, tag, attributes):
-        name, within = local(tag), self.within[-1]
+        # Without its namespace.
+        name, within = tag.rsplit("}", 1)[-1], self.within[-1]
         if name not in INSIDE.get(within, ()):
             what = f"an element `{name}` in `{within}`" if within else f"the element `{name}` is no test suite"
             raise Bad(f"{self.file}: {what}")
         if len(self.within) > DEEPEST:
             raise Bad(f"{self.file}: suites in more than {DEEPEST} suites")
         self.within.append(name)
-        self.builder.start(tag, attributes)
+        self.builder.start(name, attributes)
 
-    def end(self, tag):
-        self.within.pop()
-        self.builder.end(tag)
+    def end(self, _tag):
+        self.builder.end(self.within.pop())
 
     def doctype(self, *_):
         raise Bad(f"{self.file}: a document type, which JUnit XML has no use for")
@@ -74,12 +65,12 @@ def root_of(file, text):
 
 
 def first(element, *names):
-    return next((it for it in element if name_of(it) in names), None)
+    return next((it for it in element if it.tag in names), None)
 
 
 def text_in(element, name):
     """The text of all such elements, or None where there is none: the stream was not captured."""
-    found = ["".join(it.itertext()) for it in element if name_of(it) == name]
+    found = ["".join(it.itertext()) for it in element if it.tag == name]
     return "".join(found) if found else None
 
 
@@ -98,7 +89,7 @@ def result_of(failure):
 
 def described(failure):
     """What a failure says: its text, which most tools begin with the message, else the message and the text."""
-    own = "".join(it for part in failure if name_of(part) == "stackTrace" for it in part.itertext())
+    own = "".join(it for part in failure if part.tag == "stackTrace" for it in part.itertext())
     body, message = (own or failure.text or "").strip("\n"), (failure.get("message") or "").strip("\n")
     return body if not message or message.split("\n")[0] in body else f"{message}\n{body}".strip("\n")
 
@@ -125,7 +116,7 @@ def attempts_of(case):
     others = [
         failed_attempt(it, seconds_of(it), text_in(it, "system-out"), text_in(it, "system-err"))
         for it in case
-        if name_of(it) in EARLIER
+        if it.tag in EARLIER
     ]
     out, err = text_in(case, "system-out"), text_in(case, "system-err")
     failure = first(case, "failure", "error")
@@ -139,9 +130,9 @@ def cases_in(element, suite):
     """(binary, name, case) of each test below an element. A test's binary is its class, else its suite; also its suite
     where the class is the test's whole name, as jest-junit and ctest write it."""
     for child in element:
-        if name_of(child) == "testsuite":
+        if child.tag == "testsuite":
             yield from cases_in(child, child.get("name") or suite)
-        elif name_of(child) == "testcase":
+        elif child.tag == "testcase":
             group, test = child.get("classname") or "", child.get("name") or ""
             yield (group if group != test else "") or suite or group, test, child
 
@@ -152,7 +143,7 @@ def is_skipped(case):
 
 
 def cases_of(root):
-    return cases_in(root, root.get("name")) if name_of(root) == "testsuite" else cases_in(root, None)
+    return cases_in(root, root.get("name")) if root.tag == "testsuite" else cases_in(root, None)
 
 
 def scene_of(texts):
