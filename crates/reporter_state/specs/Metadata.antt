@@ -1,25 +1,20 @@
 -- The decision about an output by what its event says beside it.
-use Rattle.std.specs.Prelude.{◌≡◌, Bool, ◌||◌, unwrap_or, if◌then◌else◌}
+use Rattle.std.specs.Prelude.{◌≡◌, Bool, ◌||◌}
 use Rattle.run_model.specs.Statuses.{is_success}
 use Rattle.run_model.specs.declared.output_event.OutputEventKind.{OutputEventKind}
 use Rattle.run_model.specs.declared.output_event.OutputEventKind.TheVariants as decided
 use Rattle.run_model.specs.declared.status.ExecutionResultDescription.{ExecutionResultDescription}
 use Rattle.run_names.specs.declared.config.TestOutputDisplay.{TestOutputDisplay}
 use Rattle.text_parts.specs.Finish.{is_ever_shown}
-use Rattle.unit_report.specs.Overrides.{failure_display}
-use Rattle.unit_report.specs.declared.unit_output.overrides.OutputDisplayOverrides.{OutputDisplayOverrides}
+use Rattle.unit_report.specs.Overrides.{display_when}
 use Rattle.reporter_state.specs.Loads.{is_asked_of, loads_attempt, loads_script}
 use Rattle.reporter_state.specs.declared.decider.OutputLoadDecider.{OutputLoadDecider}
 use Rattle.reporter_state.specs.declared.decider.OutputMetadata.{OutputMetadata}
 use Rattle.reporter_state.specs.declared.decider.OutputMetadata.TheVariants.{SetupScriptFinished, TestAttemptFailedWillRetry, TestFinished}
 
--- the setting of a test whose last attempt ended so
-abbrev pub display_by : OutputDisplayOverrides → TestOutputDisplay → TestOutputDisplay → ExecutionResultDescription → TestOutputDisplay
-display_by o success failure result = if is_success result then unwrap_or o.force_success_output success else failure_display o failure result
-
--- of such a test: where that setting shows output, at once or at the end of the run, or a store is asked to keep it
+-- of a test whose last attempt ended so: where its setting shows output, at once or at the end of the run, or a store is asked to keep it
 abbrev pub loads_last : OutputLoadDecider → TestOutputDisplay → TestOutputDisplay → ExecutionResultDescription → Bool
-loads_last d success failure result = is_ever_shown (display_by d.overrides success failure result) || is_asked_of d.store (is_success result)
+loads_last d success failure result = is_ever_shown (display_when d.overrides (is_success result) success failure result) || is_asked_of d.store (is_success result)
 
 -- of an event with this metadata
 abbrev pub loads_by_metadata : OutputLoadDecider → OutputMetadata → Bool

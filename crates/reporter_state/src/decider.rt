@@ -199,13 +199,9 @@ impl OutputLoadDecider {
         ensures { result ≡ loads_last self.now success_output failure_output last_result.now }
     {
         let is_success = last_result.is_success();
-        let display = if is_success {
-            self.overrides.success_output(success_output)
-        } else if matches!(last_result, ExecutionResultDescription::ExecFail) {
-            self.overrides.exec_fail_output(failure_output)
-        } else {
-            self.overrides.failure_output(failure_output)
-        };
+        let display = self
+            .overrides
+            .resolve(is_success, success_output, failure_output, last_result);
         display.is_immediate() || display.is_final() || self.stores_output(is_success)
     }
 

@@ -1,15 +1,15 @@
 //! Which outputs a replay loads: what the decider answers of recorded events, and of the events of a run that is going on, which a
 //! reporter refuses where it needs an output that was left unread.
 
-use crate::testing::{finished, line_builder, retried, script_finished};
+use crate::testing::{finished, line_builder, retried, retried_success, script_finished};
 use console_reporter::imp::{
-    OutputLoadDecider, ReportCall, StoreConfig, Surroundings, WriteEventError,
+    OutputLoadDecider, ReportCall, StoreConfig, Surroundings, WriteEventError, first_refused,
 };
 use run_model::config::TestOutputDisplay;
 use run_model::event::TestEvent;
 use run_model::level::StatusLevel;
 use run_model::memory::OutOfMemory;
-use run_model::name::OwnedTestInstanceId;
+use run_model::name::{OwnedTestInstanceId, TestInstanceId};
 use run_model::output::{ChildExecutionOutputDescription, LiveSpec};
 use run_model::output_event::LoadOutput;
 use run_model::status::{
@@ -159,5 +159,41 @@ fn setup_scripts(rt: HostRuntime) -> Result<(), Fail> {
         let event = leaky_script(rt.alloc(), leak)?;
         assert!(rt; is_answered(rt.alloc(), StatusLevel::Pass, None, event, want)?);
     }
+    Ok(())
+}
+
+// A test that failed, the same with its output left unread, and an attempt that succeeded and is said to be retried.
+fn calls_to_refuse<'a>(
+    alloc: Global,
+    test: TestInstanceId<'a>,
+) -> Result<[ReportCall<'a>; 3], OutOfMemory> {
+    let displays = [NEVER, IMMEDIATE];
+    let accepted = finished(test, displays, Outcome::Failed.statuses(alloc)?);
+    let mut unread = finished(test, displays, Outcome::Failed.statuses(alloc)?);
+    unread.unload();
+    Ok([
+        ReportCall::Event(accepted),
+        ReportCall::Event(unread),
+        ReportCall::Event(retried_success(test)),
+    ])
+}
+
+#[test]
+fn the_first_call_that_is_refused(rt: HostRuntime) -> Result<(), Fail> {
+    let test = OwnedTestInstanceId::new(rt.alloc(), "a", "t1")?;
+    let builder = line_builder(rt.alloc(), StatusLevel::Pass)?;
+    let decider = builder.output_load_decider(Surroundings::default(), None);
+    let calls = calls_to_refuse(rt.alloc(), test.as_ref())?;
+    let all = &calls[..];
+    let found = [
+        first_refused(&decider, &all[..1]),
+        first_refused(&decider, all),
+        first_refused(&decider, &all[2..]),
+    ];
+    mem::forget(calls);
+    let [of_accepted, of_all, of_retried] = found;
+    assert_eq!(rt; of_accepted, None);
+    assert_eq!(rt; of_all, Some(1));
+    assert_eq!(rt; of_retried, Some(0));
     Ok(())
 }

@@ -20,7 +20,10 @@ abbrev pub failure_display : OutputDisplayOverrides → TestOutputDisplay → Ex
 failure_display o failure result =
     if is_exec_fail result then unwrap_or o.force_exec_fail_output failure else unwrap_or o.force_failure_output failure
 
--- the setting of a finished test: that of successes also where it is flaky and counts as failed
+-- the setting of a test, by whether it succeeded and by its last result
+abbrev pub display_when : OutputDisplayOverrides → Bool → TestOutputDisplay → TestOutputDisplay → ExecutionResultDescription → TestOutputDisplay
+display_when o is_success success failure result = if is_success then unwrap_or o.force_success_output success else failure_display o failure result
+
+-- of a finished test: that of successes also where it is flaky and counts as failed
 abbrev pub display_for : OutputDisplayOverrides → TestOutputDisplay → TestOutputDisplay → StatusSummary → TestOutputDisplay
-display_for o success failure x =
-    if is_success_case x.case then unwrap_or o.force_success_output success else failure_display o failure x.result
+display_for o success failure x = display_when o (is_success_case x.case) success failure x.result

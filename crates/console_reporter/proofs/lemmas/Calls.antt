@@ -88,23 +88,23 @@ console_not_store Failed is h = is
 console_not_store StoreIo is h = is
 
 -- where the report of an event stops, the call breaks, and its record was not begun
-module _ {W S : Type 0} (m : Meaning W) (n : Meaning S) (laws : WriterLaws (store_meaning n)) (old new : DisplayReporter W S) (event : TestEvent) (r : Result (Unit {0}) WriteEventError) (error : WriteEventError) (is : r ≡ Err error) where
+module _ {W S : Type 0} (m : Meaning W) (n : Meaning S) (laws : WriterLaws (store_meaning n)) (old new : DisplayReporter W S) (event : TestEvent) where
   abbrev IsStopped : WriteEventError → Type 0
   IsStopped e = (config : Configuration) (past : List ReportCall) → StandsAfter config past old → Stops Report m old.writer.now (text config past (Event event)) e new.writer.now
 
-  pub report_breaks : new.store ≡ old.store → IfErr r IsOfConsole → IfErr r IsStopped → (IsErrOf r Io → m.failures new.writer.now ≡ successor (m.failures old.writer.now)) →
-      (IsErrOf r Memory → m.may_refuse old.writer.now ⊎ MayGrow old event) → Breaks m n old (Some (Event event)) error new
-  report_breaks store console stops io memory =
-      let of_console : IsOfConsole error = subst (λ x. IfErr x IsOfConsole) is console in
-      record {
-        stopped = subst (λ x. IfErr x IsStopped) is stops;
-        store_stopped = λ config past stands. record_untouched laws _ _ (stored_text config.store (Event event)) error of_console store;
-        order = λ config past stands. inl store;
-        io = λ same. io (is ∙ ap Err same);
-        store_io = λ same. absurd (console_not_store error of_console (ap Err same));
-        memory = λ same. (elim (memory (is ∙ ap Err same)) [ inl a ↦ inl a | inr b ↦ inr (inl b) ]);
-        delivered = λ same. absurd (console_not_store error of_console (ap Err same));
-      }
+  pub report_breaks : (r : Result (Unit {0}) WriteEventError) → new.store ≡ old.store → IfErr r IsOfConsole → IfErr r IsStopped →
+      (IsErrOf r Io → m.failures new.writer.now ≡ successor (m.failures old.writer.now)) → (IsErrOf r Memory → m.may_refuse old.writer.now ⊎ MayGrow old event) →
+      IfErr r (λ e. Breaks m n old (Some (Event event)) e new)
+  report_breaks (Ok told) store console stops io memory = tt
+  report_breaks (Err error) store console stops io memory = record {
+    stopped = stops;
+    store_stopped = λ config past stands. record_untouched laws _ _ (stored_text config.store (Event event)) error console store;
+    order = λ config past stands. inl store;
+    io = λ same. io (ap Err same);
+    store_io = λ same. absurd (console_not_store error console (ap Err same));
+    memory = λ same. (elim (memory (ap Err same)) [ inl a ↦ inl a | inr b ↦ inr (inl b) ]);
+    delivered = λ same. absurd (console_not_store error console (ap Err same));
+  }
 
 -- what holds after a run for each configuration after which its reporter stood holds for this one
 module _ {W S : Type 0} (config : Configuration) (reporter : DisplayReporter W S) (stands : StandsAfter config [] reporter) where

@@ -1,10 +1,11 @@
 -- What each call promises, by how it ends (for `DisplayReporter::write_event`, `DisplayReporter::write_replay_header`,
 -- `DisplayReporter::copy_prefix`, `DisplayReporter::finish`).
-use Rattle.std.proofs.Common.{◌≡◌, ◌⊎◌, Bool, true, false, inl, inr, List, [], Option, None, Some, Ok, Err, refl, sym, subst, ◌∙◌}
+use Rattle.std.proofs.Common.{◌≡◌, ◌⊎◌, Bool, true, false, inl, inr, List, [], Option, None, Some, IfSome, Ok, Err, refl, ap, ap₂, sym, subst, ◌∙◌}
 use Rattle.std.specs.Option.{is_some}
 use Rattle.plain_text.specs.Texts.{Text}
 use Rattle.plain_text.specs.Writer.{Meaning, WriterLaws}
 use Rattle.console_reporter.specs.Configuration.{Configuration}
+use Rattle.console_reporter.specs.OptionalStore.{config_of}
 use Rattle.console_reporter.specs.HeldState.{HasFailed, MayGrowIn, StandsAfter}
 use Rattle.console_reporter.specs.Outcomes.{HasFront}
 use Rattle.console_reporter.specs.Telling.{AreDelivered, Breaks, IsDelivered, IsNeverRefused, IsSameReporter, Promises, Tells, refusal_for}
@@ -12,7 +13,9 @@ use Rattle.console_reporter.proofs.lemmas.Refusals.{breaks_refused, not_refused,
 use Rattle.console_reporter.proofs.lemmas.Stores.{same-store, store-laws}
 use Rattle.console_reporter.proofs.lemmas.Texts.{of_lines-told}
 use Rattle.run_model.specs.declared.call.ReportCall.{ReportCall}
-use Rattle.reporter_state.specs.Refusals.{refusal_in}
+use Rattle.run_model.specs.declared.call.ReportCall.TheVariants.{Event}
+use Rattle.run_model.specs.declared.event.TestEvent.{TestEvent}
+use Rattle.reporter_state.specs.Refusals.{decider_by, event_refusal, refusal_in}
 use Rattle.reporter_state.specs.declared.faults.WriteEventError.{WriteEventError}
 use Rattle.reporter_state.specs.declared.faults.WriteEventError.TheVariants.{Failed, Io, Memory, StoreIo}
 use Rattle.console_reporter.specs.declared.imp.reporter.DisplayReporter.{DisplayReporter}
@@ -133,3 +136,17 @@ memory_broken {W} {S} {m} {n} laws store_laws old new call grows same same_store
   memory = λ is. inr (inl grows);
   delivered = λ is. absurd (memory_not_store_io is);
 }
+
+-- an event that a reporter accepts is refused by no configuration after which it stands
+pub event_accepted : {W S : Type 0} (reporter : DisplayReporter W S) (event : TestEvent) → event_refusal (decider_by reporter.state.settings (config_of reporter.store)) event.kind ≡ None →
+    (config : Configuration) (past : List ReportCall) → StandsAfter config past reporter → None ≡ refusal_for config (Some (Event event))
+event_accepted reporter event none config past stands = sym none ∙ ap (λ d. event_refusal d event.kind) (ap₂ decider_by stands.settings stands.store)
+
+-- and one that it refuses changes nothing
+pub event_refused : {W S : Type 0} (m : Meaning W) (n : Meaning S) (reporter : DisplayReporter W S) (event : TestEvent) (refusal : Option WriteEventError) →
+    reporter.state.has_failed ≡ false → IfSome refusal (λ e. refusal_in e ≡ Some e) → refusal ≡ event_refusal (decider_by reporter.state.settings (config_of reporter.store)) event.kind →
+    IfSome refusal (λ e. Promises m n reporter (Some (Event event)) (Err e) reporter)
+event_refused m n reporter event None works told is = tt
+event_refused m n reporter event (Some e) works told is =
+    promise_refused m n reporter reporter (Some (Event event)) e works told (λ never. never)
+    (λ config past stands. is ∙ ap (λ d. event_refusal d event.kind) (ap₂ decider_by stands.settings stands.store))

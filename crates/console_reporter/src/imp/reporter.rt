@@ -1,6 +1,6 @@
 //! The calls of a reporter.
 
-ghost use Rattle.std.specs.Prelude.{◌≡◌, ◌≤◌, ◌⊎◌, List, [], ◌∷◌, OnOk, IfErr, IsErrOf, Err, None, Some, length, reverse, slice_get, take, false};
+ghost use Rattle.std.specs.Prelude.{◌≡◌, ◌≤◌, ◌⊎◌, List, [], ◌∷◌, OnOk, IfErr, IfSome, IsErrOf, Err, None, Some, length, reverse, slice_get, take, false};
 ghost use Rattle.std.specs.Option.{option_map};
 ghost use Rattle.run_names.specs.Levels.{reason_rank};
 ghost use Rattle.plain_text.specs.Writer.{Puts, successor};
@@ -9,7 +9,7 @@ ghost use Rattle.run_text.specs.Header.{replay_header_text};
 ghost use Rattle.run_model.specs.declared.call.ReportCall.{ReportCall};
 ghost use Rattle.reporter_state.specs.declared.faults.WriteEventError.{WriteEventError};
 ghost use Rattle.console_reporter.specs.Configuration.{Configuration, settings_of};
-ghost use Rattle.reporter_state.specs.Refusals.{decider_by};
+ghost use Rattle.reporter_state.specs.Refusals.{decider_by, event_refusal};
 ghost use Rattle.console_reporter.specs.Accepted.{AreAccepted, decider_of};
 ghost use Rattle.reporter_state.specs.Effects.{IsFinishOf};
 ghost use Rattle.reporter_state.specs.Loads.{lacks_output};
@@ -118,13 +118,8 @@ impl<'a, W: WriteStr, S: WriteStr> DisplayReporter<'a, W, S> {
     pub fn write_event(&mut self, event: &TestEvent<'_>) -> Result<(), WriteEventError>
         ensures { Promises W.meaning S.meaning self.old (Some (ReportCall.Event event.now)) result self.new }
     {
-        if self.state.has_failed {
-            return Err(WriteEventError::Failed);
-        }
-        let store = self.store_config();
-        let decider = OutputLoadDecider::of_settings(&self.state.settings, store);
-        if let Some(refusal) = decider.refusal_of(event) {
-            return Err(refusal);
+        if let Some(error) = self.early_error(event) {
+            return Err(error);
         }
         match self.report_and_store(event) {
             Ok(()) => Ok(()),
@@ -133,6 +128,29 @@ impl<'a, W: WriteStr, S: WriteStr> DisplayReporter<'a, W, S> {
                 Err(error)
             }
         }
+    }
+
+    // The error that a call returns before it does anything, if there is one: the reporter has failed, or the event is refused.
+    fn early_error(&self, event: &TestEvent<'_>) -> Option<WriteEventError>
+        ensures kept { IfSome result (λ e. Promises W.meaning S.meaning self.now (Some (ReportCall.Event event.now)) (Err e) self.now) }
+        ensures works { result ≡ None → self.now.state.has_failed ≡ false }
+        ensures accepted { result ≡ None → event_refusal (decider_by self.now.state.settings (config_of self.now.store)) event.now.kind ≡ None }
+        ensures loaded { result ≡ None → lacks_output (decider_by self.now.state.settings (config_of self.now.store)) event.now.kind ≡ false }
+    {
+        if self.state.has_failed {
+            return Some(WriteEventError::Failed);
+        }
+        self.refusal_of(event)
+    }
+
+    // Why an event is refused, if it is.
+    fn refusal_of(&self, event: &TestEvent<'_>) -> Option<WriteEventError>
+        ensures refusal { result ≡ event_refusal (decider_by self.now.state.settings (config_of self.now.store)) event.now.kind }
+        ensures told { IfSome result (λ e. refusal_in e ≡ Some e) }
+        ensures accepted { result ≡ None → lacks_output (decider_by self.now.state.settings (config_of self.now.store)) event.now.kind ≡ false }
+    {
+        let decider = self.output_load_decider();
+        decider.refusal_of(event)
     }
 
     // Reports an event, and then writes its record and delivers that.
@@ -144,7 +162,30 @@ impl<'a, W: WriteStr, S: WriteStr> DisplayReporter<'a, W, S> {
         ensures err { IfErr result (λ e. Breaks W.meaning S.meaning self.old (Some (ReportCall.Event event.now)) e self.new) }
         ensures unrefused { IfErr result (λ e. refusal_in e ≡ None) }
     {
-        let told = match &event.kind {
+        if let Err(error) = self.report(event) {
+            return Err(error);
+        }
+        match self.deliver_record(event) {
+            Ok(()) => Ok(()),
+            Err(fault) => Err(store_error_of(fault)),
+        }
+    }
+
+    // Reports an event: looks at a test that it finishes once, for its text and its entry.
+    fn report(&mut self, event: &TestEvent<'_>) -> Result<(), WriteEventError>
+        requires { lacks_output (decider_by self.old.state.settings None) event.now.kind ≡ false }
+        ensures same_writer { IsSameWriter self.old self.new }
+        ensures store { self.new.store ≡ self.old.store }
+        ensures settings { self.new.state.settings ≡ self.old.state.settings }
+        ensures accepted { OnOk result ((config : Configuration) (past : List ReportCall) → StandsAfter config past self.old →
+            W.meaning.accepts self.old.writer.now (text config past (ReportCall.Event event.now)) self.new.writer.now) }
+        ensures stands { OnOk result ((config : Configuration) (past : List ReportCall) → StandsAfter config past self.old →
+            StandsAfter config (ReportCall.Event event.now ∷ past) self.new) }
+        ensures delivered { OnOk result (W.meaning.is_delivered self.new.writer.now) }
+        ensures err { IfErr result (λ e. Breaks W.meaning S.meaning self.old (Some (ReportCall.Event event.now)) e self.new) }
+        ensures unrefused { IfErr result (λ e. refusal_in e ≡ None) }
+    {
+        match &event.kind {
             TestEventKind::TestFinished {
                 stress_index,
                 test_instance: test,
@@ -162,13 +203,6 @@ impl<'a, W: WriteStr, S: WriteStr> DisplayReporter<'a, W, S> {
                 self.report_event(event, Some(&finished))
             }
             _ => self.report_event(event, None),
-        };
-        if let Err(error) = told {
-            return Err(error);
-        }
-        match self.deliver_record(event) {
-            Ok(()) => Ok(()),
-            Err(fault) => Err(store_error_of(fault)),
         }
     }
 

@@ -2,7 +2,7 @@
 
 ghost use Rattle.std.specs.Prelude.{◌≡◌, unwrap_or};
 ghost use Rattle.run_model.specs.Statuses.{described_summary};
-ghost use Rattle.unit_report.specs.Overrides.{display_for, failure_display};
+ghost use Rattle.unit_report.specs.Overrides.{display_for, display_when};
 
 use run_model::config::TestOutputDisplay;
 use run_model::output::OutputSpec;
@@ -52,21 +52,28 @@ impl OutputDisplayOverrides {
     ) -> TestOutputDisplay
         ensures { result ≡ display_for self.now success_output failure_output (described_summary describe.now) }
     {
-        if describe.is_success_for_output() {
-            self.success_output(success_output)
-        } else {
-            self.resolve_failure(failure_output, &describe.last_status().result)
-        }
+        self.resolve(
+            describe.is_success_for_output(),
+            success_output,
+            failure_output,
+            &describe.last_status().result,
+        )
     }
 
-    // When the output of a test with this last result is shown.
-    fn resolve_failure(
+    /// When the output of a test is shown, from whether its last attempt succeeded and how that ended: all that is known of a
+    /// test whose attempts are not there.
+    pub fn resolve(
         &self,
+        is_success: bool,
+        success_output: TestOutputDisplay,
         failure_output: TestOutputDisplay,
         last_result: &ExecutionResultDescription,
     ) -> TestOutputDisplay
-        ensures { result ≡ failure_display self.now failure_output last_result.now }
+        ensures { result ≡ display_when self.now is_success success_output failure_output last_result.now }
     {
+        if is_success {
+            return self.success_output(success_output);
+        }
         match last_result {
             ExecutionResultDescription::ExecFail => self.exec_fail_output(failure_output),
             ExecutionResultDescription::Pass
