@@ -89,7 +89,7 @@ least_there {S} n c d t h = by h.mid h.accepted h.delivered h.goes_on
     by (Some x) accepted delivered (inl g) = record { mid = x.writer.now; accepted = accepted; delivered = delivered; more = h.more; goes_on = inl g }
     by (Some x) accepted delivered (inr g) = record { mid = x.writer.now; accepted = accepted; delivered = delivered; more = h.more; goes_on = inr (g.0, g.1) }
 
--- two devices stand where two buffers do
+-- two devices have come to the call that their buffers have come to
 pub stand_there : {W S : Type 0} (contents : W → Option (List ℕ)) (stored_in : S → Option (List ℕ)) (a b : TextBuffer W) (c d : TextBuffer S) → a.pending ≡ [] → c.pending ≡ [] → (texts records : List ReportCall → Text) (calls : List ReportCall) →
     StandAtOneCall (buffer_meaning contents) (buffer_meaning stored_in) texts records calls (a, c) (b, d) → StandAtOneCall device device texts records calls (contents a.writer, stored_in c.writer) (contents b.writer, stored_in d.writer)
 stand_there contents stored_in a b c d none empty texts records calls h = record {

@@ -301,7 +301,7 @@ module _ (options : Options) (config : SceneConfig) (calls : List ReportCall) (a
       alone_begun options off (contents a.writer) (contents b.writer) held config calls (fault_at_call n e) (is_stop options n e no_refusal (λ is. absurd (no_store is)))
       (begun_here contents a b empty _ (report_of options config calls) (printed (λ is. absurd (no_store is))).begun)
 
-  -- where the two stand
+  -- the call that both have come to
   both_stand : {S : Type 0} (stored_in : S → Option (List ℕ)) (c d : TextBuffer S) → c.pending ≡ [] →
       (kept : (mid : TextBuffer S) × BufferAccepts stored_in c (stored (store_for options) (past_at calls i)) mid × Stops Records (buffer_meaning stored_in) mid (stored_at (store_for options) calls i) e d × (a.pending ≡ [] → c.pending ≡ [] → mid.pending ≡ [])) →
       Held → BufferAccepts stored_in c (stored (store_for options) (past_at calls i)) d ⊎ (BufferAccepts contents a (report (configuration_for options config) (past_at calls i) ++ text_at (configuration_for options config) calls i) b × (b.pending ≡ [])) →

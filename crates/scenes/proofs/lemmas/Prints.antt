@@ -156,7 +156,7 @@ module _ {S : Type 0} {m : Meaning S} (laws : WriterLaws m) where
     most_stopped Report StoreIo none stops = most_whole a c (had ++ more) (laws.joins a b c had more before stops)
     most_stopped Records Io none stops = inl (record { front = had; rest = more; whole = refl; accepted = subst (m.accepts a had) (sym stops) before })
 
--- where two writers stand
+-- the call that two writers have come to
 module _ {W T : Type 0} {m : Meaning W} {k : Meaning T} (laws : WriterLaws m) (others : WriterLaws k) {texts records : List ReportCall → Text} where
   -- an error stopped the call here
   pub stand_here : (calls before here rest : List ReportCall) → calls ≡ before ++ (here ++ rest) → length here ≤ 1 → (text record_text : Text) → texts (before ++ here) ≡ texts before ++ text → records (before ++ here) ≡ records before ++ record_text →
@@ -217,7 +217,7 @@ none_begun m k options config calls held nothing also delivered stored = (
   λ there. stand_first m k _ _ refl refl calls held nothing also delivered stored,
 )
 
--- where they stand at a call of some, they stand at it of more
+-- the call is among more calls, too
 pub stand_longer : {W T : Type 0} {m : Meaning W} {k : Meaning T} {texts records : List ReportCall → Text} (calls more : List ReportCall) {old new : W × T} → StandAtOneCall m k texts records calls old new → StandAtOneCall m k texts records (calls ++ more) old new
 stand_longer calls more h = record {
   before = h.before;
