@@ -1,3 +1,4 @@
+pub mod EarlierOutputs
 pub mod Fields
 pub mod Inline
 pub mod LeftLines

@@ -1,5 +1,5 @@
 -- The event that a replay makes of one whose outputs are stored.
-use Rattle.std.specs.Prelude.{◌≡◌, ℕ, ◌+◌, List, [], ◌∷◌, length, Bool, true, not, nat_le, if◌then◌else◌, Option, None, Some, Result, Ok, Err, ⊤}
+use Rattle.std.specs.Prelude.{◌≡◌, ◌==◌, ℕ, ◌+◌, List, [], ◌∷◌, length, Bool, true, not, nat_le, if◌then◌else◌, Option, None, Some, Result, Ok, Err, ⊤}
 use Rattle.std.specs.Option.{is_some, option_or}
 use Rattle.run_model.specs.declared.output.ChildOutputDescription.{ChildOutputDescription}
 use Rattle.run_model.specs.declared.output.ChildOutputDescription.TheVariants as captured
@@ -19,6 +19,7 @@ use Rattle.scene_fields.specs.declared.stored.StreamField.TheVariants.{First, Se
 use Rattle.reporter_state.specs.declared.decider.OutputLoadDecider.{OutputLoadDecider}
 use Rattle.scene_events.specs.Loads.{event_with}
 use Rattle.scene_events.specs.declared.scene.event.SceneEvent.{SceneEvent}
+use Rattle.scene_events.specs.declared.scene.event.SceneEvent.TheVariants as scene
 use Rattle.scene_fields.specs.declared.fault.LineFault.{LineFault}
 use Rattle.scene_fields.specs.declared.fault.LineFault.TheVariants.{BadField}
 use Rattle.recorded.specs.Skips.{skips}
@@ -80,12 +81,30 @@ abbrev pub unless_bad : Option ℕ → Result SceneEvent LineFault → Result Sc
 unless_bad (Some field) event = Err (BadField field)
 unless_bad None event = event
 
--- what a replay makes of an event: its outputs must be there, and where its report shows them, they are in it, and must be those that were
--- recorded
+-- The place whose output alone a replay loads: of a test that has finished that of its last attempt, since no report and no record depends on
+-- what the attempts before it wrote. Of another event it loads all outputs.
+abbrev pub only_place : SceneEvent → Option ℕ
+only_place (scene.TestFinished e) = Some (length e.attempts.earlier)
+only_place other = None
+
+abbrev pub is_wanted : Option ℕ → PlacedOutput → Bool
+is_wanted None p = true
+is_wanted (Some place) p = p.place == place
+
+-- those of these outputs that it loads
+abbrev pub wanted : Option ℕ → List PlacedOutput → List PlacedOutput
+wanted only [] = []
+wanted only (p ∷ ps) = if is_wanted only p then p ∷ wanted only ps else wanted only ps
+
+abbrev pub wanted_of : SceneEvent → List PlacedOutput → List PlacedOutput
+wanted_of event stored = wanted (only_place event) stored
+
+-- What a replay makes of an event: its outputs must all be there. Where its report shows them, those that it loads are in it, and must be
+-- those that were recorded.
 unfoldable pub event_replayed : List ℕ → OutputLoadDecider → List PlacedOutput → SceneEvent → Result SceneEvent LineFault
 event_replayed all d stored event =
     unless_bad (first_field_not (is_there all) stored)
-    (if skips d event then Ok event else unless_bad (first_field_not (is_undamaged all) stored) (Ok (event_inline all stored event)))
+    (if skips d event then Ok event else unless_bad (first_field_not (is_undamaged all) (wanted_of event stored)) (Ok (event_inline all (wanted_of event stored) event)))
 
 -- that was made, or is the fault, unless the outputs cannot be read or memory was refused
 abbrev pub IsReplayed : List ℕ → OutputLoadDecider → List PlacedOutput → SceneEvent → Result ⊤ LoadEventFault → SceneEvent → Type 0
@@ -106,6 +125,6 @@ abbrev pub outputs_len : List PlacedOutput → ℕ
 outputs_len [] = 0
 outputs_len (p ∷ ps) = output_len p.output + outputs_len ps
 
--- how many bytes are read for an event: all of its outputs, or none. No output is looked at
+-- how many bytes are read for an event: those of the outputs that are loaded, or none. No output is looked at
 abbrev pub needed_of : OutputLoadDecider → SceneEvent → List PlacedOutput → ℕ
-needed_of d event stored = if skips d event then 0 else outputs_len stored
+needed_of d event stored = if skips d event then 0 else outputs_len (wanted_of event stored)

@@ -2,7 +2,7 @@
 
 ghost use Rattle.std.specs.Prelude.{◌≡◌, ◌≤◌, ◌-◌, ◌^◌, IfOk, IfSome, OnOk};
 ghost use Rattle.recorded.specs.Outputs.{counted};
-ghost use Rattle.recorded.specs.Events.{IsFirstBad, IsReplayed, event_inline, field_not, first_field_not, is_there, is_undamaged, needed_of, output_inline, output_len, outputs_len, stream_field_not};
+ghost use Rattle.recorded.specs.Events.{IsFirstBad, IsReplayed, event_inline, field_not, first_field_not, is_there, is_undamaged, is_wanted, needed_of, only_place, output_inline, output_len, outputs_len, stream_field_not, wanted};
 ghost use Rattle.recorded.specs.Skips.{skips};
 ghost use Rattle.scene_events.specs.Loads.{event_with};
 
@@ -26,10 +26,11 @@ pub struct LoadEventFault {
 }
 
 /// Puts the stored outputs of an event into it, if its report shows them: the decider says so by how its unit ended and by the settings, and
-/// no output is read for the answer. Of an answer of a unit all is loaded, since no decider is asked about it. Where they are skipped, the
-/// event stays as it is, and nothing is read.
+/// no output is read for that. Of a test that has finished it is the output of the last attempt alone, since nothing shows what those before
+/// it wrote. What a unit wrote that is asked for its state is always loaded, since no decider is asked about it. Where the outputs are skipped,
+/// the event stays as it is, and nothing is read.
 ///
-/// Every output must be there, also one that is skipped. After an error the event is not to be used: some of its outputs may be in it.
+/// Every output must be there, also one that is not loaded. After an error the event is not to be used: some of its outputs may be in it.
 ///
 /// ```
 /// use scene_events::scene::event::SceneEvent;
@@ -56,7 +57,18 @@ pub fn load_outputs<O: ReadAt + Drop>(
     if skips(decider, event) {
         return Ok(());
     }
-    load_all(alloc, stored, outputs, event)
+    let only = only_place(event);
+    load_wanted(alloc, stored, only, outputs, event)
+}
+
+// The place whose output alone is loaded: of a test that has finished that of its last attempt. Of another event all are loaded.
+fn only_place(event: &SceneEvent) -> Option<usize>
+    ensures { result ≡ only_place event.now }
+{
+    match event {
+        SceneEvent::TestFinished(finish) => Some(finish.get().attempts.last_place()),
+        _ => None,
+    }
 }
 
 // Whether the decider skips the outputs of an event, by what the event says beside them. Of others, as of a unit's answer, it is not asked.
@@ -148,24 +160,37 @@ fn is_there<O: ReadAt + Drop>(
     }
 }
 
-// Puts all stored outputs into an event.
-fn load_all<O: ReadAt + Drop>(
+// Puts stored outputs into an event: all, or that at this place alone.
+fn load_wanted<O: ReadAt + Drop>(
     alloc: Global,
     stored: &[PlacedOutput],
+    only: Option<usize>,
     outputs: &mut RecordedOutputs<O>,
     event: &mut SceneEvent,
 ) -> Result<(), LoadEventFault>
     requires { O.count outputs.old.source ≤ 2 ^ 64 - 1 }
-    ensures undamaged { IfSome (O.recorded outputs.old.source) (λ all. IsFirstBad (first_field_not (is_undamaged all) stored.now) result) }
-    ensures loaded { IfSome (O.recorded outputs.old.source) (λ all. OnOk result (event.new ≡ event_inline all stored.now event.old)) }
+    ensures undamaged { IfSome (O.recorded outputs.old.source) (λ all. IsFirstBad (first_field_not (is_undamaged all) (wanted only stored.now)) result) }
+    ensures loaded { IfSome (O.recorded outputs.old.source) (λ all. OnOk result (event.new ≡ event_inline all (wanted only stored.now) event.old)) }
     ensures kept { O.recorded outputs.new.source ≡ O.recorded outputs.old.source }
-    ensures count { OnOk result (O.count outputs.new.source ≡ counted (O.count outputs.old.source) (outputs_len stored.now)) }
-    ensures most { O.count outputs.new.source ≤ counted (O.count outputs.old.source) (outputs_len stored.now) }
+    ensures count { OnOk result (O.count outputs.new.source ≡ counted (O.count outputs.old.source) (outputs_len (wanted only stored.now))) }
+    ensures most { O.count outputs.new.source ≤ counted (O.count outputs.old.source) (outputs_len (wanted only stored.now)) }
 {
     for placed in stored {
-        load_placed(alloc, placed, outputs, event)?;
+        if is_wanted(only, placed) {
+            load_placed(alloc, placed, outputs, event)?;
+        }
     }
     Ok(())
+}
+
+// Whether an output is loaded: each is, or that at this place alone.
+fn is_wanted(only: Option<usize>, placed: &PlacedOutput) -> bool
+    ensures { result ≡ is_wanted only placed.now }
+{
+    match only {
+        Some(place) => placed.place == place,
+        None => true,
+    }
 }
 
 // Puts one of them into it.

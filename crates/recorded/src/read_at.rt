@@ -3,7 +3,7 @@
 //! The kit's `Read` and `Seek` do not say that what is read after a seek stands at the place that was sought; [`Source`] says so. What is read
 //! through [`ReadAt`] is counted as well: [`Metered`] is the meter, and stands in front of any source.
 
-ghost use Rattle.std.specs.Prelude.{◌≡◌, ℕ, List, Option, None, Some, IfOk, IfSome, OnOk, if◌then◌else◌, is_ok, length};
+ghost use Rattle.std.specs.Prelude.{◌≡◌, ℕ, List, Option, None, Some, IfOk, IfSome, OnOk, ⊤, if◌then◌else◌, is_ok, length};
 ghost use Rattle.std.specs.Io.Cursor.{cursor_inner};
 ghost use Rattle.recorded.specs.Outputs.{counted};
 ghost use Rattle.recorded.specs.ReadAt.{HasRead};
@@ -19,9 +19,14 @@ use std::os::unix::fs::FileExt;
 pub trait Source {
     // All the bytes, where they are known.
     ghost recorded: { Self → Option (List ℕ) } = { λ _. None };
+    // It was asked once how many bytes there are.
+    ghost asked: { Self → Self → Type 0 } = { λ _ _. ⊤ };
+    // Once, from this place on, so many bytes were read, or could not be read.
+    ghost read_once: { ℕ → ℕ → Self → Self → Type 0 } = { λ _ _ _ _. ⊤ };
 
     /// How many bytes there are now. A file may grow between two calls.
     fn len(&mut self) -> io::Result<u64>
+        ensures once { asked self.old self.new }
         ensures kept { recorded self.new ≡ recorded self.old }
         ensures len { IfOk result (λ n. IfSome (recorded self.old) (λ all. n ≡ length all)) };
 
@@ -36,6 +41,7 @@ pub trait Source {
     /// assert!(outputs.read_at(8, &mut buffer).is_err());
     /// ```
     fn read_at(&mut self, offset: u64, buffer: &mut [u8]) -> io::Result<()>
+        ensures once { read_once offset (length buffer.old) self.old self.new }
         ensures kept { recorded self.new ≡ recorded self.old }
         ensures read { OnOk result (IfSome (recorded self.old) (HasRead offset buffer.new)) };
 }
@@ -93,15 +99,21 @@ pub trait ReadAt {
     ghost recorded: { Self → Option (List ℕ) } = { λ _. None };
     // How many bytes were read.
     ghost count: { Self → ℕ };
+    // What was counted was read once of what stands behind it, and nothing else.
+    ghost asked: { Self → Self → Type 0 } = { λ _ _. ⊤ };
+
+    ghost read_once: { ℕ → ℕ → Self → Self → Type 0 } = { λ _ _ _ _. ⊤ };
 
     /// How many bytes there are now, as [`Source::len`] answers it. None is read.
     fn len(&mut self) -> io::Result<u64>
+        ensures once { asked self.old self.new }
         ensures kept { recorded self.new ≡ recorded self.old }
         ensures len { IfOk result (λ n. IfSome (recorded self.old) (λ all. n ≡ length all)) }
         ensures count { count self.new ≡ count self.old };
 
     /// Fills the buffer with the bytes from this place on, as [`Source::read_at`] does, and counts them. A read that fails is not counted.
     fn read_at(&mut self, offset: u64, buffer: &mut [u8]) -> io::Result<()>
+        ensures once { read_once offset (length buffer.old) self.old self.new }
         ensures kept { recorded self.new ≡ recorded self.old }
         ensures read { OnOk result (IfSome (recorded self.old) (HasRead offset buffer.new)) }
         ensures count { count self.new ≡ (if is_ok result then counted (count self.old) (length buffer.old) else count self.old) };
@@ -142,6 +154,11 @@ impl<S: Source> ReadAt for Metered<S> {
     ghost recorded = { λ metered. S.recorded metered.source };
 
     ghost count = { λ metered. metered.bytes_read };
+
+    // The source was asked, or read, once; and it is what it was beside that.
+    ghost asked = { λ old new. S.asked old.source new.source };
+
+    ghost read_once = { λ offset len old new. S.read_once offset len old.source new.source };
 
     fn len(&mut self) -> io::Result<u64> {
         self.source.len()

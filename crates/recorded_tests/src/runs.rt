@@ -221,11 +221,11 @@ fn tells_that_outputs_cannot_be_read(rt: HostRuntime) -> Result<(), Fail> {
 }
 
 // A line with backslashes and no reference, and one of 89 fields: of its ten attempts the first, the fifth and the last are stored, and
-// streams of no byte are among them.
+// streams of no byte are among them. Of the first one a stream has another sum, which is not looked at.
 const MUCH: &str = "config\tfinal\tfail\n\
 setup\t-\t0\t1\tdb\t./start\\\\db\t\\x2d\n\
 done\t-\talpha\tt1\tnever\timmediate-final\tpass\tinitial=1 finished=1 failed=1\t10\
-\tfail:1\t5000000\t0\tsplit\tFAILED\tPASSED\t-\t-\
+\tfail:1\t5000000\t0\tsplit\tDAMAGED\tPASSED\t-\t-\
 \tfail:1\t5000000\t0\tsplit\t-\t-\t-\t-\
 \tfail:1\t5000000\t0\tsplit\t-\t-\t-\t-\
 \tfail:1\t5000000\t0\tsplit\t-\t-\t-\t-\
@@ -243,10 +243,12 @@ fn replays_lines_of_much_of_everything(rt: HostRuntime) -> Result<(), Fail> {
     let lines = MUCH
         .replace(alloc, "PASSED", PASSED)?
         .replace(alloc, "FAILED", FAILED)?
+        .replace(alloc, "DAMAGED", "\\@0:7:ee2a98c236301c76")?
         .replace(alloc, "EMPTY", "\\@14:0:d1fba762150c532c")?;
     let inline = MUCH
         .replace(alloc, "PASSED", "passed\\n")?
         .replace(alloc, "FAILED", "failed\\n")?
+        .replace(alloc, "DAMAGED", "passed\\n")?
         .replace(alloc, "EMPTY", "")?;
     let replayed = replay(alloc, &OPTIONS, lines.as_str(), OUTPUTS)?;
     let (outcome, printed, _stored) = follow_scene(
@@ -258,6 +260,6 @@ fn replays_lines_of_much_of_everything(rt: HostRuntime) -> Result<(), Fail> {
     );
     assert!(rt; outcome? == RunOutcome::Failed && replayed.outcome? == RunOutcome::Failed);
     assert_eq!(rt; replayed.printed.as_slice(), printed.as_slice());
-    assert_eq!(rt; replayed.bytes_read, 28);
+    assert_eq!(rt; replayed.bytes_read, 7);
     Ok(())
 }

@@ -1,11 +1,11 @@
--- A recorded run as it is replayed, and with every output in its place: the events are the same but for outputs that are skipped (for
+-- A recorded run as it is replayed, and with every output in its place: the events are the same but for outputs that are not loaded (for
 -- `RecordedRun::replay`).
 use Rattle.std.proofs.Common.{◌≡◌, ◌⊎◌, ℕ, Bool, true, false, List, [], ◌∷◌, map, Option, None, Some, Result, Ok, Err, refl, sym, ap, ◌∙◌, subst, inl, inr, if◌then◌else◌}
 use Rattle.std.specs.List.{AllZip}
 use Rattle.std.proofs.lemmas.Bool.{cases_Bool, false≢true}
 use Rattle.std.proofs.lemmas.Slice.Zip.{all_zipped_more}
 use Rattle.command_line.specs.declared.args.Options.{Options}
-use Rattle.recorded.specs.Events.{event_inline, event_replayed, first_field_not, is_there, is_undamaged, unless_bad}
+use Rattle.recorded.specs.Events.{event_inline, event_replayed, first_field_not, is_there, is_undamaged, unless_bad, wanted_of}
 use Rattle.recorded.specs.Skips.{skips}
 use Rattle.scene_fields.specs.declared.stored.PlacedOutput.{PlacedOutput}
 use Rattle.recorded.specs.Runs.{line_inline, line_replayed}
@@ -16,9 +16,11 @@ use Rattle.scene_text.specs.SceneTexts.{AllRead, ConfigLine, EventLine, NoEvent,
 use Rattle.scenes.specs.Reports.{decider_for}
 use Rattle.scenes.proofs.lemmas.ReadLines.{config_kept}
 
--- an event with every output in its place: it is the one that is replayed, or the decider skips that one's outputs
+-- an event with every output in its place: the decider skips those of the one that is replayed, or that one has those in it that are loaded
 abbrev pub IsInline : List ℕ → OutputLoadDecider → SceneEvent → SceneEvent → Type 0
-IsInline all d replayed inline = (inline ≡ replayed) ⊎ ((stored : List PlacedOutput) × (skips d replayed ≡ true) × (inline ≡ event_inline all stored replayed))
+IsInline all d replayed inline =
+    ((stored : List PlacedOutput) × (skips d replayed ≡ true) × (inline ≡ event_inline all stored replayed))
+    ⊎ ((event : SceneEvent) × (stored : List PlacedOutput) × (skips d event ≡ false) × (replayed ≡ event_inline all (wanted_of event stored) event) × (inline ≡ event_inline all stored event))
 
 -- the same of lines
 pub record AreInline (options : Options) (all : List ℕ) (replayed inline : ParsedLines) : Type 0 where
@@ -39,17 +41,19 @@ none_zipped R Q (e ∷ es) fs none h = absurd (false≢true (sym none))
 -- what is made of an event
 module _ (all : List ℕ) (d : OutputLoadDecider) (stored : List PlacedOutput) (event made : SceneEvent) where
   made_so : (bad : Option ℕ) (skipped : Bool) → skips d event ≡ skipped → (damaged : Option ℕ) →
-      unless_bad bad (if skipped then Ok event else unless_bad damaged (Ok (event_inline all stored event))) ≡ Ok made → IsInline all d made (event_inline all stored event)
+      unless_bad bad (if skipped then Ok event else unless_bad damaged (Ok (event_inline all (wanted_of event stored) event))) ≡ Ok made → IsInline all d made (event_inline all stored event)
   made_so (Some field) skipped is damaged h = absurd (cc)
   made_so None true is damaged h =
       let same : event ≡ made = cc in
-      inr (stored, ap (skips d) (sym same) ∙ is, ap (event_inline all stored) same)
+      inl (stored, ap (skips d) (sym same) ∙ is, ap (event_inline all stored) same)
   made_so None false is (Some field) h = absurd (cc)
-  made_so None false is None h = inl (cc)
+  made_so None false is None h =
+      let same : event_inline all (wanted_of event stored) event ≡ made = cc in
+      inr (event, stored, is, sym same, refl)
 
   pub is_inline : event_replayed all d stored event ≡ Ok made → IsInline all d made (event_inline all stored event)
   unfolding event_replayed
-  is_inline h = made_so (first_field_not (is_there all) stored) (skips d event) refl (first_field_not (is_undamaged all) stored) h
+  is_inline h = made_so (first_field_not (is_there all) stored) (skips d event) refl (first_field_not (is_undamaged all) (wanted_of event stored)) h
 
 module _ (options : Options) (all : List ℕ) where
   -- one line of both

@@ -4,7 +4,9 @@ use Rattle.std.specs.Io.KnownBytes.{Appends}
 use Rattle.std.specs.List.{AllZip}
 use Rattle.command_line.specs.declared.args.Options.{Options}
 use Rattle.command_line.specs.declared.fault.Fault.{Fault}
+use Rattle.console_reporter.proofs.lemmas.Earlier.{call_of_last, calls_of_last, isolated_last}
 use Rattle.console_reporter.proofs.lemmas.Isolation.{isolated}
+use Rattle.recorded.proofs.lemmas.EarlierOutputs.{loaded_call, outcome_last, shown_call}
 use Rattle.recorded.proofs.lemmas.Skipped.{skipped_call}
 use Rattle.recorded.specs.Outputs.{counted}
 use Rattle.recorded.specs.Runs.{line_replayed, lines_inline, lines_replayed, needed, ended_lines}
@@ -13,10 +15,11 @@ use Rattle.recorded.specs.SpelledOut.{AreBytes, scene_spelled}
 use Rattle.recorded.proofs.lemmas.SpelledLines.{scene_law}
 use Rattle.recorded.proofs.lemmas.Inline.{AreInline, IsInline, go_on}
 use Rattle.reporter_state.specs.Refusals.{first_refused}
-use Rattle.reporter_state.specs.Unread.{unread, unread_call}
+use Rattle.reporter_state.specs.Unread.{unread}
 use Rattle.reporter_state.specs.declared.decider.OutputLoadDecider.{OutputLoadDecider}
 use Rattle.run_model.specs.declared.call.ReportCall.{ReportCall}
 use Rattle.scene_events.specs.Scenes.{IsCallOf}
+use Rattle.scene_events.specs.declared.scene.SceneConfig.{SceneConfig}
 use Rattle.scene_events.specs.declared.scene.event.SceneEvent.{SceneEvent}
 use Rattle.scene_text.proofs.lemmas.Tellings.{all_tell, all_told}
 use Rattle.scene_text.specs.SceneTexts.{ParsedLines, RunLine, lines_before, no_lines}
@@ -27,15 +30,22 @@ use Rattle.scenes.specs.Reports.{configuration_for, report_of, stored_of, decide
 use Rattle.scenes.specs.declared.outcome.RunOutcome.{RunOutcome}
 use Rattle.scenes.proofs.lemmas.ReadyCalls.{outcome_unread}
 
--- a call of an event with every output in its place, which is the same once what is skipped is unread
+-- a call of an event with every output in its place, which is shown as a call of the event that is replayed
 module _ (all : List ℕ) (d : OutputLoadDecider) where
-  has_call : (replayed inline : SceneEvent) (call : ReportCall) → IsInline all d replayed inline → IsCallOf replayed call → (other : ReportCall) × IsCallOf inline other × (unread_call d other ≡ unread_call d call)
-  has_call replayed inline call (inl same) of_event = (call, subst (λ e. IsCallOf e call) (sym same) of_event, refl)
-  has_call replayed inline call (inr h) of_event = (let other = skipped_call d all h.0 replayed call of_event h.1 in (other.0, subst (λ e. IsCallOf e other.0) (sym h.2) other.1, other.2))
+  abbrev shown : List ReportCall → List ReportCall
+  shown calls = calls_of_last (unread d calls)
+
+  has_call : (replayed inline : SceneEvent) (call : ReportCall) → IsInline all d replayed inline → IsCallOf replayed call → (other : ReportCall) × IsCallOf inline other × (shown_call d other ≡ shown_call d call)
+  has_call replayed inline call (inl h) of_event =
+      let other = skipped_call d all h.0 replayed call of_event h.1 in
+      (other.0, subst (λ e. IsCallOf e other.0) (sym h.2) other.1, ap call_of_last other.2)
+  has_call replayed inline call (inr h) of_event =
+      let other = loaded_call d all h.1 h.0 call (subst (λ e. IsCallOf e call) h.3 of_event) h.2 in
+      (other.0, subst (λ e. IsCallOf e other.0) (sym h.4) other.1, other.2)
 
   -- the same of several
   has_calls : (replayed inline : List SceneEvent) (calls : List ReportCall) → AllZip (IsInline all d) replayed inline → AllZip IsCallOf replayed calls →
-      (others : List ReportCall) × AllZip IsCallOf inline others × (unread d others ≡ unread d calls)
+      (others : List ReportCall) × AllZip IsCallOf inline others × (shown others ≡ shown calls)
   has_calls [] [] [] are of_events = ([], tt, refl)
   has_calls [] [] (c ∷ cs) are of_events = absurd of_events
   has_calls [] (f ∷ fs) calls are of_events = absurd are
@@ -46,7 +56,20 @@ module _ (all : List ℕ) (d : OutputLoadDecider) where
       let more = has_calls es fs cs are.1 of_events.1 in
       (one.0 ∷ more.0, (one.1, more.1), rw (one.2, more.2) refl)
 
--- lists that are the same once what is skipped is unread have the same report
+  -- lists that are shown alike have the same report, the same records and the same outcome, and are refused alike
+  module _ (options : Options) (scene : SceneConfig) (is : d ≡ decider_for options scene) (calls : List ReportCall) where
+    shown_report : report_of options scene (shown calls) ≡ report_of options scene calls
+    shown_report = (isolated_last d (unread d calls)).1 (configuration_for options scene) (sym is) ∙ (isolated d calls).1 (configuration_for options scene) (sym is)
+
+    shown_records : stored_of options (shown calls) ≡ stored_of options calls
+    shown_records = (isolated_last d (unread d calls)).3 (configuration_for options scene) (sym is) ∙ (isolated d calls).3 (configuration_for options scene) (sym is)
+
+    shown_refused : first_refused d (shown calls) ≡ first_refused d calls
+    shown_refused = (isolated_last d (unread d calls)).5 ∙ (isolated d calls).5
+
+    shown_outcome : run_outcome (reverse (shown calls)) ≡ run_outcome (reverse calls)
+    shown_outcome = outcome_last (unread d calls) ∙ outcome_unread d calls
+
 module _ (options : Options) (all : List ℕ) (run inline : ParsedLines) (are : AreInline options all run inline) where
   abbrev d : OutputLoadDecider
   d = decider_for options run.config
@@ -55,22 +78,21 @@ module _ (options : Options) (all : List ℕ) (run inline : ParsedLines) (are : 
   prints_inline come_to old new prints =
       let printed = prints.holds.0 in
       let has = has_calls all d run.events inline.events prints.calls are.events prints.of_run in
-      let left = isolated d has.0 in
-      let right = isolated d prints.calls in
-      let config = configuration_for options run.config in
-      let same_report : report_of options run.config has.0 ≡ report_of options run.config prints.calls = sym (left.1 config refl) ∙ ap (λ calls. report_of options run.config calls) has.2 ∙ right.1 config refl in
-      let same_record : stored_of options has.0 ≡ stored_of options prints.calls = sym (left.3 config refl) ∙ ap (λ calls. stored_of options calls) has.2 ∙ right.3 config refl in
+      let same_report : report_of options run.config has.0 ≡ report_of options run.config prints.calls =
+      sym (shown_report all d options run.config refl has.0) ∙ ap (report_of options run.config) has.2 ∙ shown_report all d options run.config refl prints.calls in
+      let same_record : stored_of options has.0 ≡ stored_of options prints.calls =
+      sym (shown_records all d options run.config refl has.0) ∙ ap (stored_of options) has.2 ∙ shown_records all d options run.config refl prints.calls in
       subst (λ c. PrintsFollowed device device options old new come_to (record { config = c; events = inline.events })) (sym are.config) (record {
         calls = has.0;
         of_run = has.1;
-        accepted = sym left.5 ∙ ap (λ calls. first_refused d calls) has.2 ∙ right.5 ∙ prints.accepted;
+        accepted = sym (shown_refused all d options run.config refl has.0) ∙ ap (first_refused d) has.2 ∙ shown_refused all d options run.config refl prints.calls ∙ prints.accepted;
         holds = (
           record {
             printed = subst (λ text. Appends old.0 new.0 text) (sym same_report) printed.printed;
             kept = subst (λ text. Appends old.1 new.1 text) (sym same_record) printed.kept;
             delivered = printed.delivered;
           },
-          prints.holds.1 ∙ sym (outcome_unread d prints.calls) ∙ ap (λ calls. run_outcome (reverse calls)) (sym has.2) ∙ outcome_unread d has.0,
+          prints.holds.1 ∙ sym (shown_outcome all d options run.config refl prints.calls) ∙ ap (λ calls. run_outcome (reverse calls)) (sym has.2) ∙ shown_outcome all d options run.config refl has.0,
         );
       })
 

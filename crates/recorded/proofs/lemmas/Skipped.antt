@@ -24,11 +24,11 @@ use Rattle.recorded.proofs.lemmas.Skips.{skips-same}
 use Rattle.recorded.proofs.lemmas.Unloaded.{same-summary, unloaded-attempt, unloaded-attempts, unloaded-script}
 
 -- output that is put into an event changes neither whether it is skipped nor what it says of time
-skips-with : (d : OutputLoadDecider) (place : ℕ) (captured : ChildOutputDescription) (event : SceneEvent) → skips d (event_with place captured event) ≡ skips d event
+pub skips-with : (d : OutputLoadDecider) (place : ℕ) (captured : ChildOutputDescription) (event : SceneEvent) → skips d (event_with place captured event) ≡ skips d event
 skips-with d place captured (scene.TestFinished e) = ap (λ x. not (loads_finish d e.success_output e.failure_output x)) (same-summary place captured e.attempts)
 skips-with d place captured event = grind arith
 
-elapsed-with : (place : ℕ) (captured : ChildOutputDescription) (event : SceneEvent) → elapsed_in (event_with place captured event) ≡ elapsed_in event
+pub elapsed-with : (place : ℕ) (captured : ChildOutputDescription) (event : SceneEvent) → elapsed_in (event_with place captured event) ≡ elapsed_in event
 elapsed-with place captured event = grind arith
 
 -- a skipped event with output in it says what some event of a reporter says, which is the same as that of the event without it once both are

@@ -22,7 +22,7 @@ pub unloaded-script : (a : Attempt) (captured : ChildOutputDescription) → unlo
 unloaded-script a captured = ap (λ (o : Written). record (script_status a) { output = o }) (unloaded-execution a.output captured)
 
 -- earlier attempts, of which one may be there, and all attempts of a test
-unloaded-earlier : (attempts : List Attempt) (place : ℕ) (captured : ChildOutputDescription) → map unloaded_attempt (with_output_at place captured attempts) ≡ map unloaded_attempt attempts
+pub unloaded-earlier : (attempts : List Attempt) (place : ℕ) (captured : ChildOutputDescription) → map unloaded_attempt (with_output_at place captured attempts) ≡ map unloaded_attempt attempts
 unloaded-earlier [] place captured = refl
 unloaded-earlier (x ∷ xs) zero captured = ap (λ y. y ∷ map unloaded_attempt xs) (unloaded-attempt x captured)
 unloaded-earlier (x ∷ xs) (suc place) captured = grind (arith, unloaded-earlier xs place captured)

@@ -1,7 +1,7 @@
 //! The attempts of a test in a short form: most are one attempt that wrote nothing, and a scene may hold a million.
 
 ghost use Rattle.std.specs.Option.{option_copied, unwrap_or};
-ghost use Rattle.std.specs.Prelude.{◌≡◌, IfOk, IsTrue, OnErr, OnOk};
+ghost use Rattle.std.specs.Prelude.{◌≡◌, IfOk, IsTrue, OnErr, OnOk, length};
 ghost use Rattle.scene_events.specs.SceneAttempts.{attempt_of, before_last, marks_of};
 ghost use Rattle.scene_events.specs.SceneOutputs.{no_output};
 
@@ -138,6 +138,16 @@ impl SceneAttempts {
         ensures { result.now ≡ self.now.last.result }
     {
         &self.last.result
+    }
+
+    /// The place of the last attempt, where the first stands at 0.
+    pub fn last_place(&self) -> usize
+        ensures { result ≡ length self.now.earlier }
+    {
+        match &self.more {
+            MoreAttempts::Earlier { earlier, .. } => earlier.get().attempts.len(),
+            _ => 0,
+        }
     }
 
     /// Whether what the last attempt wrote is there, and not left unread.
