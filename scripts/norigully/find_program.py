@@ -26,7 +26,8 @@ class Told:
         began, is_ended = time.monotonic(), False
         while not is_ended:
             seconds = int(time.monotonic() - began)
-            print(f"\r{self.line}: {seconds} of some {BUILD} s ", end="", file=sys.stderr, flush=True)
+            told = f"{seconds} of some {BUILD} s" if seconds <= BUILD else f"{seconds} s, on a busy machine"
+            print(f"\r{self.line}: {told} ", end="", file=sys.stderr, flush=True)
             is_ended = self.ended.wait(TICK)
         print("\r\033[K", end="", file=sys.stderr, flush=True)
 
