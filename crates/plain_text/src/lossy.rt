@@ -7,10 +7,10 @@ ghost use Rattle.std.specs.Prelude.{◌≡◌, ◌↔◌, ◌<◌, ◌≤◌, �
 ghost use Rattle.std.specs.Str.{IsCharBoundary, IsUtf8};
 ghost use Rattle.std.specs.Str.Lossy.{utf8_lossy};
 ghost use Rattle.plain_text.specs.Lossy.{decoded_text, front_text};
-ghost use Rattle.plain_text.specs.Writer.{Puts};
+ghost use Rattle.writers.specs.Writer.{Puts};
 
-use crate::write_str::{WriteFault, WriteStr};
 use std::marker::Model;
+use writers::write_str::{WriteFault, WriteStr};
 
 /// The text that bytes are decoded to, piece by piece.
 ///

@@ -1,7 +1,7 @@
 //! What is kept for the summary, and how it is listed.
 
 ghost use Rattle.std.specs.Prelude.{◌≡◌, List, [], ◌∷◌, ◌++◌, OnOk, OnErr};
-ghost use Rattle.plain_text.specs.Writer.{Puts};
+ghost use Rattle.writers.specs.Writer.{Puts};
 ghost use Rattle.test_text.specs.StatusLine.{status_line};
 ghost use Rattle.test_text.specs.declared.status_line.StatusLineKind.{StatusLineKind};
 ghost use Rattle.report_words.specs.Parts.{paint};
@@ -15,7 +15,6 @@ use crate::final_output::{FinalOutput, FinalOutputEntry};
 use crate::kept_output::{KeptOutput, OutputForm, ShortSummary};
 use crate::kept_test::KeptTest;
 use crate::loaded_output::LoadedOutput;
-use plain_text::write_str::{WriteFault, WriteStr};
 use run_model::memory::OutOfMemory;
 use run_model::status::StatusSummary;
 use std::alloc::Global;
@@ -26,6 +25,7 @@ use test_text::status_line::{StatusLine, StatusLineKind, write_status_line};
 use test_text::test_skipped::write_skip_line;
 use text_parts::attempt_output::write_test_execute_status;
 use text_parts::settings::Settings;
+use writers::write_str::{WriteFault, WriteStr};
 
 /// The entries that a summary lists. Contracts see them as the list in which it shows them.
 #[derive(Drop)]

@@ -1,18 +1,18 @@
 //! What is kept of captured output: its text, as it was decoded, with the escape sequences that it has.
 
 ghost use Rattle.std.specs.Prelude.{◌≡◌, ◌++◌, []};
-ghost use Rattle.plain_text.specs.Writer.{Puts};
+ghost use Rattle.writers.specs.Writer.{Puts};
 ghost use Rattle.store_text.specs.Netstring.{joined_netstring, netstring};
 ghost use Rattle.store_text.specs.StoredOutput.{captured_text, stored_output, stored_stream, written_text};
 
 use crate::config::StoreConfig;
 use crate::netstring::write_netstring_head;
 use plain_text::lossy::LossyText;
-use plain_text::write_str::{WriteFault, WriteStr};
 use run_model::output::{
     ChildExecutionOutputDescription, ChildOutputDescription, ChildSingleOutput, LiveSpec,
 };
 use run_model::status::ExecutionStatuses;
+use writers::write_str::{WriteFault, WriteStr};
 
 // The text of captured output in two parts, the second of which may be empty. It allocates nothing: it is a view of the bytes.
 #[derive(Drop)]

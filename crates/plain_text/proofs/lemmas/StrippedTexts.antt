@@ -1,17 +1,17 @@
 -- A text in pieces, without its escape sequences (for `StrippedPieces::write`, `next_stretch`, `write_stripped_pieces`).
 use Rattle.std.proofs.Common.{◌≡◌, ℕ, ◌<◌, Bool, true, false, ◌==◌, inl, inr, List, [], ◌∷◌, ◌++◌, refl, sym, ap, ◌∙◌, append_assoc, arith, length, take, drop, take-append-drop, length-append, length-drop, Some, None, chars, encode_utf8, encode_utf8_all, if◌then◌else◌, lit<, Result}
 use Rattle.std.proofs.lemmas.Bool.{cases_lt, eqb-true, false_from_ne_true}
-use Rattle.std.proofs.lemmas.Bool.Decides.{eqb_tells, nat_tests}
+use Rattle.std.proofs.lemmas.Bool.Decides.{nat_tests}
 use Rattle.std.proofs.lemmas.List.{nil_from_length}
 use Rattle.std.proofs.lemmas.Str.{chars-append, chars-nil, chars_past_char, encode_ascii, encodes-chars, length-encode, len_utf8_bounds, IsUtf8-take}
 use Rattle.std.specs.Str.{IsUtf8}
 use Rattle.std.specs.Result.{IsErrAnd}
 use Rattle.plain_text.specs.Texts.{Text}
 use Rattle.plain_text.specs.TrailingNewline.{without_trailing_newline, ends_in_line_feed, held}
-use Rattle.plain_text.specs.Writer.{Meaning, WriterLaws, Puts, Owes}
-use Rattle.plain_text.specs.declared.write_str.WriteFault.{WriteFault}
+use Rattle.writers.specs.Writer.{Meaning, WriterLaws, Puts, Owes}
+use Rattle.writers.specs.declared.write_str.WriteFault.{WriteFault}
 use Rattle.plain_text.proofs.lemmas.TrailingNewlines.{piece_next, trailing_newline_done}
-use Rattle.plain_text.proofs.lemmas.Steps.{owes_all, owes_accepted, owes_stopped}
+use Rattle.writers.proofs.lemmas.Steps.{owes_all, owes_accepted, owes_stopped}
 use Rattle.plain_text.specs.Escapes.{front_len, is_visible, PieceText, pieces, stretches, visible, HasNoEscape}
 use Rattle.plain_text.specs.Escapes.PieceText.{SequenceText, StretchText}
 use Rattle.plain_text.specs.Scanner.{advanced, mode_after, modes_after}

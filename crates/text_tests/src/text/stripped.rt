@@ -2,8 +2,8 @@
 
 use plain_text::stripped::{StrippedPieces, write_stripped_text};
 use plain_text::trailing_newline::TrailingNewline;
-use plain_text::write_str::{WriteFault, WriteStr};
 use std::test::Fail;
+use writers::write_str::{WriteFault, WriteStr};
 
 // Writes the pieces without their sequences and the line feed that closes what is left.
 fn write_stripped_pieces<W: WriteStr>(w: &mut W, pieces: &[&str]) -> Result<(), WriteFault> {

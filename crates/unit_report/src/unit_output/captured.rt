@@ -9,7 +9,7 @@ ghost use Rattle.plain_text.specs.TrailingNewline.{without_trailing_newline};
 ghost use Rattle.plain_text.specs.Escapes.{visible};
 ghost use Rattle.plain_text.specs.Highlights.{highlight_end};
 ghost use Rattle.plain_text.specs.Lossy.{decoded_text, front_text};
-ghost use Rattle.plain_text.specs.Writer.{Puts};
+ghost use Rattle.writers.specs.Writer.{Puts};
 ghost use Rattle.unit_report.specs.Captured.{captured, coloured_output, highlighted_output, highlight_stop, is_valid, part_value, plain_output, reset_output};
 
 use super::highlighted_lines::write_highlighted_lines;
@@ -18,9 +18,9 @@ use plain_text::reporter_helpers::highlight_end;
 use plain_text::stripped::{StrippedPieces, write_stripped_text};
 use plain_text::style::{RESET_COLOR, Style, Styles, write_plain};
 use plain_text::trailing_newline::TrailingNewline;
-use plain_text::write_str::{WriteFault, WriteStr};
 use run_model::output::ByteSubslice;
 use std::str;
+use writers::write_str::{WriteFault, WriteStr};
 
 /// Writes the text of some bytes, and points out a part of it. A part that is not there is left out.
 #[tactic(auto, unfolding(crate::specs::Captured::captured))]

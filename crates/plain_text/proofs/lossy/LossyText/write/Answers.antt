@@ -1,5 +1,5 @@
 use Rattle.std.proofs.Common.{sym}
-use Rattle.plain_text.proofs.lemmas.Steps.{owes_all, owes_accepted, owes_nothing, owes_stopped}
+use Rattle.writers.proofs.lemmas.Steps.{owes_all, owes_accepted, owes_nothing, owes_stopped}
 use Rattle.plain_text.proofs.lossy.LossyText.write.Goals as goal
 
 pub returns-in_err-write_str : goal.returns-in_err-write_str

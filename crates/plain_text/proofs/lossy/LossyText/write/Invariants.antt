@@ -1,6 +1,6 @@
 use Rattle.std.proofs.Common.{length}
 use Rattle.plain_text.specs.Lossy.{decoded_text}
-use Rattle.plain_text.specs.Writer.{Owes}
+use Rattle.writers.specs.Writer.{Owes}
 use Rattle.plain_text.proofs.lossy.LossyText.write.Given as goal
 
 -- what is left is owed

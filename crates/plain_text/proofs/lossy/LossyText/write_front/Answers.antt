@@ -3,7 +3,7 @@ use Rattle.std.proofs.lemmas.List.{take-append-le}
 use Rattle.std.specs.Str.{IsCharBoundary}
 use Rattle.plain_text.specs.Lossy.{decoded_text}
 use Rattle.plain_text.proofs.lemmas.Decoded.{front_text-take, front_text-none, take_on, past-boundary}
-use Rattle.plain_text.proofs.lemmas.Steps.{owes_stopped, owes_accepted}
+use Rattle.writers.proofs.lemmas.Steps.{owes_stopped, owes_accepted}
 use Rattle.plain_text.proofs.lossy.LossyText.write_front.Goals as goal
 
 pub returns-then-is_none : goal.returns-then-is_none

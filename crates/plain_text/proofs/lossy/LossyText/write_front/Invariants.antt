@@ -3,7 +3,7 @@ use Rattle.std.specs.Str.{IsCharBoundary}
 use denote.Shadow.{shadow}
 use denote.Text.{Utf8}
 use Rattle.plain_text.specs.Lossy.{decoded_text}
-use Rattle.plain_text.specs.Writer.{Owes}
+use Rattle.writers.specs.Writer.{Owes}
 use Rattle.plain_text.proofs.lossy.LossyText.write_front.Given as goal
 
 -- the front of what is left is owed

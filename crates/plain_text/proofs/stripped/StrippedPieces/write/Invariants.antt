@@ -4,7 +4,7 @@ use denote.Shadow.{shadow}
 use Rattle.plain_text.specs.TrailingNewline.{without_trailing_newline, ends_in_line_feed, held}
 use Rattle.plain_text.specs.Scanner.{modes_after}
 use Rattle.plain_text.specs.Stripped.{visible_from}
-use Rattle.plain_text.specs.Writer.{Owes}
+use Rattle.writers.specs.Writer.{Owes}
 use Rattle.plain_text.proofs.stripped.StrippedPieces.write.Given as goal
 
 -- what is shown of the rest is owed

@@ -3,7 +3,7 @@ use Rattle.std.specs.Str.{IsUtf8}
 use Rattle.plain_text.specs.TrailingNewline.{without_trailing_newline, held}
 use Rattle.plain_text.specs.Escapes.{visible}
 use Rattle.plain_text.specs.Stripped.{visible_from}
-use Rattle.plain_text.specs.Writer.{Owes}
+use Rattle.writers.specs.Writer.{Owes}
 use Rattle.unit_report.proofs.unit_output.captured.write_stripped_pieces.Given as goal
 
 -- what is shown of the rest is owed

@@ -1,6 +1,6 @@
 use Rattle.std.proofs.Common.{◌++◌, length}
 use Rattle.plain_text.specs.TrailingNewline.{without_trailing_newline, held}
-use Rattle.plain_text.specs.Writer.{Owes}
+use Rattle.writers.specs.Writer.{Owes}
 use Rattle.unit_report.proofs.unit_output.captured.write_without_trailing_newline.Given as goal
 
 -- what is left is owed, after the line feed that is held back
