@@ -7,7 +7,7 @@ use Rattle.run_model.specs.declared.output.ChildOutputDescription.{ChildOutputDe
 use Rattle.run_model.specs.declared.output.ChildOutputDescription.TheVariants.{Split, Combined, NotLoaded}
 use Rattle.run_model.specs.declared.output.LiveSpec.{LiveSpec}
 use Rattle.run_model.specs.declared.status.StatusCase.{StatusCase}
-use Rattle.plain_text.specs.Lossy.{decoded_text}
+use Rattle.run_model.specs.Decoded.{decoded_text}
 use Rattle.plain_text.specs.Texts.{Text}
 use Rattle.store_text.specs.declared.config.StoreConfig.{StoreConfig}
 

@@ -1,11 +1,10 @@
 -- Captured output as a report shows it.
-use Rattle.std.specs.Prelude.{ℕ, ◌+◌, Bool, true, false, ◌&&◌, ◌==◌, List, [], ◌∷◌, ◌++◌, Option, None, Some, take, drop, if◌then◌else◌}
+use Rattle.std.specs.Prelude.{ℕ, ◌+◌, Bool, true, false, ◌&&◌, ◌||◌, ◌==◌, List, [], ◌∷◌, ◌++◌, Option, None, Some, length, slice_index, nat_le, nat_lt, take, drop, if◌then◌else◌}
 use Rattle.run_model.specs.Outputs.{Part}
 use Rattle.run_model.specs.declared.output.ByteSubslice.{ByteSubslice}
 use Rattle.plain_text.specs.TrailingNewline.{without_trailing_newline}
 use Rattle.plain_text.specs.Escapes.{visible}
 use Rattle.plain_text.specs.Highlights.{highlight_end}
-use Rattle.plain_text.specs.Lossy.{ends_character}
 use Rattle.plain_text.specs.Style.{plain, reset_color}
 use Rattle.plain_text.specs.Texts.{Text}
 use Rattle.plain_text.specs.declared.style.Style.{Style}
@@ -27,6 +26,10 @@ highlighted_output s front lit back = front ++ (plain reset_color ++ (highlighte
 -- its bytes, without their address
 abbrev pub part_value : ByteSubslice → Part
 part_value s = record { start = s.start; bytes = s.slice.now }
+
+-- the first n bytes of the text end a character: no byte of one follows
+abbrev pub ends_character : ℕ → Text → Bool
+ends_character n t = nat_le n (length t) && (nat_le (length t) n || (nat_lt (slice_index t n) 128 || nat_le 192 (slice_index t n)))
 
 -- the text begins with these bytes
 abbrev pub begins_with : List ℕ → Text → Bool

@@ -10,7 +10,7 @@ use Rattle.run_model.specs.declared.output.Highlight.{Highlight}
 use Rattle.run_model.specs.declared.output.LiveSpec.{LiveSpec}
 use Rattle.plain_text.specs.TrailingNewline.{ends_in_line_feed}
 use Rattle.plain_text.specs.Escapes.{HasNoEscape}
-use Rattle.plain_text.specs.Lossy.{decoded_text}
+use Rattle.run_model.specs.Decoded.{decoded_text}
 use Rattle.report_words.specs.PlainTexts.{HoldsIf, IsPlainChain}
 use Rattle.plain_text.specs.Texts.{Text}
 use Rattle.unit_report.specs.Captured.{is_valid, highlight_stop}

@@ -11,7 +11,7 @@ use Rattle.run_model.specs.declared.output.Highlight.{Highlight}
 use Rattle.run_model.specs.declared.output.LiveSpec.{LiveSpec}
 use Rattle.run_names.specs.declared.unit.UnitKind.{UnitKind}
 use Rattle.plain_text.specs.Indent.{indent}
-use Rattle.plain_text.specs.Lossy.{decoded_text}
+use Rattle.run_model.specs.Decoded.{decoded_text}
 use Rattle.plain_text.specs.Style.{Plain, Styled, part_texts, plain}
 use Rattle.plain_text.specs.Texts.{Text}
 use Rattle.plain_text.specs.declared.style.Styles.{Styles}

@@ -28,7 +28,7 @@ use Rattle.run_names.specs.declared.stress.StressIndex.{StressIndex}
 use Rattle.run_names.specs.declared.time.Nanos.{Nanos}
 use Rattle.run_names.specs.declared.unit.UnitKind.TheVariants as unit
 use Rattle.plain_text.specs.Texts.{Text}
-use Rattle.plain_text.proofs.lemmas.Decoded.{decoded-same}
+use Rattle.run_model.proofs.lemmas.Decoded.{decoded-same}
 use Rattle.store_text.specs.Netstring.{netstring, netstring_head}
 use Rattle.store_text.specs.Record.{record_text}
 use Rattle.store_text.specs.StoredOutput.{is_stored, stored_output}

@@ -7,7 +7,7 @@ use Rattle.plain_text.specs.TrailingNewline.{without_trailing_newline, ends_in_l
 use Rattle.plain_text.specs.Escapes.{visible_after, visible, HasNoEscape}
 use Rattle.plain_text.specs.Highlights.{highlight_end}
 use Rattle.plain_text.specs.Indent.{indent}
-use Rattle.plain_text.specs.Lossy.{decoded_text}
+use Rattle.run_model.specs.Decoded.{decoded_text}
 use Rattle.plain_text.specs.Style.{plain, styles_of, reset_color, style_suffix}
 use Rattle.plain_text.specs.Texts.{Text}
 use Rattle.plain_text.specs.declared.style.Style.{Style}

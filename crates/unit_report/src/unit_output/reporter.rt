@@ -4,7 +4,6 @@ ghost use Rattle.std.specs.Prelude.{◌≡◌, ◌∷◌, ◌++◌, [], true};
 ghost use Rattle.std.specs.Option.{option_map, option_and_then};
 ghost use Rattle.run_model.specs.Outputs.{combined_part, has_loaded_output, is_loaded, stderr_part, stdout_part, subslice_value};
 ghost use Rattle.plain_text.specs.Indent.{indent};
-ghost use Rattle.plain_text.specs.Lossy.{decoded_text};
 ghost use Rattle.plain_text.specs.Writer.{Puts};
 ghost use Rattle.unit_report.specs.Captured.{captured};
 ghost use Rattle.unit_report.specs.ErrorChain.{error_chain_text};
@@ -223,7 +222,7 @@ impl StreamWriter<'_> {
         ensures { Puts W.meaning w.old (present_stream self.now.reporter.now self.now.styles.now self.now.spec.now.output_indent.now header output.now (subslice_value highlight.entry)) result w.new }
     {
         if self.reporter.display_empty_outputs || !output.is_empty() {
-            self.write_shown(w, header, output.as_bytes(), highlight)
+            self.write_shown(w, header, output, highlight)
         } else {
             Ok(())
         }
@@ -235,14 +234,20 @@ impl StreamWriter<'_> {
         &self,
         w: &mut W,
         header: OutputHeader,
-        bytes: &[u8],
+        output: &ChildSingleOutput,
         highlight: Option<ByteSubslice<'_>>,
     ) -> Result<(), WriteFault>
-        ensures { Puts W.meaning w.old (shown_stream self.now.styles.now self.now.spec.now.output_indent.now header bytes.now (subslice_value highlight.entry)) result w.new }
+        ensures { Puts W.meaning w.old (shown_stream self.now.styles.now self.now.spec.now.output_indent.now header output.now (subslice_value highlight.entry)) result w.new }
     {
         header.write_to(w)?;
         write_plain(w, "\n")?;
-        write_captured_indented(w, self.styles, self.spec.output_indent, bytes, highlight)
+        write_captured_indented(
+            w,
+            self.styles,
+            self.spec.output_indent,
+            output.as_str(),
+            highlight,
+        )
     }
 }
 
@@ -251,13 +256,13 @@ fn write_captured_indented<W: WriteStr>(
     w: &mut W,
     styles: &Styles,
     margin: &str,
-    bytes: &[u8],
+    text: &str,
     highlight: Option<ByteSubslice<'_>>,
 ) -> Result<(), WriteFault>
-    ensures { Puts W.meaning w.old (indent margin.now true (captured styles.now (decoded_text bytes.now) (subslice_value highlight.entry))) result w.new }
+    ensures { Puts W.meaning w.old (indent margin.now true (captured styles.now text.now (subslice_value highlight.entry))) result w.new }
 {
     let mut out = indented(w).with_str(margin);
-    let result = write_captured(&mut out, styles, bytes, highlight);
+    let result = write_captured(&mut out, styles, text, highlight);
     let back = out.into_inner();
     let _ = &*back;
     result
