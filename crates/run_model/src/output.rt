@@ -92,7 +92,7 @@ impl CapturedText {
         }
     }
 
-    // Of bytes that are not UTF-8.
+    // For bytes that are not UTF-8.
     #[tactic(auto, unfolding(crate::specs::Decoded::decoded_text))]
     fn decode(alloc: Global, bytes: Bytes) -> Result<CapturedText, OutOfMemory>
         ensures { IfOk result (λ c. c ≡ bytes) }
@@ -328,7 +328,7 @@ impl ChildOutputDescription {
     }
 }
 
-// The name of the member of a stream, where it was captured.
+// The member name of a stream that was captured.
 fn recorded_member(
     alloc: Global,
     stream: &Option<ChildSingleOutput>,
@@ -341,7 +341,7 @@ fn recorded_member(
     }
 }
 
-// Another stream of the same bytes, where it was captured.
+// Another stream with the same bytes.
 fn copy_stream(
     stream: &Option<ChildSingleOutput>,
 ) -> Result<Option<ChildSingleOutput>, TooManyOwners>
@@ -358,9 +358,9 @@ fn copy_stream(
 pub enum RecordedOutput {
     /// Each stream by itself.
     Split {
-        /// The name of the member with standard output, if it was captured.
+        /// The member name of standard output, if it was captured.
         stdout: Option<DescriptionText>,
-        /// The name of the member with standard error, if it was captured.
+        /// The member name of standard error, if it was captured.
         stderr: Option<DescriptionText>,
     },
     /// Both streams together.
@@ -409,7 +409,7 @@ impl<S: OutputSpec> ChildExecutionOutputDescription<S> {
 }
 
 impl ChildExecutionOutputDescription<LiveSpec> {
-    /// A process that ended so and wrote nothing on either stream.
+    /// A process that ended with this result and wrote nothing on either stream.
     ///
     /// ```
     /// let output = ChildExecutionOutputDescription::silent(ExecutionResultDescription::Pass);
@@ -429,9 +429,9 @@ impl ChildExecutionOutputDescription<LiveSpec> {
         }
     }
 
-    /// Makes it that of a process that ended so and wrote this, or nothing, and returns true. It allocates nothing, so that is done only where it is that of
-    /// a process without errors, and the result is a pass or a failure with an exit code; else it returns false, and what it holds then is
-    /// not said.
+    /// Turns it into a process that ended with this result and wrote `captured` or nothing, and returns true. It allocates nothing,
+    /// so this works only for a process without errors that passed or failed with an exit code. Otherwise it returns false, and its
+    /// value is unspecified.
     #[inline(always)]
     pub fn replace(
         &mut self,
@@ -574,7 +574,7 @@ fn copy_errors(
     }
 }
 
-// Another highlight of the same bytes, where there is one.
+// Another highlight of the same bytes.
 fn copy_highlight(
     alloc: Global,
     highlight: &Option<Boxed<Highlight>>,
@@ -674,7 +674,7 @@ fn copy_causes(
     Ok(copies)
 }
 
-/// The stream that a highlight stands in.
+/// The stream of a highlight.
 #[derive(Clone, Copy, Debug, PartialEq, Eq)]
 pub enum HighlightStream {
     /// Standard output.
@@ -694,7 +694,7 @@ pub enum HighlightStream {
 /// ```
 #[derive(Debug, Drop)]
 pub struct Highlight {
-    /// Where it stands.
+    /// Its stream.
     pub stream: HighlightStream,
     /// The place of its first byte in the stream.
     pub start: usize,
@@ -712,7 +712,7 @@ pub struct ByteSubslice<'a> {
 }
 
 impl Highlight {
-    /// The part, where it stands in standard output.
+    /// The part, if it is in standard output.
     pub fn stdout_subslice(&self) -> Option<ByteSubslice<'_>>
         ensures { subslice_value result ≡ stdout_part self.now }
     {
@@ -722,7 +722,7 @@ impl Highlight {
         }
     }
 
-    /// The part, where it stands in standard error.
+    /// The part, if it is in standard error.
     pub fn stderr_subslice(&self) -> Option<ByteSubslice<'_>>
         ensures { subslice_value result ≡ stderr_part self.now }
     {
@@ -732,7 +732,7 @@ impl Highlight {
         }
     }
 
-    /// The part, where it stands in streams that were captured together.
+    /// The part, if it is in streams that were captured together.
     pub fn combined_subslice(&self) -> Option<ByteSubslice<'_>>
         ensures { subslice_value result ≡ combined_part self.now }
     {
