@@ -1,4 +1,4 @@
-//! What is kept of captured output: its text, as it was decoded, with the escape sequences that it has.
+//! The output that a store keeps: the decoded text, with its escape sequences.
 
 ghost use Rattle.std.specs.Prelude.{◌≡◌, ◌++◌};
 ghost use Rattle.plain_text.specs.Writer.{Puts};
@@ -13,8 +13,8 @@ use run_model::output::{
 };
 use run_model::status::ExecutionStatuses;
 
-/// Writes the output that is kept of a test's attempts, as a netstring: of the last one, if the store is asked for it, standard
-/// output and then standard error, or both as they came. It allocates nothing.
+/// Writes the output that the store keeps of a test as a netstring: that of the last attempt, if the store keeps it, standard
+/// output and then standard error, or both streams as they came. It allocates nothing.
 ///
 /// ```
 /// let (stdout, stderr) = (Bytes::from_static("é\n".as_bytes()), Bytes::from_static(b"x"));
@@ -34,7 +34,7 @@ pub fn write_stored_output<W: WriteStr>(
     write_joined_netstring(w, front, back)
 }
 
-// What is kept of what the attempts of a test wrote, in two parts: of the last one, if it is asked for.
+// The output that the store keeps, in two parts.
 #[tactic(auto, unfolding(crate::specs::StoredOutput::stored_output))]
 fn stored_texts(store: StoreConfig, statuses: &ExecutionStatuses<LiveSpec>) -> (&str, &str)
     ensures { result.0.now ++ result.1.now ≡ stored_output store statuses.now }
@@ -46,7 +46,7 @@ fn stored_texts(store: StoreConfig, statuses: &ExecutionStatuses<LiveSpec>) -> (
     }
 }
 
-// What an attempt wrote: one that could not be started wrote nothing.
+// A process that could not be started wrote nothing.
 fn written_texts(output: &ChildExecutionOutputDescription<LiveSpec>) -> (&str, &str)
     ensures { result.0.now ++ result.1.now ≡ written_text output.now }
 {
@@ -56,7 +56,6 @@ fn written_texts(output: &ChildExecutionOutputDescription<LiveSpec>) -> (&str, &
     }
 }
 
-// Standard output and then standard error, or both as they came.
 fn captured_texts(output: &ChildOutputDescription) -> (&str, &str)
     ensures { result.0.now ++ result.1.now ≡ captured_text output.now }
 {
@@ -67,7 +66,6 @@ fn captured_texts(output: &ChildOutputDescription) -> (&str, &str)
     }
 }
 
-// The text of a stream, if it was captured.
 fn text_of(stream: &Option<ChildSingleOutput>) -> &str
     ensures { result.now ≡ stored_stream stream.now }
 {

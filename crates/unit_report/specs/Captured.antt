@@ -15,11 +15,11 @@ use Rattle.unit_report.specs.HighlightedLines.{highlighted_lines}
 unfoldable pub plain_output : Text → Text
 plain_output t = without_trailing_newline (visible t) ++ 10 ∷ []
 
--- with colour: as it is, but that no colour goes on after the end
+-- with colour: unchanged, and a reset at the end
 unfoldable pub reset_output : Text → Text
 reset_output t = without_trailing_newline t ++ (reset_color ++ 10 ∷ [])
 
--- a highlight between what stands before it and what follows it
+-- a highlight between the text before and after it
 unfoldable pub highlighted_output : Style → Text → Text → Text → Text
 highlighted_output s front lit back = front ++ (plain reset_color ++ (highlighted_lines s lit ++ reset_output back))
 
@@ -41,7 +41,7 @@ begins_with (b ∷ bs) (c ∷ t) = (b == c) && begins_with bs t
 abbrev pub highlight_stop : Part → ℕ
 highlight_stop h = h.start + highlight_end h.bytes
 
--- a highlight is valid where both its ends are ends of characters, and the text holds its bytes there
+-- a highlight is valid if both its ends are ends of characters, and the text holds its bytes there
 abbrev pub is_valid : Text → Part → Bool
 is_valid t h = ends_character h.start t && (begins_with h.bytes (drop h.start t) && ends_character (highlight_stop h) t)
 
@@ -49,7 +49,7 @@ is_valid t h = ends_character h.start t && (begins_with h.bytes (drop h.start t)
 abbrev pub highlighted_by : Style → Text → Part → Text
 highlighted_by s t h = highlighted_output s (take h.start t) (take (highlight_end h.bytes) (drop h.start t)) (drop (highlight_stop h) t)
 
--- with colour, where a highlight may be given: one that is not valid is left out
+-- with colour: a highlight that is not valid is left out
 unfoldable pub coloured_output : Style → Text → Option Part → Text
 coloured_output s t None = reset_output t
 coloured_output s t (Some h) = if is_valid t h then highlighted_by s t h else reset_output t

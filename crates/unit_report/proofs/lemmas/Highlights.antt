@@ -13,7 +13,7 @@ use Rattle.unit_report.specs.Captured.{begins_with, ends_character, highlight_st
 boundary-ends : (n : ℕ) (t : Text) → IsCharBoundary t n → ends_character n t ≡ true
 boundary-ends n t (l, b) = grind (arith, nat_tests)
 
--- the test of a beginning
+-- `begins_with` and `take`
 begins-at : (bs : List ℕ) (t : Text) → take (length bs) t ≡ bs → begins_with bs t ≡ true
 begins-at [] t h = refl
 begins-at (b ∷ bs) [] h = cc
@@ -33,7 +33,7 @@ begins-is (b ∷ bs) (c ∷ t) h = let both = and_parts (b == c) (begins_with bs
 begins-not : (bs : List ℕ) (t : Text) → ¬ (take (length bs) t ≡ bs) → begins_with bs t ≡ false
 begins-not bs t h = elim (cases_Bool (begins_with bs t)) [ inl y ↦ absurd (h (begins-is bs t y)) | inr n ↦ n ]
 
--- a text and a part of it that is given
+-- a text and a part of it
 module _ (t : Text) (h : Part) (found : Bool) (tells : IsTrue found ↔ (take (length h.bytes) (drop h.start t) ≡ h.bytes)) where
   pub part_absent : found ≡ false → is_valid t h ≡ false
   part_absent e = rw (begins-not h.bytes (drop h.start t) (λ q. let x : IsTrue found = tells.1 q in let y : IsTrue false = rw e at x in cc)) (none (ends_character h.start t))

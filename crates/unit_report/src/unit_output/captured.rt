@@ -17,7 +17,7 @@ use plain_text::trailing_newline::split_trailing_newline;
 use plain_text::write_str::{WriteFault, WriteStr};
 use run_model::output::ByteSubslice;
 
-/// Writes a text, and points out a part of it. A part that is not there is left out.
+/// Writes a text and highlights a part of it. A highlight that is not valid is left out.
 #[tactic(auto, unfolding(crate::specs::Captured::captured, crate::specs::Captured::plain_output))]
 pub(super) fn write_captured<W: WriteStr>(
     w: &mut W,
@@ -34,7 +34,6 @@ pub(super) fn write_captured<W: WriteStr>(
     w.write_str("\n")
 }
 
-// Writes the text with its highlight, if it has a valid one.
 #[tactic(auto, unfolding(crate::specs::Captured::coloured_output, crate::specs::Captured::highlighted_output))]
 fn write_coloured_output<W: WriteStr>(
     w: &mut W,
@@ -56,7 +55,7 @@ fn write_coloured_output<W: WriteStr>(
     write_reset_output(w, back)
 }
 
-// A text cut before and after a highlight, unless that is not valid.
+// Cuts a text before and after a highlight, if that is valid.
 #[tactic(auto, using(crate::proofs::lemmas::Highlights::highlight_laws))]
 fn split_highlight<'a>(
     text: &'a str,
@@ -76,7 +75,7 @@ fn split_highlight<'a>(
     Some((front, lit, back))
 }
 
-// Writes the text as it is, and a reset before the line feed at its end.
+// The reset comes before the line feed at the end.
 #[tactic(auto, unfolding(crate::specs::Captured::reset_output))]
 fn write_reset_output<W: WriteStr>(w: &mut W, text: &str) -> Result<(), WriteFault>
     ensures { Puts W.meaning w.old (reset_output text.now) result w.new }
