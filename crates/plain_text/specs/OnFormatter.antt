@@ -4,10 +4,10 @@ use Rattle.std.proofs.Common.{sym, ap, ◌∙◌, subst, append_assoc, ◌∷◌
 use Rattle.std.specs.Fmt.{HasWritten, IsPlainFormatter}
 use Rattle.std.specs.List.{FoldsTo, concat}
 use Rattle.std.specs.declared.fmt.Formatter.{Formatter}
-use Rattle.plain_text.specs.Writer.{Meaning, WriterLaws, successor}
-use Rattle.plain_text.specs.declared.write_str.WriteFault.{WriteFault}
-use Rattle.plain_text.specs.declared.write_str.WriteFault.TheVariants.{Memory, Device}
-use Rattle.plain_text.specs.declared.write_str.on_formatter.OnFormatter.{OnFormatter}
+use Rattle.writers.specs.Writer.{Meaning, WriterLaws, successor}
+use Rattle.writers.specs.declared.write_str.WriteFault.{WriteFault}
+use Rattle.writers.specs.declared.write_str.WriteFault.TheVariants.{Memory, Device}
+use Rattle.writers.specs.declared.write_str.on_formatter.OnFormatter.{OnFormatter}
 
 -- steps, and then more steps
 pub folds_append : {W : Type 0} (took : W → List ℕ → W → Type 0) (s t u : W) (xs ys : List (List ℕ)) → FoldsTo took s xs t → FoldsTo took t ys u → FoldsTo took s (xs ++ ys) u

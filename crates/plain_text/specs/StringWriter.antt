@@ -2,9 +2,9 @@
 use Rattle.std.specs.Prelude.{◌≡◌, ℕ, List, ◌++◌, Some, String, string_bytes, refl}
 use Rattle.std.proofs.Common.{sym, ap, ◌∙◌, append_assoc, append-nil}
 use Rattle.std.specs.declared.alloc.Global.{Global}
-use Rattle.plain_text.specs.Writer.{Meaning, WriterLaws}
-use Rattle.plain_text.specs.declared.write_str.WriteFault.{WriteFault}
-use Rattle.plain_text.specs.declared.write_str.WriteFault.TheVariants.{Memory, Device}
+use Rattle.writers.specs.Writer.{Meaning, WriterLaws}
+use Rattle.writers.specs.declared.write_str.WriteFault.{WriteFault}
+use Rattle.writers.specs.declared.write_str.WriteFault.TheVariants.{Memory, Device}
 
 -- the string grows by the text
 pub record StringAccepts (a : String Global) (t : List ℕ) (b : String Global) : Type 0 where

@@ -3,10 +3,10 @@ use Rattle.std.specs.Prelude.{◌≡◌, ℕ, List, [], ◌++◌, Option, refl}
 use Rattle.std.proofs.Common.{sym, ap, ◌∙◌, append_assoc}
 use Rattle.std.specs.Io.KnownBytes.{Appends, append_known}
 use Rattle.std.proofs.KnownBytes.{Appends-nil, Appends-trans}
-use Rattle.plain_text.specs.Writer.{Meaning, WriterLaws, AppendsFront, successor}
-use Rattle.plain_text.specs.declared.write_str.WriteFault.{WriteFault}
-use Rattle.plain_text.specs.declared.write_str.WriteFault.TheVariants.{Memory, Device}
-use Rattle.plain_text.specs.declared.write_str.text_buffer.TextBuffer.{TextBuffer}
+use Rattle.writers.specs.Writer.{Meaning, WriterLaws, AppendsFront, successor}
+use Rattle.writers.specs.declared.write_str.WriteFault.{WriteFault}
+use Rattle.writers.specs.declared.write_str.WriteFault.TheVariants.{Memory, Device}
+use Rattle.writers.specs.declared.write_str.text_buffer.TextBuffer.{TextBuffer}
 
 -- bytes grew by a beginning of the text
 pub record GrowsWithin (old new text : List ℕ) : Type 0 where

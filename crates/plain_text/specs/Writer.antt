@@ -1,8 +1,8 @@
 -- What it is to accept a text, for any writer.
 use Rattle.std.specs.Prelude.{◌≡◌, ℕ, ◌+◌, ◌%◌, ◌^◌, List, [], ◌++◌, Option, Result, MatchResult}
 use Rattle.std.specs.Io.KnownBytes.{Appends}
-use Rattle.plain_text.specs.declared.write_str.WriteFault.{WriteFault}
-use Rattle.plain_text.specs.declared.write_str.WriteFault.TheVariants.{Device, Memory}
+use Rattle.writers.specs.declared.write_str.WriteFault.{WriteFault}
+use Rattle.writers.specs.declared.write_str.WriteFault.TheVariants.{Device, Memory}
 
 -- what "accepted", "delivered" and a fault mean for one type of writer: for a `String`, `accepts old text new` is `new ≡ old ++ text`
 pub record Meaning (S : Type 0) : Type 1 where

@@ -9,15 +9,15 @@ ghost use Rattle.std.specs.Str.{IsUtf8};
 ghost use Rattle.plain_text.specs.ColumnCounter.{saturated};
 ghost use Rattle.plain_text.specs.Escapes.{HasNoEscape, pieces};
 ghost use Rattle.plain_text.specs.Fitting.{columns, fit, shrunk, shrunk_parts, sequences, part_sequences, IsPainted, ArePainted};
-ghost use Rattle.plain_text.specs.Writer.{Puts};
+ghost use Rattle.writers.specs.Writer.{Puts};
 
 mod column_counter;
 mod fitted;
 mod scan_state;
 
-use crate::write_str::{WriteFault, WriteStr};
 use column_counter::ColumnCounter;
 use fitted::Fitted;
+use writers::write_str::{WriteFault, WriteStr};
 
 /// The laws of cut texts, where each sequence of a text ends by itself: how wide they are, and that they keep each sequence.
 #[tactic(auto, using(crate::proofs::lemmas::Widths::width_laws))]

@@ -3,11 +3,11 @@
 ghost use Rattle.std.specs.Prelude.{◌≡◌, ◌+◌, ◌/◌, ◌%◌, ◌<◌, ◌≤◌, ◌∷◌, [], ◌++◌, ◌-◌, length, chars, codes};
 ghost use Rattle.plain_text.specs.Texts.{spaces, right_in};
 ghost use Rattle.plain_text.specs.Numbers.{digit_column, last_digits, rounded, seconds};
-ghost use Rattle.plain_text.specs.Writer.{Puts};
+ghost use Rattle.writers.specs.Writer.{Puts};
 
-use crate::write_str::{WriteFault, WriteStr};
 use itoa::Buffer;
 use std::str;
+use writers::write_str::{WriteFault, WriteStr};
 
 /// The nearest whole number of units, ties up. No sum overflows, also at the greatest number.
 pub fn round_to(unit: u128, n: u128) -> u128

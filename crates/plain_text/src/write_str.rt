@@ -4,9 +4,9 @@
 //! or a file is always a beginning of the text that was meant.
 
 ghost use Rattle.std.specs.Prelude.{◌≡◌, [], OnOk, encode_utf8};
-ghost use Rattle.plain_text.specs.StringWriter.{string_meaning, string_laws};
+ghost use Rattle.writers.specs.StringWriter.{string_meaning, string_laws};
 ghost use Rattle.plain_text.specs.Texts.{strs};
-ghost use Rattle.plain_text.specs.Writer.{Meaning, WriterLaws, Puts};
+ghost use Rattle.writers.specs.Writer.{Meaning, WriterLaws, Puts};
 
 mod delivery;
 mod on_formatter;

@@ -4,8 +4,8 @@ use Rattle.std.proofs.lemmas.Bool.{eqb-true}
 use Rattle.std.proofs.lemmas.List.{drop_all}
 use Rattle.std.specs.List.{flat_map}
 use Rattle.std.specs.Result.{IsErrAnd}
-use Rattle.plain_text.specs.Writer.{Meaning, WriterLaws, Puts, Owes}
-use Rattle.plain_text.specs.declared.write_str.WriteFault.{WriteFault}
+use Rattle.writers.specs.Writer.{Meaning, WriterLaws, Puts, Owes}
+use Rattle.writers.specs.declared.write_str.WriteFault.{WriteFault}
 
 module _ {S : Type 0} {m : Meaning S} (laws : WriterLaws m) where
   -- a text, and then what a call wrote

@@ -1,7 +1,7 @@
 //! A formatter as a writer, so that `Display` and a report have one text.
 
 ghost use Rattle.std.specs.Prelude.{◌≡◌};
-ghost use Rattle.plain_text.specs.OnFormatter.{formatter_meaning, formatter_laws};
+ghost use Rattle.writers.specs.OnFormatter.{formatter_meaning, formatter_laws};
 
 use super::{WriteFault, WriteStr};
 use std::fmt;
@@ -10,7 +10,7 @@ use std::fmt::Formatter;
 /// Shows in a formatter what a value's `write_to` writes: the body of its `Display`.
 ///
 /// ```
-/// use plain_text::show_written;
+/// use writers::show_written;
 /// use std::fmt::{self, Formatter};
 /// # struct Word;
 /// # impl Word {
@@ -28,7 +28,7 @@ use std::fmt::Formatter;
 #[macro_export]
 macro_rules! show_written {
     ($value:expr, $formatter:expr) => {{
-        let mut out = $crate::write_str::OnFormatter::new($formatter);
+        let mut out = $writers::write_str::OnFormatter::new($formatter);
         let result = $value.write_to(&mut out);
         // The formatter is given back, so that what it shows is known.
         let back = out.into_inner();

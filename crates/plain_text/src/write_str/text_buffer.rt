@@ -33,8 +33,8 @@ pub struct TextBuffer<W> {
 
 impl<W: Write> TextBuffer<W> {
     ghost use Rattle.std.specs.Prelude.{◌≡◌, ◌≤◌, [], IfErr, IfOk, OnOk, length};
-    ghost use Rattle.plain_text.specs.TextBuffer.{buffer_meaning};
-    ghost use Rattle.plain_text.specs.Writer.{Puts};
+    ghost use Rattle.writers.specs.TextBuffer.{buffer_meaning};
+    ghost use Rattle.writers.specs.Writer.{Puts};
 
     /// Reserves the memory, 8,192 bytes, once. Where that is refused, the device is given back.
     pub fn new(alloc: Global, writer: W) -> Result<TextBuffer<W>, (AllocError, W)>
@@ -115,7 +115,7 @@ impl<W: Write> TextBuffer<W> {
 }
 
 impl<W: Write> WriteStr for TextBuffer<W> {
-    ghost use Rattle.plain_text.specs.TextBuffer.{buffer_meaning, buffer_laws};
+    ghost use Rattle.writers.specs.TextBuffer.{buffer_meaning, buffer_laws};
 
     ghost meaning = { buffer_meaning W.contents };
 

@@ -1,7 +1,7 @@
 use Rattle.std.proofs.Common.{drop}
 use Rattle.plain_text.specs.Texts.{strs}
-use Rattle.plain_text.specs.Writer.{Owes}
-use Rattle.plain_text.proofs.write_str.write_strs.Given as goal
+use Rattle.writers.specs.Writer.{Owes}
+use Rattle.writers.proofs.write_str.write_strs.Given as goal
 
 -- the texts that are left are owed
 abbrev pub invariant-loop-text : goal.invariant-loop-text

@@ -2,7 +2,7 @@ use Rattle.std.proofs.Common.{◌≡◌, ℕ, ◌+◌, ◌-◌, ◌≤◌, List,
 use Rattle.std.proofs.lemmas.List.{with_items_is, drop-take}
 use Rattle.std.proofs.lemmas.List.Edits.{take-paste}
 use lib.Seq.{paste}
-use Rattle.plain_text.proofs.write_str.pending_bytes.PendingBytes.remove_front.Goals as goal
+use Rattle.writers.proofs.write_str.pending_bytes.PendingBytes.remove_front.Goals as goal
 
 -- what follows the first n of len bytes, once it lies in front
 moved : (memory : List ℕ) (n len : ℕ) → n ≤ len → len ≤ length memory → take (len - n) (paste memory 0 (drop n memory) (len - n)) ≡ drop n (take len memory)

@@ -1,5 +1,5 @@
 use Rattle.std.specs.Io.KnownBytes.{Keeps}
-use Rattle.plain_text.proofs.write_str.retry_interrupted.RetryInterruptedWrite.flush.Given as goal
+use Rattle.writers.proofs.write_str.retry_interrupted.RetryInterruptedWrite.flush.Given as goal
 
 -- an interrupted call left the device's bytes as they were
 abbrev pub invariant-loop-turn : goal.invariant-loop-turn

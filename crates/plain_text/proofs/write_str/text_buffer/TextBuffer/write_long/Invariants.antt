@@ -1,7 +1,7 @@
 use Rattle.std.proofs.Common.{length}
-use Rattle.plain_text.specs.TextBuffer.{buffer_meaning}
-use Rattle.plain_text.specs.Writer.{Owes}
-use Rattle.plain_text.proofs.write_str.text_buffer.TextBuffer.write_long.Given as goal
+use Rattle.writers.specs.TextBuffer.{buffer_meaning}
+use Rattle.writers.specs.Writer.{Owes}
+use Rattle.writers.proofs.write_str.text_buffer.TextBuffer.write_long.Given as goal
 
 -- what is left is owed
 abbrev pub invariant-loop-rest : goal.invariant-loop-rest

@@ -1,7 +1,7 @@
 use Rattle.std.proofs.Common.{[]}
-use Rattle.plain_text.proofs.lemmas.Steps.{at_exit}
-use Rattle.plain_text.specs.TextBuffer.{buffer_laws}
-use Rattle.plain_text.proofs.write_str.text_buffer.TextBuffer.write_piece.Goals as goal
+use Rattle.writers.proofs.lemmas.Steps.{at_exit}
+use Rattle.writers.specs.TextBuffer.{buffer_laws}
+use Rattle.writers.proofs.write_str.text_buffer.TextBuffer.write_piece.Goals as goal
 
 pub returns-in_err-deliver : goal.returns-in_err-deliver
 returns-in_err-deliver g c =
