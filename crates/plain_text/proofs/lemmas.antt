@@ -4,7 +4,6 @@ pub mod Chunked
 pub mod Closed
 pub mod Cuts
 pub mod Decimals
-pub mod Decoded
 pub mod TrailingNewlines
 pub mod Feeds
 pub mod FitMarks
@@ -15,5 +14,4 @@ pub mod Indents
 pub mod LineSequences
 pub mod Marks
 pub mod Pieces
-pub mod StrippedTexts
 pub mod Widths

@@ -11,10 +11,8 @@ pub mod Highlights
 pub mod Indent
 pub mod Indentation
 pub mod Lines
-pub mod Lossy
 pub mod Numbers
 pub mod Piece
 pub mod Scanner
-pub mod Stripped
 pub mod Style
 pub mod Texts
