@@ -12,6 +12,7 @@ use run_names::time::Nanos;
 use std::fmt;
 use std::fmt::Formatter;
 use writers::show_written;
+use writers::text::WriteText;
 use writers::write_str::{WriteFault, WriteStr, write_strs};
 
 /// Nanoseconds of a minute.
@@ -35,12 +36,11 @@ const MILLISECOND: u128 = 1_000_000;
 #[derive(Clone, Copy, Debug, PartialEq, Eq)]
 pub struct FormattedDuration(pub Nanos);
 
-impl FormattedDuration {
-    /// Writes what it shows.
+impl WriteText for FormattedDuration {
+    ghost text = { λ d. duration_text d.0.0 };
+
     #[tactic(auto, using(std::proofs::lemmas::Bool::Decides::nat_tests), unfolding(crate::specs::Durations::duration_text))]
-    pub fn write_to<W: WriteStr>(&self, w: &mut W) -> Result<(), WriteFault>
-        ensures { Puts W.meaning w.old (duration_text self.now.0.0) result w.new }
-    {
+    fn write_to<W: WriteStr>(&self, w: &mut W) -> Result<(), WriteFault> {
         let Nanos(nanos) = self.0;
         if nanos <= MINUTE {
             write_seconds(w, nanos)?;
@@ -104,11 +104,10 @@ pub struct FormattedHhMmSs {
     pub rounding: DurationRounding,
 }
 
-impl FormattedHhMmSs {
-    /// Writes what it shows.
-    pub fn write_to<W: WriteStr>(&self, w: &mut W) -> Result<(), WriteFault>
-        ensures { Puts W.meaning w.old (clock_text (whole_seconds self.now.rounding self.now.duration.0)) result w.new }
-    {
+impl WriteText for FormattedHhMmSs {
+    ghost text = { λ d. clock_text (whole_seconds d.rounding d.duration.0) };
+
+    fn write_to<W: WriteStr>(&self, w: &mut W) -> Result<(), WriteFault> {
         let Nanos(nanos) = self.duration;
         write_clock(w, self.rounding.seconds(nanos))
     }
@@ -223,12 +222,11 @@ fn leading_zero(n: u128) -> &'static str
 #[derive(Clone, Copy, Debug, PartialEq, Eq)]
 pub struct FormattedRelativeDuration(pub Nanos);
 
-impl FormattedRelativeDuration {
-    /// Writes what it shows.
+impl WriteText for FormattedRelativeDuration {
+    ghost text = { λ d. relative_text d.0.0 };
+
     #[tactic(auto, unfolding(crate::specs::Durations::relative_text))]
-    pub fn write_to<W: WriteStr>(&self, w: &mut W) -> Result<(), WriteFault>
-        ensures { Puts W.meaning w.old (relative_text self.now.0.0) result w.new }
-    {
+    fn write_to<W: WriteStr>(&self, w: &mut W) -> Result<(), WriteFault> {
         let Nanos(nanos) = self.0;
         match TimeUnit::longest_within(nanos) {
             None => w.write_str("0s"),

@@ -26,6 +26,7 @@ use text_parts::result_words::{
     is_plain_success, spaced_short_status_str, status_str, success_str,
 };
 use unit_report::formatters::DisplayBracketedDuration;
+use writers::text::WriteText;
 use writers::write_str::{WriteFault, WriteStr};
 
 /// Where the line of a finished test stands.

@@ -5,11 +5,11 @@ ghost use Rattle.run_model.specs.Outputs.{has_loaded_output};
 ghost use Rattle.writers.specs.Writer.{Puts};
 ghost use Rattle.report_words.specs.Parts.{paint};
 ghost use Rattle.unit_report.specs.UnitOutput.{layout_of};
-ghost use Rattle.text_parts.specs.AttemptOutput.{attempt_output, exec_fail_header, finished_layout, has_info_after_failure, has_info_line, info_line, info_line_start, layout_in, output_margin, result_style, script_output, shown_info_line, stream_header, unit_output};
+ghost use Rattle.text_parts.specs.AttemptOutput.{attempt_output, exec_fail_header, finished_layout, has_info_after_failure, has_info_line, info_line_start, layout_in, output_margin, result_style, script_output, stream_header, unit_output};
 
-use crate::info_result::write_info_result;
+use crate::info_result::InfoResult;
 use crate::settings::Settings;
-use plain_text::style::{Style, Styles, write_plain};
+use plain_text::style::{Style, Styles};
 use report_text::helpers::ThemeCharacters;
 use run_model::output::{ChildExecutionOutputDescription, LiveSpec};
 use run_model::status::{
@@ -17,6 +17,7 @@ use run_model::status::{
 };
 use run_model::unit::UnitKind;
 use unit_report::unit_output::{ChildOutputSpec, OutputHeader, OutputName};
+use writers::text::{When, WriteText};
 use writers::write_str::{WriteFault, WriteStr};
 
 /// Writes the output of an attempt that ended with this result, and how it ended where nextest has a line for that.
@@ -52,7 +53,7 @@ pub fn write_setup_script_execute_status<W: WriteStr>(
 }
 
 // Writes the same of either.
-#[tactic(auto, unfolding(crate::specs::AttemptOutput::unit_output))]
+#[tactic(auto, unfolding(crate::specs::AttemptOutput::unit_output, crate::specs::AttemptOutput::info_line, crate::specs::AttemptOutput::shown_info_line))]
 fn write_unit_execute_status<W: WriteStr>(
     w: &mut W,
     settings: &Settings,
@@ -68,40 +69,10 @@ fn write_unit_execute_status<W: WriteStr>(
     settings
         .unit_output
         .write_child_execution_output(&settings.styles, &spec, output, w)?;
-    write_info_line(w, &settings.styles, kind, outcome)
-}
-
-// Writes how the unit ended, unless that is plain.
-#[tactic(auto, unfolding(crate::specs::AttemptOutput::info_line))]
-fn write_info_line<W: WriteStr>(
-    w: &mut W,
-    styles: &Styles,
-    kind: UnitKind,
-    outcome: &ExecutionResultDescription,
-) -> Result<(), WriteFault>
-    ensures { Puts W.meaning w.old (paint styles.now (info_line kind outcome.now)) result w.new }
-{
-    if show_finished_status_info_line(outcome) {
-        write_shown_info_line(w, styles, kind, outcome)
-    } else {
-        Ok(())
-    }
-}
-
-// Writes how the unit ended, aligned with the output, and an empty line.
-#[tactic(auto, unfolding(crate::specs::AttemptOutput::shown_info_line))]
-fn write_shown_info_line<W: WriteStr>(
-    w: &mut W,
-    styles: &Styles,
-    kind: UnitKind,
-    outcome: &ExecutionResultDescription,
-) -> Result<(), WriteFault>
-    ensures { Puts W.meaning w.old (paint styles.now (shown_info_line kind outcome.now)) result w.new }
-{
-    write_plain(w, info_line_start(kind))?;
     // A pass has no such line, so none was slow.
-    write_info_result(w, styles, false, outcome)?;
-    write_plain(w, ")\n\n")
+    let info = InfoResult(&settings.styles, false, outcome);
+    let line = (info_line_start(kind), info, ")\n\n");
+    When(show_finished_status_info_line(outcome), line).write_to(w)
 }
 
 // How that line begins. A benchmark is called a test there.

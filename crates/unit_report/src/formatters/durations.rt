@@ -11,6 +11,7 @@ use run_model::time::Nanos;
 use std::fmt;
 use std::fmt::Formatter;
 use writers::show_written;
+use writers::text::WriteText;
 use writers::write_str::{WriteFault, WriteStr};
 
 /// A duration between brackets, and a space: seconds with three decimals, right-aligned in eight columns.
@@ -23,13 +24,12 @@ use writers::write_str::{WriteFault, WriteStr};
 #[derive(Clone, Copy)]
 pub struct DisplayBracketedDuration(pub Nanos);
 
-impl DisplayBracketedDuration {
-    /// Writes the duration.
+impl WriteText for DisplayBracketedDuration {
+    ghost text = { λ d. bracketed_duration d.0.0 };
+
     #[inline(always)]
     #[tactic(auto, unfolding(crate::specs::Durations::bracketed_duration))]
-    pub fn write_to<W: WriteStr>(&self, w: &mut W) -> Result<(), WriteFault>
-        ensures { Puts W.meaning w.old (bracketed_duration self.now.0.0) result w.new }
-    {
+    fn write_to<W: WriteStr>(&self, w: &mut W) -> Result<(), WriteFault> {
         let Nanos(nanos) = self.0;
         write_bracketed_seconds(w, nanos)
     }
@@ -52,12 +52,11 @@ impl fmt::Display for DisplayBracketedDuration {
 #[derive(Clone, Copy)]
 pub struct DisplayBracketedHhMmSs(pub Nanos);
 
-impl DisplayBracketedHhMmSs {
-    /// Writes the duration.
+impl WriteText for DisplayBracketedHhMmSs {
+    ghost text = { λ d. bracketed_clock d.0.0 };
+
     #[tactic(auto, unfolding(crate::specs::Durations::bracketed_clock))]
-    pub fn write_to<W: WriteStr>(&self, w: &mut W) -> Result<(), WriteFault>
-        ensures { Puts W.meaning w.old (bracketed_clock self.now.0.0) result w.new }
-    {
+    fn write_to<W: WriteStr>(&self, w: &mut W) -> Result<(), WriteFault> {
         let Nanos(nanos) = self.0;
         write_clock_between(w, "[", 9, nanos / 1_000_000_000, "] ")
     }
@@ -79,12 +78,11 @@ impl fmt::Display for DisplayBracketedHhMmSs {
 #[derive(Clone, Copy)]
 pub struct DisplayDurationBy(pub Nanos);
 
-impl DisplayDurationBy {
-    /// Writes the duration.
+impl WriteText for DisplayDurationBy {
+    ghost text = { λ d. duration_by d.0.0 };
+
     #[tactic(auto, unfolding(crate::specs::Durations::duration_by))]
-    pub fn write_to<W: WriteStr>(&self, w: &mut W) -> Result<(), WriteFault>
-        ensures { Puts W.meaning w.old (duration_by self.now.0.0) result w.new }
-    {
+    fn write_to<W: WriteStr>(&self, w: &mut W) -> Result<(), WriteFault> {
         let Nanos(nanos) = self.0;
         write_seconds_between(w, "by ", 7, nanos, "s ")
     }
@@ -106,12 +104,11 @@ impl fmt::Display for DisplayDurationBy {
 #[derive(Clone, Copy)]
 pub struct DisplaySlowDuration(pub Nanos);
 
-impl DisplaySlowDuration {
-    /// Writes the duration.
+impl WriteText for DisplaySlowDuration {
+    ghost text = { λ d. slow_duration d.0.0 };
+
     #[tactic(auto, unfolding(crate::specs::Durations::slow_duration))]
-    pub fn write_to<W: WriteStr>(&self, w: &mut W) -> Result<(), WriteFault>
-        ensures { Puts W.meaning w.old (slow_duration self.now.0.0) result w.new }
-    {
+    fn write_to<W: WriteStr>(&self, w: &mut W) -> Result<(), WriteFault> {
         let Nanos(nanos) = self.0;
         write_seconds_between(w, "[>", 7, nanos, "s] ")
     }
