@@ -1,5 +1,5 @@
 -- Highlights that are valid (for `split_highlight`, `write_coloured_output`).
-use Rattle.std.proofs.Common.{Some, ◌≡◌, ℕ, ◌≤◌, ◌↔◌, Bool, true, false, ◌==◌, ◌&&◌, inl, inr, List, [], ◌∷◌, refl, sym, ap, ◌∙◌, subst, length, take, drop, drop-drop, take-take}
+use Rattle.std.proofs.Common.{Some, ◌≡◌, ℕ, ◌≤◌, ◌↔◌, Bool, true, false, ◌==◌, ◌&&◌, inl, inr, List, [], ◌∷◌, refl, sym, ap, ◌∙◌, arith, subst, length, take, drop, drop-drop, take-take}
 use Rattle.std.proofs.lemmas.Bool.{cases_Bool, and_parts}
 use Rattle.std.proofs.lemmas.Bool.Decides.{eqb_tells, nat_tests}
 use Rattle.std.proofs.lemmas.Str.{IsUtf8-take, IsCharBoundary-from_rest}
@@ -52,8 +52,7 @@ module _ (t : Text) (h : Part) (found : Bool) (tells : IsTrue found ↔ (take (l
     pub part_text : take end h.bytes ≡ take (highlight_end h.bytes) (drop h.start t)
     part_text = ap (take end) (sym held_there) ∙ take-take end (length h.bytes) (drop h.start t) within ∙ ap (λ n. take n (drop h.start t)) e
 
-    pub part_utf8 : IsUtf8 (drop h.start t) → IsUtf8 (take end h.bytes)
-    part_utf8 u = subst IsUtf8 (sym (part_text ∙ ap (λ n. take n (drop h.start t)) (sym e))) (IsUtf8-take (drop h.start t) end u stop)
-
     pub part_rest : drop end (drop h.start t) ≡ drop (highlight_stop h) t
     part_rest = drop-drop end h.start t ∙ rw e refl
+
+pub ruleset highlight_laws = (part_absent, part_valid, part_text, part_rest)
