@@ -2,7 +2,7 @@
 use Rattle.std.specs.Prelude.{◌≡◌, ◌⊎◌, true, List, [], ◌∷◌, Option, None, Some, Result, Err, OnOk, IfErr}
 use Rattle.std.specs.Option.{is_some, option_and_then, option_map_or}
 use Rattle.plain_text.specs.Texts.{Text}
-use Rattle.plain_text.specs.Writer.{Meaning, successor}
+use Rattle.writers.specs.Writer.{Meaning, successor}
 use Rattle.console_reporter.specs.Configuration.{Configuration}
 use Rattle.console_reporter.specs.Accepted.{refusal}
 use Rattle.report_words.specs.Parts.{IsOfLines}

@@ -16,7 +16,6 @@ pub use crate::imp::{
 };
 pub use bytes::Bytes;
 pub use plain_text::indenter::indented;
-pub use plain_text::write_str::{RetryInterrupted, TextBuffer, WriteStr};
 pub use run_model::abort::DescriptionText;
 pub use run_model::command::CommandLine;
 pub use run_model::config::{NextestRunMode, TestOutputDisplay};
@@ -35,3 +34,4 @@ pub use run_model::status::{
 pub use run_model::time::Nanos;
 pub use unit_report::config::{DisplayConfig, ShowProgress};
 pub use uuid::Uuid;
+pub use writers::write_str::{RetryInterrupted, TextBuffer, WriteStr};

@@ -2,7 +2,7 @@
 
 ghost use Rattle.std.specs.Prelude.{◌≡◌, ◌+◌, false};
 ghost use Rattle.plain_text.specs.Indent.{indent};
-ghost use Rattle.plain_text.specs.Writer.{Puts};
+ghost use Rattle.writers.specs.Writer.{Puts};
 ghost use Rattle.unit_report.specs.UnitOutput.{layout_of};
 ghost use Rattle.text_parts.specs.Script.{script_of};
 ghost use Rattle.plain_text.specs.Texts.{spaces};
@@ -13,7 +13,6 @@ use crate::state::{InfoUnit, write_state};
 use plain_text::indenter::indented;
 use plain_text::numbers::spaces_str;
 use plain_text::style::{Styles, write_plain};
-use plain_text::write_str::{WriteFault, WriteStr};
 use report_text::helpers::{ThemeCharacters, decimal_char_width};
 use run_model::info::{InfoResponse, SetupScriptInfoResponse, TestInfoResponse, UnitState};
 use run_model::output::{ChildExecutionOutputDescription, LiveSpec};
@@ -23,6 +22,7 @@ use text_parts::instance::{CountedInstance, write_instance_end};
 use text_parts::script::ScriptInstance;
 use text_parts::settings::Settings;
 use unit_report::unit_output::{ChildOutputSpec, OutputHeader, OutputName};
+use writers::write_str::{WriteFault, WriteStr};
 
 /// Writes the answer of a unit. `index` is its place among all, from 0. Output of the unit must not have been left
 /// unread.

@@ -1,11 +1,11 @@
 //! Durations within lines.
 
-ghost use Rattle.plain_text.specs.Writer.{Puts};
+ghost use Rattle.writers.specs.Writer.{Puts};
 ghost use Rattle.info_text.specs.Seconds.{seconds_between};
 
 use plain_text::numbers::write_seconds_between;
-use plain_text::write_str::{WriteFault, WriteStr};
 use run_model::time::Nanos;
+use writers::write_str::{WriteFault, WriteStr};
 
 /// Writes a duration in seconds with three decimals between two texts.
 ///

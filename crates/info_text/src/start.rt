@@ -1,17 +1,17 @@
 //! That all units are asked what they are doing, and that no further answers are waited for.
 
-ghost use Rattle.plain_text.specs.Writer.{Puts};
+ghost use Rattle.writers.specs.Writer.{Puts};
 ghost use Rattle.report_words.specs.Parts.{paint};
 ghost use Rattle.info_text.specs.Start.{info_finished_text, info_started_text, missing_line, missing_note};
 
 use crate::seconds::write_seconds;
 use plain_text::style::{Styles, write_plain};
-use plain_text::write_str::{WriteFault, WriteStr};
 use run_model::stats::RunStats;
 use run_model::time::Nanos;
 use text_parts::bar::write_bar_line;
 use text_parts::settings::Settings;
 use text_parts::stats_text::{failure_style, write_progress_message};
+use writers::write_str::{WriteFault, WriteStr};
 
 /// Writes how many units are asked, which are those that run, with the counts of the run.
 #[tactic(auto, unfolding(crate::specs::Start::info_started_text))]
@@ -61,7 +61,7 @@ fn write_missing_note<W: WriteStr>(
 }
 
 // Writes how many answers are missing.
-#[tactic(auto, using(plain_text::proofs::lemmas::Steps::puts_then), unfolding(crate::specs::Start::missing_line))]
+#[tactic(auto, using(writers::proofs::lemmas::Steps::puts_then), unfolding(crate::specs::Start::missing_line))]
 fn write_missing_line<W: WriteStr>(
     w: &mut W,
     styles: &Styles,

@@ -2,14 +2,13 @@
 
 ghost use Rattle.std.specs.Prelude.{◌≡◌};
 ghost use Rattle.std.specs.Option.{is_some};
-ghost use Rattle.plain_text.specs.Writer.{Puts};
+ghost use Rattle.writers.specs.Writer.{Puts};
 ghost use Rattle.report_words.specs.Parts.{paint, style_of};
 ghost use Rattle.info_text.specs.State.{attempt_text, waiting_line, delay_note, exited_text, exiting_line, exiting_note, leak_note, nanos_of, note_start, process_of, running_tone, running_line, signal_of, marked_slow_end, state_line, state_note, state_text, status_start, taken_end, tentative_info, terminating_line, terminating_note, unit_start, unknown_info};
 
 use crate::seconds::write_seconds;
 use itoa::Buffer;
 use plain_text::style::{Style, Styles, write_plain};
-use plain_text::write_str::{WriteFault, WriteStr};
 use run_model::info::{UnitState, UnitTerminateMethod, UnitTerminatingState};
 use run_model::status::{ExecutionResultDescription, RetryData};
 use run_model::time::Nanos;
@@ -17,6 +16,7 @@ use run_model::unit::UnitKind;
 use text_parts::info_result::write_info_result;
 use text_parts::settings::Settings;
 use unit_report::formatters::DisplayUnitKind;
+use writers::write_str::{WriteFault, WriteStr};
 
 /// The unit that a state is told of.
 #[derive(Clone, Copy)]
@@ -172,7 +172,7 @@ fn write_tentative_info<W: WriteStr>(
 }
 
 // Writes that it is not known how a unit ended.
-#[tactic(auto, using(plain_text::proofs::lemmas::Steps::puts_then), unfolding(crate::specs::State::unknown_info))]
+#[tactic(auto, using(writers::proofs::lemmas::Steps::puts_then), unfolding(crate::specs::State::unknown_info))]
 fn write_unknown_info<W: WriteStr>(w: &mut W, styles: &Styles) -> Result<(), WriteFault>
     ensures { Puts W.meaning w.old (paint styles.now unknown_info) result w.new }
 {

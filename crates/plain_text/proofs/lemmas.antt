@@ -4,17 +4,14 @@ pub mod Chunked
 pub mod Closed
 pub mod Cuts
 pub mod Decimals
-pub mod Deliveries
 pub mod TrailingNewlines
 pub mod Feeds
 pub mod FitMarks
 pub mod Fits
 pub mod FittedPuts
-pub mod Flushes
 pub mod IndentedCalls
 pub mod Indents
 pub mod LineSequences
 pub mod Marks
 pub mod Pieces
-pub mod Steps
 pub mod Widths

@@ -6,7 +6,7 @@ use Rattle.std.proofs.lemmas.Str.{chars-append, chars-nil, IsUtf8-append, IsUtf8
 use Rattle.plain_text.specs.Texts.{Text}
 use Rattle.plain_text.specs.Scanner.{advanced, mode_after, modes_after}
 use Rattle.plain_text.specs.Fitting.{char_columns}
-use Rattle.plain_text.specs.Writer.{Meaning, WriterLaws}
+use Rattle.writers.specs.Writer.{Meaning, WriterLaws}
 use Rattle.plain_text.specs.declared.escapes.Mode.{Mode}
 use Rattle.plain_text.specs.declared.fitting.column_counter.ColumnCounter.{ColumnCounter}
 

@@ -6,12 +6,12 @@ use Rattle.std.proofs.lemmas.Str.{chars-append, chars-nil, IsUtf8-append, IsUtf8
 use Rattle.plain_text.specs.Texts.{Text}
 use Rattle.plain_text.specs.Scanner.{advanced}
 use Rattle.plain_text.specs.Fitting.{char_columns}
-use Rattle.plain_text.specs.Writer.{Meaning, WriterLaws, Puts}
+use Rattle.writers.specs.Writer.{Meaning, WriterLaws, Puts}
 use Rattle.plain_text.specs.declared.escapes.Mode.{Mode}
 use Rattle.plain_text.specs.declared.escapes.Mode.TheVariants as mode
 use Rattle.plain_text.specs.declared.fitting.scan_state.ScanState.{ScanState}
 use Rattle.plain_text.specs.declared.fitting.fitted.Fitted.{Fitted}
-use Rattle.plain_text.specs.declared.write_str.WriteFault.{WriteFault}
+use Rattle.writers.specs.declared.write_str.WriteFault.{WriteFault}
 
 -- the place after a character of so many columns; past the end it stays
 abbrev pub next_place : ℕ → ℕ → ℕ → ℕ

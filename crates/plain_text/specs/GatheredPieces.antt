@@ -2,9 +2,9 @@
 use Rattle.std.specs.Prelude.{◌++◌, Result, MatchResult}
 use Rattle.plain_text.specs.TrailingNewline.{without_trailing_newline, held}
 use Rattle.plain_text.specs.Texts.{Text}
-use Rattle.plain_text.specs.Writer.{Meaning, Owes}
+use Rattle.writers.specs.Writer.{Meaning, Owes}
 use Rattle.plain_text.specs.declared.stripped.gathered_pieces.GatheredPieces.{GatheredPieces}
-use Rattle.plain_text.specs.declared.write_str.WriteFault.{WriteFault}
+use Rattle.writers.specs.declared.write_str.WriteFault.{WriteFault}
 
 -- what is to be written where a text follows: a line feed that is held back, what is gathered, and the text, without the
 -- line feed that closes it

@@ -7,9 +7,9 @@ use Rattle.std.proofs.lemmas.Bool.{cases_Bool}
 use Rattle.plain_text.specs.Texts.{Text}
 use Rattle.plain_text.specs.Lines.{lines}
 use Rattle.plain_text.specs.Indent.{indented_line, indented_lines, indent, margin, begins_line, after}
-use Rattle.plain_text.specs.Writer.{Meaning, WriterLaws, Puts}
+use Rattle.writers.specs.Writer.{Meaning, WriterLaws, Puts}
 use Rattle.plain_text.specs.declared.indenter.indentation.Indented.{Indented}
-use Rattle.plain_text.specs.declared.write_str.WriteFault.{WriteFault}
+use Rattle.writers.specs.declared.write_str.WriteFault.{WriteFault}
 
 -- the indented text byte by byte, where the flag says that a line begins
 abbrev pub indent_onward : Text → Bool → Text → Text

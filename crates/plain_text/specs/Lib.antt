@@ -12,11 +12,7 @@ pub mod Indent
 pub mod Indentation
 pub mod Lines
 pub mod Numbers
-pub mod OnFormatter
 pub mod Piece
 pub mod Scanner
-pub mod StringWriter
 pub mod Style
-pub mod TextBuffer
 pub mod Texts
-pub mod Writer

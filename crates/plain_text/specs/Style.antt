@@ -2,6 +2,7 @@
 use Rattle.std.specs.Prelude.{Bool, true, false, List, [], ◌∷◌, ◌++◌, codes}
 use Rattle.std.specs.List.{flat_map}
 use Rattle.plain_text.specs.Texts.{Text, right_in}
+unfoldable pub use Rattle.writers.specs.Texts.{plain}
 use Rattle.plain_text.specs.declared.style.Style.{Style}
 use Rattle.plain_text.specs.declared.style.Style.TheVariants as style
 use Rattle.plain_text.specs.declared.style.Part.{Part}
@@ -40,10 +41,7 @@ pub data PartText : Type 0 where
   Plain : Text → PartText
   Styled : Style → Text → PartText
 
--- a text as it is, and one in a style: words that a proof sees as wholes
-unfoldable pub plain : Text → Text
-plain t = t
-
+-- a text in a style: a word that a proof sees as a whole
 unfoldable pub styled : Style → Text → Text
 styled s t = style_prefix s ++ (t ++ style_suffix s)
 

@@ -1,14 +1,6 @@
--- Texts. A text is the list of the bytes of its UTF-8.
-use Rattle.std.specs.Prelude.{ℕ, ◌-◌, List, ◌++◌, length, replicate, chars}
-use Rattle.std.specs.List.{flat_map}
-use Rattle.std.specs.Borrow.{Bor}
-
-abbrev pub Text : Type 0
-Text = List ℕ
-
--- what these references point to, joined
-abbrev pub strs : List (Bor Text) → Text
-strs ss = flat_map (λ s. s.now) ss
+-- Spaces, and texts in columns.
+use Rattle.std.specs.Prelude.{ℕ, ◌-◌, ◌++◌, length, replicate, chars}
+pub use Rattle.writers.specs.Texts.{Text, strs}
 
 -- so many spaces
 abbrev pub spaces : ℕ → Text

@@ -14,16 +14,16 @@ ghost use Rattle.std.specs.Iterator.{YieldsFirstBy, item_count};
 ghost use Rattle.plain_text.specs.Escapes.{sequence_len, csi_len, csi_end_len, front_len, is_within, is_visible, is_parameter, pieces, visible, joined, stretches, HasNoEscape};
 ghost use Rattle.plain_text.specs.Piece.{piece_text};
 ghost use Rattle.plain_text.specs.Scanner.{rest_len, is_before_backslash, StepCounts, step_of, short_step_of, final_step_of, advanced};
-ghost use Rattle.plain_text.specs.Writer.{Puts};
+ghost use Rattle.writers.specs.Writer.{Puts};
 ghost use Rattle.plain_text.specs.declared.escapes.Mode.TheVariants.{Text};
 ghost use Rattle.plain_text.specs.declared.escapes.State.TheVariants.{Parameters, Intermediates, Command, Short};
 
 use crate::blocks::{parameters_in_block, stretch_in_block};
-use crate::write_str::{WriteFault, WriteStr};
 use memchr::memchr;
 use out_of_memory::OutOfMemory;
 use std::alloc::Global;
 use std::marker::Model;
+use writers::write_str::{WriteFault, WriteStr};
 
 /// The character that begins a sequence.
 pub const ESCAPE: u8 = 0x1B;

@@ -9,15 +9,16 @@ ghost use Rattle.std.specs.Str.{IsUtf8};
 ghost use Rattle.plain_text.specs.ColumnCounter.{saturated};
 ghost use Rattle.plain_text.specs.Escapes.{HasNoEscape, pieces};
 ghost use Rattle.plain_text.specs.Fitting.{columns, fit, shrunk, shrunk_parts, sequences, part_sequences, IsPainted, ArePainted};
-ghost use Rattle.plain_text.specs.Writer.{Puts};
+ghost use Rattle.writers.specs.Writer.{Puts};
 
 mod column_counter;
 mod fitted;
 mod scan_state;
 
-use crate::write_str::{WriteFault, WriteStr};
 use column_counter::ColumnCounter;
 use fitted::Fitted;
+use writers::text::WriteText;
+use writers::write_str::{WriteFault, WriteStr};
 
 /// The laws of cut texts, where each sequence of a text ends by itself: how wide they are, and that they keep each sequence.
 #[tactic(auto, using(crate::proofs::lemmas::Widths::width_laws))]
@@ -29,18 +30,6 @@ pub fn width_laws()
     ensures plain { (t : List ℕ) → IsUtf8 t → HasNoEscape t → IsPainted t }
     ensures joined { (a b : List ℕ) → IsPainted a → IsPainted b → IsPainted (a ++ b) }
 {}
-
-/// A text that can be written more than once, each time the same.
-pub trait WriteText {
-    /// The text.
-    ghost text: { Self → List ℕ };
-
-    /// Writes the text.
-    fn write_to<W: WriteStr>(&self, w: &mut W) -> Result<(), WriteFault>
-    where
-        Self: Sized,
-        ensures { Puts W.meaning w.old (text self.now) result w.new };
-}
 
 /// The columns of a text, up to `u128::MAX`. It is written once, to be counted.
 pub fn count_columns<T: WriteText>(part: &T) -> u128

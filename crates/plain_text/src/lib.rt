@@ -1,6 +1,6 @@
-//! Writers, and the texts that know nothing of a run: styles, escape sequences, lines, indentation, columns, numbers.
+//! The texts that know nothing of a run: styles, escape sequences, lines, indentation, columns, numbers.
 //!
-//! Each function that writes takes a [`write_str::WriteStr`] and has one clause: what was written, or a beginning of it
+//! Each function that writes takes a [`writers::write_str::WriteStr`] and has one clause: what was written, or a beginning of it
 //! where a fault came. No function here allocates while it writes.
 #![tactic(auto)]
 
@@ -15,5 +15,7 @@ pub mod repeated;
 pub mod reporter_helpers;
 pub mod stripped;
 pub mod style;
+pub mod text;
 pub mod trailing_newline;
-pub mod write_str;
+
+pub use writers::write_str;

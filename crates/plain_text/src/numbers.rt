@@ -2,12 +2,13 @@
 
 ghost use Rattle.std.specs.Prelude.{◌≡◌, ◌+◌, ◌/◌, ◌%◌, ◌<◌, ◌≤◌, ◌∷◌, [], ◌++◌, ◌-◌, length, chars, codes};
 ghost use Rattle.plain_text.specs.Texts.{spaces, right_in};
+ghost use Rattle.writers.specs.Texts.{plain};
 ghost use Rattle.plain_text.specs.Numbers.{digit_column, last_digits, rounded, seconds};
-ghost use Rattle.plain_text.specs.Writer.{Puts};
+ghost use Rattle.writers.specs.Writer.{Puts};
 
-use crate::write_str::{WriteFault, WriteStr};
 use itoa::Buffer;
 use std::str;
+use writers::write_str::{WriteFault, WriteStr};
 
 /// The nearest whole number of units, ties up. No sum overflows, also at the greatest number.
 pub fn round_to(unit: u128, n: u128) -> u128
@@ -174,6 +175,16 @@ pub fn write_seconds_between<W: WriteStr>(
     w.write_str(before)?;
     write_seconds_right(w, columns, nanos)?;
     w.write_str(after)
+}
+
+/// Writes nanoseconds as seconds with three decimals.
+#[tactic(auto, unfolding(writers::specs::Texts::plain, crate::specs::Numbers::seconds, crate::specs::Numbers::with_point))]
+pub fn write_seconds<W: WriteStr>(w: &mut W, nanos: u128) -> Result<(), WriteFault>
+    ensures { Puts W.meaning w.old (plain (seconds 3 nanos)) result w.new }
+{
+    let (whole, thousandths) = round_to_thousandths(nanos);
+    w.write_str(Buffer::new().format(whole))?;
+    write_decimals(w, thousandths)
 }
 
 // Writes nanoseconds as seconds with three decimals, right-aligned in the given number of columns.

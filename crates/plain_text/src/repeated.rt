@@ -2,9 +2,9 @@
 
 ghost use Rattle.std.specs.Prelude.{encode_utf8};
 ghost use Rattle.std.specs.List.{repeat};
-ghost use Rattle.plain_text.specs.Writer.{Puts};
+ghost use Rattle.writers.specs.Writer.{Puts};
 
-use crate::write_str::{WriteFault, WriteStr};
+use writers::write_str::{WriteFault, WriteStr};
 
 /// Writes the character the given number of times.
 pub fn write_repeated<W: WriteStr>(

@@ -3,15 +3,15 @@
 ghost use Rattle.std.specs.Prelude.{◌≡◌, ◌<◌, ◌++◌, length, take, drop};
 ghost use Rattle.plain_text.specs.TrailingNewline.{without_trailing_newline};
 ghost use Rattle.plain_text.specs.Escapes.{front_len, is_visible, visible};
-ghost use Rattle.plain_text.specs.Writer.{Puts};
+ghost use Rattle.writers.specs.Writer.{Puts};
 
 mod gathered_pieces;
 mod piece_buffer;
 
 use crate::escapes::{sequence_len, stretch_len};
 use crate::trailing_newline::TrailingNewline;
-use crate::write_str::{WriteFault, WriteStr};
 use gathered_pieces::GatheredPieces;
+use writers::write_str::{WriteFault, WriteStr};
 
 /// Writes a text without its escape sequences, and without one line feed that closes what is left.
 ///

@@ -7,11 +7,11 @@ ghost use Rattle.std.specs.Prelude.{◌≡◌, ◌++◌, [], true};
 ghost use Rattle.std.specs.Fmt.{decimal};
 ghost use Rattle.plain_text.specs.Texts.{right_in};
 ghost use Rattle.plain_text.specs.Style.{PartText, style_prefix, style_suffix, plain, styled, part_text, painted_part, painted, styles_of, list_styles_of};
-ghost use Rattle.plain_text.specs.Writer.{Puts};
+ghost use Rattle.writers.specs.Writer.{Puts};
 
 use crate::numbers::{write_right, write_right_joined};
-use crate::write_str::{WriteFault, WriteStr};
 use itoa::Buffer;
+use writers::write_str::{WriteFault, WriteStr};
 
 /// The sequence that ends every style but the plain one: ESC `[0m`.
 pub const RESET_COLOR: &str = "\x1b[0m";

@@ -2,9 +2,9 @@
 
 ghost use Rattle.std.specs.Prelude.{◌≡◌, ◌++◌, false, OnOk};
 ghost use Rattle.plain_text.specs.TrailingNewline.{without_trailing_newline, ends_in_line_feed, held};
-ghost use Rattle.plain_text.specs.Writer.{Puts};
+ghost use Rattle.writers.specs.Writer.{Puts};
 
-use crate::write_str::{WriteFault, WriteStr};
+use writers::write_str::{WriteFault, WriteStr};
 
 /// Writes a text that comes in pieces, without one line feed that closes it.
 ///

@@ -1,6 +1,6 @@
 //! The words of a report: what a run's values look like in it.
 //!
-//! Each function that writes takes a [`plain_text::write_str::WriteStr`] and has one clause: what was written, or a beginning of
+//! Each function that writes takes a [`writers::write_str::WriteStr`] and has one clause: what was written, or a beginning of
 //! it where a fault came. No function here allocates while it writes.
 #![tactic(auto)]
 

@@ -4,15 +4,15 @@ ghost use Rattle.std.specs.Prelude.{◌≡◌, ◌≤◌, ◌++◌, Some, chars,
 ghost use Rattle.report_words.specs.Durations.{clock_text, duration_text, leading_zero, relative_text, time_units, unit_name, unit_nanos, unit_within, whole_seconds};
 ghost use Rattle.plain_text.specs.Numbers.{seconds};
 ghost use Rattle.plain_text.specs.Texts.{right_in};
-ghost use Rattle.plain_text.specs.Writer.{Puts};
+ghost use Rattle.writers.specs.Writer.{Puts};
 
 use itoa::Buffer;
 use plain_text::numbers::{digit_str, round_to, spaces_str};
-use plain_text::show_written;
-use plain_text::write_str::{WriteFault, WriteStr, write_strs};
 use run_names::time::Nanos;
 use std::fmt;
 use std::fmt::Formatter;
+use writers::show_written;
+use writers::write_str::{WriteFault, WriteStr, write_strs};
 
 /// Nanoseconds of a minute.
 const MINUTE: u128 = 60_000_000_000;

@@ -2,12 +2,12 @@
 
 ghost use Rattle.std.specs.Prelude.{◌≡◌, IfOk, codes, string_bytes, true};
 ghost use Rattle.report_words.specs.Theme.{hbar_character, hbar_text, progress_text, tree_branch_text, tree_continuation_text, tree_last_text};
-ghost use Rattle.plain_text.specs.Writer.{Puts};
+ghost use Rattle.writers.specs.Writer.{Puts};
 
 use plain_text::repeated::write_repeated;
-use plain_text::write_str::{WriteFault, WriteStr};
 use run_names::memory::OutOfMemory;
 use std::alloc::Global;
+use writers::write_str::{WriteFault, WriteStr};
 
 /// The characters of bars and trees. By default they are ASCII.
 #[derive(Clone, Copy, Debug, Default, PartialEq, Eq)]

@@ -1,7 +1,7 @@
 //! The entries of a summary, and their order.
 
 ghost use Rattle.std.specs.Prelude.{◌≡◌, List, [], ◌∷◌, ◌++◌, OnOk, OnErr};
-ghost use Rattle.plain_text.specs.Writer.{Puts};
+ghost use Rattle.writers.specs.Writer.{Puts};
 ghost use Rattle.test_text.specs.StatusLine.{status_line};
 ghost use Rattle.test_text.specs.declared.status_line.StatusLineKind.{StatusLineKind};
 ghost use Rattle.report_words.specs.Parts.{paint};
@@ -15,7 +15,6 @@ use crate::final_output::{FinalOutput, FinalOutputEntry};
 use crate::kept_output::{KeptOutput, OutputForm, ShortSummary};
 use crate::kept_test::KeptTest;
 use crate::loaded_output::LoadedOutput;
-use plain_text::write_str::{WriteFault, WriteStr};
 use run_model::memory::OutOfMemory;
 use run_model::status::StatusSummary;
 use std::alloc::Global;
@@ -26,6 +25,7 @@ use test_text::status_line::{StatusLine, StatusLineKind, write_status_line};
 use test_text::test_skipped::write_skip_line;
 use text_parts::attempt_output::write_test_execute_status;
 use text_parts::settings::Settings;
+use writers::write_str::{WriteFault, WriteStr};
 
 /// The entries of a summary. Contracts see them in the order in which they are listed.
 #[derive(Drop)]

@@ -1,7 +1,7 @@
 //! What a replay says before it: which recorded run it shows, when that started, and how it ended.
 
 ghost use Rattle.std.specs.Prelude.{◌≡◌};
-ghost use Rattle.plain_text.specs.Writer.{Puts};
+ghost use Rattle.writers.specs.Writer.{Puts};
 ghost use Rattle.report_words.specs.Parts.{paint};
 ghost use Rattle.run_text.specs.Header.{date_text, replay_header_text, replaying_line, started_line, started_text, time_text, year_sign};
 
@@ -9,8 +9,8 @@ use crate::run_id::write_run_id;
 use jiff::civil::{Date, DateTime, Time};
 use plain_text::numbers::digit_str;
 use plain_text::style::{Styles, write_plain};
-use plain_text::write_str::{WriteFault, WriteStr, write_strs};
 use run_model::replay::ReplayHeader;
+use writers::write_str::{WriteFault, WriteStr, write_strs};
 
 /// Writes what a replay says before it.
 ///

@@ -1,15 +1,15 @@
 //! How a run stands, when it is asked for by a key.
 
-ghost use Rattle.plain_text.specs.Writer.{Puts};
+ghost use Rattle.writers.specs.Writer.{Puts};
 ghost use Rattle.report_words.specs.Parts.{paint};
 ghost use Rattle.run_text.specs.Input.{finished_of_initial, input_enter_text};
 
 use plain_text::style::{Styles, write_plain};
-use plain_text::write_str::{WriteFault, WriteStr};
 use run_model::stats::RunStats;
 use run_model::time::Nanos;
 use text_parts::stats_text::{failure_style, write_progress_message};
 use unit_report::formatters::DisplayBracketedHhMmSs;
+use writers::write_str::{WriteFault, WriteStr};
 
 /// Writes how long a run has taken, how many of its tests have finished, and its counts.
 #[tactic(auto, unfolding(crate::specs::Input::input_enter_text))]

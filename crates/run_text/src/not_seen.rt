@@ -1,18 +1,18 @@
 //! The tests that a rerun was to see and has not.
 
 ghost use Rattle.std.specs.List.{flat_map};
-ghost use Rattle.plain_text.specs.Writer.{Puts};
+ghost use Rattle.writers.specs.Writer.{Puts};
 ghost use Rattle.report_words.specs.Parts.{paint};
 ghost use Rattle.run_text.specs.NotSeen.{listed_line, more_line, more_not_seen, not_seen_line, not_seen_note, not_seen_start, not_seen_text};
 
 use plain_text::style::{Styles, write_plain};
-use plain_text::write_str::{WriteFault, WriteStr};
 use report_text::helpers::DisplayTestInstance;
 use report_text::helpers::plural::tests_str;
 use run_model::config::NextestRunMode;
 use run_model::name::OwnedTestInstanceId;
 use run_model::not_seen::NotSeen;
 use text_parts::settings::Settings;
+use writers::write_str::{WriteFault, WriteStr};
 
 /// Writes how many outstanding tests were not seen, where there are such, and those that are listed.
 pub fn write_not_seen<W: WriteStr>(

@@ -1,7 +1,7 @@
 //! A run that is stopped for a while, and goes on.
 
 ghost use Rattle.std.specs.Prelude.{◌++◌};
-ghost use Rattle.plain_text.specs.Writer.{Puts};
+ghost use Rattle.writers.specs.Writer.{Puts};
 ghost use Rattle.plain_text.specs.Style.{styled};
 ghost use Rattle.plain_text.specs.Texts.{right_in};
 ghost use Rattle.report_words.specs.Parts.{paint};
@@ -9,8 +9,8 @@ ghost use Rattle.run_text.specs.Pause.{due_to_signal, now_running, run_continued
 
 use crate::running::Running;
 use plain_text::style::write_plain;
-use plain_text::write_str::{WriteFault, WriteStr};
 use text_parts::settings::Settings;
+use writers::write_str::{WriteFault, WriteStr};
 
 /// Writes that the run was stopped for a while, and how many setup scripts or tests run.
 ///

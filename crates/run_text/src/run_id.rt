@@ -1,14 +1,14 @@
 //! The id of a run.
 
 ghost use Rattle.std.specs.Prelude.{◌≡◌, ◌≤◌, length};
-ghost use Rattle.plain_text.specs.Writer.{Puts};
+ghost use Rattle.writers.specs.Writer.{Puts};
 ghost use Rattle.report_words.specs.Parts.{paint};
 ghost use Rattle.run_text.specs.RunId.{run_id_text, id_text};
 
 use plain_text::style::Styles;
-use plain_text::write_str::{WriteFault, WriteStr};
 use run_model::run_id::ShortestRunIdPrefix;
 use uuid::Uuid;
+use writers::write_str::{WriteFault, WriteStr};
 
 /// Writes a run's id, with its unique prefix where that is known.
 #[tactic(auto, unfolding(crate::specs::RunId::id_text))]

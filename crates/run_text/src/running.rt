@@ -1,15 +1,15 @@
 //! What runs while a run is cancelled, killed or paused.
 
 ghost use Rattle.std.specs.Prelude.{◌≡◌, ◌++◌};
-ghost use Rattle.plain_text.specs.Writer.{Puts};
+ghost use Rattle.writers.specs.Writer.{Puts};
 ghost use Rattle.plain_text.specs.Style.{plain};
 ghost use Rattle.report_words.specs.Parts.{paint};
 ghost use Rattle.run_text.specs.Running.{number_running, is_none_running, running_text};
 
 use plain_text::style::{Styles, write_plain};
-use plain_text::write_str::{WriteFault, WriteStr};
 use report_text::helpers::plural::{setup_scripts_str, tests_str};
 use run_model::config::NextestRunMode;
+use writers::write_str::{WriteFault, WriteStr};
 
 /// What runs. Setup scripts and tests never run at the same time; where both are counted, the scripts are told.
 #[derive(Clone, Copy)]

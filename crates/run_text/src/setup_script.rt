@@ -3,7 +3,7 @@
 ghost use Rattle.std.specs.Prelude.{◌≡◌};
 ghost use Rattle.plain_text.specs.Style.{styled};
 ghost use Rattle.plain_text.specs.Texts.{right_in};
-ghost use Rattle.plain_text.specs.Writer.{Puts};
+ghost use Rattle.writers.specs.Writer.{Puts};
 ghost use Rattle.text_parts.specs.Script.{script_of};
 ghost use Rattle.report_words.specs.Parts.{paint, style_of};
 ghost use Rattle.run_text.specs.SetupScript.{HasFailedScriptOutput, failed_script_output, script_counter, script_status_tone, script_status_words, setup_script_finished_text, setup_script_line, setup_script_slow_text, setup_script_started_text, shown_slow_script, slow_script_level, slow_script_words};
@@ -11,7 +11,6 @@ ghost use Rattle.run_text.specs.SetupScript.{HasFailedScriptOutput, failed_scrip
 use itoa::Buffer;
 use plain_text::numbers::write_right_joined;
 use plain_text::style::{Style, Styles, write_plain};
-use plain_text::write_str::{WriteFault, WriteStr};
 use run_model::level::StatusLevel;
 use run_model::output::LiveSpec;
 use run_model::status::{ExecutionResultDescription, LeakTimeoutResult, SetupScriptExecuteStatus};
@@ -21,6 +20,7 @@ use text_parts::result_words::spaced_short_status_str;
 use text_parts::script::ScriptInstance;
 use text_parts::settings::Settings;
 use unit_report::formatters::{DisplayBracketedDuration, DisplaySlowDuration};
+use writers::write_str::{WriteFault, WriteStr};
 
 /// Writes that a setup script has started. `index` is its place among all, from 0.
 #[tactic(auto, unfolding(crate::specs::SetupScript::setup_script_started_text))]

@@ -1,12 +1,11 @@
 //! The start of a run: its id and profile, and what it is to run.
 
-ghost use Rattle.plain_text.specs.Writer.{Puts};
+ghost use Rattle.writers.specs.Writer.{Puts};
 ghost use Rattle.report_words.specs.Parts.{paint};
 ghost use Rattle.run_text.specs.Start.{profile_text, run_id_line, test_counts_text, starting_line, run_started_text};
 
 use crate::run_id::write_run_id;
 use plain_text::style::{Styles, write_plain};
-use plain_text::write_str::{WriteFault, WriteStr};
 use report_text::helpers::plural::{binaries_str, tests_str};
 use run_model::config::NextestRunMode;
 use run_model::event::TestCounts;
@@ -16,6 +15,7 @@ use text_parts::bar::write_bar_line;
 use text_parts::settings::Settings;
 use unit_report::formatters::write_skip_counts;
 use uuid::Uuid;
+use writers::write_str::{WriteFault, WriteStr};
 
 /// Writes the start of a run: its id and profile, and how many tests and binaries there are.
 #[tactic(auto, unfolding(crate::specs::Start::run_started_text))]

@@ -5,13 +5,12 @@ ghost use Rattle.std.specs.Int.NonZero.{non_zero_u32_get};
 ghost use Rattle.run_names.specs.Stress.{remaining_value};
 ghost use Rattle.report_words.specs.Durations.{clock_text, whole_seconds};
 ghost use Rattle.plain_text.specs.Style.{styled};
-ghost use Rattle.plain_text.specs.Writer.{Puts};
+ghost use Rattle.writers.specs.Writer.{Puts};
 ghost use Rattle.report_words.specs.Parts.{paint};
 ghost use Rattle.run_text.specs.Stress.{count_left_text, elapsed_text, iteration_text, of_iterations, of_time, remaining_text, stress_sub_run_finished_text, stress_sub_run_line, stress_sub_run_started_text, time_left_text};
 
 use crate::summary::{outcome_style, write_run_counts};
 use plain_text::style::{Styles, write_plain};
-use plain_text::write_str::{WriteFault, WriteStr};
 use report_text::helpers::plural::iterations_str;
 use report_text::helpers::{DurationRounding, FormattedHhMmSs};
 use run_model::stats::RunStats;
@@ -21,6 +20,7 @@ use std::num::NonZeroU32;
 use text_parts::bar::write_bar_line;
 use text_parts::settings::Settings;
 use unit_report::formatters::DisplayBracketedDuration;
+use writers::write_str::{WriteFault, WriteStr};
 
 /// Writes that an iteration of a stress run has started, and what of the run has passed and remains.
 #[tactic(auto, unfolding(crate::specs::Stress::stress_sub_run_started_text))]
@@ -92,7 +92,7 @@ fn write_of_iterations<W: WriteStr>(
 }
 
 // Writes how long the run has taken, and of how long where that is known.
-#[tactic(auto, using(plain_text::proofs::lemmas::Steps::puts_then), unfolding(crate::specs::Stress::elapsed_text))]
+#[tactic(auto, using(writers::proofs::lemmas::Steps::puts_then), unfolding(crate::specs::Stress::elapsed_text))]
 fn write_elapsed<W: WriteStr>(
     w: &mut W,
     styles: &Styles,

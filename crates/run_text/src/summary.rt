@@ -1,12 +1,11 @@
 //! The end of a run before its entries: how long it took, and its counts.
 
 ghost use Rattle.std.specs.Prelude.{◌≡◌};
-ghost use Rattle.plain_text.specs.Writer.{Puts};
+ghost use Rattle.writers.specs.Writer.{Puts};
 ghost use Rattle.report_words.specs.Parts.{paint, style_of};
 ghost use Rattle.run_text.specs.Summary.{cancel_reason_text, cancelled_due_to, failed_iterations, initial_count_text, iterations_run_text, last_number, of_total, outcome_tone, run_counts_text, run_finished_text, stress_counts_text, stress_outcome_tone, summary_counts, summary_line, summary_tone};
 
 use plain_text::style::{Style, Styles, write_plain};
-use plain_text::write_str::{WriteFault, WriteStr};
 use report_text::helpers::plural::{iterations_str, tests_plural_if};
 use run_model::config::NextestRunMode;
 use run_model::level::CancelReason;
@@ -20,6 +19,7 @@ use text_parts::bar::write_bar_line;
 use text_parts::settings::Settings;
 use text_parts::stats_text::{write_counted, write_summary_text};
 use unit_report::formatters::DisplayBracketedDuration;
+use writers::write_str::{WriteFault, WriteStr};
 
 /// Writes the end of a run before its entries: how long it took and its counts.
 #[tactic(auto, unfolding(crate::specs::Summary::run_finished_text))]

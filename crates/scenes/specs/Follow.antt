@@ -1,7 +1,7 @@
 -- A report that keeps up with its lines: what stops one, and what the run came to.
 use Rattle.std.specs.Prelude.{◌≡◌, ◌⊎◌, ℕ, List, ◌∷◌, ◌++◌, Bool, true, Result, Ok, Err, IfErr, IfOk, OnOk}
 use Rattle.std.specs.Borrow.{Bor}
-use Rattle.plain_text.specs.Writer.{Meaning}
+use Rattle.writers.specs.Writer.{Meaning}
 use Rattle.console_reporter.specs.OptionalStore.{store_meaning}
 use Rattle.scene_text.specs.SceneTexts.{EventLine, ParsedLines, RunLine, is_begun, line_value, lines_before}
 use Rattle.scene_text.specs.declared.reader.LinesRead.{LinesRead}

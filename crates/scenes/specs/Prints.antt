@@ -4,9 +4,9 @@ use Rattle.std.specs.Io.KnownBytes.{Appends}
 use Rattle.std.specs.List.{AllZip}
 use Rattle.std.specs.Option.{is_some}
 use Rattle.plain_text.specs.Texts.{Text}
-use Rattle.plain_text.specs.Writer.{AppendsFront, Meaning}
-use Rattle.plain_text.specs.declared.write_str.WriteFault.{WriteFault}
-use Rattle.plain_text.specs.declared.write_str.WriteFault.TheVariants.{Device, Memory}
+use Rattle.writers.specs.Writer.{AppendsFront, Meaning}
+use Rattle.writers.specs.declared.write_str.WriteFault.{WriteFault}
+use Rattle.writers.specs.declared.write_str.WriteFault.TheVariants.{Device, Memory}
 use Rattle.console_reporter.specs.Outcomes.{HasFront}
 use Rattle.reporter_state.specs.Refusals.{first_refused}
 use Rattle.run_model.specs.declared.call.ReportCall.{ReportCall}

@@ -1,6 +1,6 @@
 -- The events of a scene, reported one after the other: what a reporter of some has done, and what stops one.
 use Rattle.std.specs.Prelude.{◌≡◌, ◌⊎◌, ℕ, List, [], ◌∷◌, ◌++◌, get_or, length, reverse, Option}
-use Rattle.plain_text.specs.Writer.{Meaning}
+use Rattle.writers.specs.Writer.{Meaning}
 use Rattle.console_reporter.specs.HeldState.{StandsAfter}
 use Rattle.console_reporter.specs.OptionalStore.{store_meaning}
 use Rattle.console_reporter.specs.declared.imp.store.Store.{Store}

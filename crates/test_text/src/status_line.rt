@@ -3,7 +3,7 @@
 ghost use Rattle.std.specs.Prelude.{◌≡◌, ◌++◌, IfOk, IsOk, codes, false};
 ghost use Rattle.std.specs.Bool.{OnTrue};
 ghost use Rattle.run_model.specs.Statuses.{described_summary, is_aborted};
-ghost use Rattle.plain_text.specs.Writer.{Puts};
+ghost use Rattle.writers.specs.Writer.{Puts};
 ghost use Rattle.plain_text.specs.Style.{plain, styled};
 ghost use Rattle.plain_text.specs.Texts.{right_in};
 ghost use Rattle.text_parts.specs.ResultWords.{long_failure_word, long_word};
@@ -12,7 +12,6 @@ ghost use Rattle.test_text.specs.StatusLine.{is_final_line, shown_summary, flaky
 
 use itoa::Buffer;
 use plain_text::style::{Style, Styles, write_plain};
-use plain_text::write_str::{WriteFault, WriteStr};
 use run_model::memory::OutOfMemory;
 use run_model::output::OutputSpec;
 use run_model::status::{
@@ -27,6 +26,7 @@ use text_parts::result_words::{
     is_plain_success, spaced_short_status_str, status_str, success_str,
 };
 use unit_report::formatters::DisplayBracketedDuration;
+use writers::write_str::{WriteFault, WriteStr};
 
 /// Where the line of a finished test stands.
 #[derive(Clone, Copy, Debug, PartialEq, Eq)]

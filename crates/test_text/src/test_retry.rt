@@ -3,7 +3,7 @@
 ghost use Rattle.std.specs.Prelude.{◌≡◌, true};
 ghost use Rattle.plain_text.specs.Style.{styled};
 ghost use Rattle.plain_text.specs.Texts.{right_in};
-ghost use Rattle.plain_text.specs.Writer.{Puts};
+ghost use Rattle.writers.specs.Writer.{Puts};
 ghost use Rattle.report_words.specs.Parts.{paint};
 ghost use Rattle.test_text.specs.TestRetry.{HasFailedAttemptOutput, attempt_failed_line, attempt_failed_text, delay_line, delay_words, failed_output, is_failed_output_shown};
 ghost use Rattle.text_parts.specs.Settings.{is_level_shown};
@@ -13,7 +13,6 @@ ghost use Rattle.text_parts.specs.ResultWords.{short_word};
 
 use itoa::Buffer;
 use plain_text::style::{Style, Styles, write_plain};
-use plain_text::write_str::{WriteFault, WriteStr};
 use run_model::config::TestOutputDisplay;
 use run_model::level::StatusLevel;
 use run_model::name::TestInstanceId;
@@ -26,6 +25,7 @@ use text_parts::instance::{CountedInstance, write_instance_end};
 use text_parts::result_words::spaced_short_status_str;
 use text_parts::settings::Settings;
 use unit_report::formatters::{DisplayBracketedDuration, DisplayDurationBy};
+use writers::write_str::{WriteFault, WriteStr};
 
 /// Writes that an attempt has failed and another one follows, where such attempts are shown: its line, its output where
 /// that is shown at once, and how long the next attempt waits. Output that is shown must not have been left unread.

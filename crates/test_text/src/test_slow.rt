@@ -3,13 +3,12 @@
 ghost use Rattle.std.specs.Prelude.{◌≡◌};
 ghost use Rattle.plain_text.specs.Style.{styled};
 ghost use Rattle.plain_text.specs.Texts.{right_in};
-ghost use Rattle.plain_text.specs.Writer.{Puts};
+ghost use Rattle.writers.specs.Writer.{Puts};
 ghost use Rattle.report_words.specs.Parts.{paint, style_of};
 ghost use Rattle.test_text.specs.TestSlow.{has_number, is_last_attempt, is_level_exceeded, slow_end, slow_text, slow_word, terminating_level, terminating_text, terminating_tone, terminating_word, test_slow_text};
 
 use itoa::Buffer;
 use plain_text::style::{Style, Styles, write_plain};
-use plain_text::write_str::{WriteFault, WriteStr};
 use run_model::level::StatusLevel;
 use run_model::name::TestInstanceId;
 use run_model::status::RetryData;
@@ -18,6 +17,7 @@ use run_model::time::Nanos;
 use text_parts::instance::{CountedInstance, write_instance_end};
 use text_parts::settings::Settings;
 use unit_report::formatters::DisplaySlowDuration;
+use writers::write_str::{WriteFault, WriteStr};
 
 /// Writes that an attempt of a test is slow, or that it is ended for that, where its level is shown.
 ///

@@ -1,13 +1,12 @@
 //! A test that starts, and another attempt of one: shown where output is not captured, or with commands.
 
-ghost use Rattle.plain_text.specs.Writer.{Puts};
+ghost use Rattle.writers.specs.Writer.{Puts};
 ghost use Rattle.text_parts.specs.Instance.{padded_instance};
 ghost use Rattle.report_words.specs.Parts.{paint};
 ghost use Rattle.test_text.specs.TestStarted.{command_text, retry_start_line, start_line, test_retry_started_text, test_started_text};
 
 use itoa::Buffer;
 use plain_text::style::write_plain;
-use plain_text::write_str::{WriteFault, WriteStr};
 use report_text::helpers::quoting::write_shell_words;
 use run_model::command::CommandLine;
 use run_model::name::TestInstanceId;
@@ -16,6 +15,7 @@ use run_model::status::RetryData;
 use run_model::stress::StressIndex;
 use text_parts::instance::{CountedInstance, write_untimed_end};
 use text_parts::settings::Settings;
+use writers::write_str::{WriteFault, WriteStr};
 
 /// Writes that a test has started, and the command that runs it.
 ///

@@ -2,16 +2,16 @@
 
 ghost use Rattle.report_text.specs.Failure.{nt_status_text};
 ghost use Rattle.plain_text.specs.Style.{styled};
-ghost use Rattle.plain_text.specs.Writer.{Puts};
+ghost use Rattle.writers.specs.Writer.{Puts};
 ghost use Rattle.report_words.specs.Parts.{paint};
 ghost use Rattle.text_parts.specs.AbortLine.{indented_message, nt_message, nt_line, job_object_line, line_of_abort, line_of_failure, abort_line};
 
 use plain_text::indenter::indented;
 use plain_text::style::{Style, Styles, write_plain};
-use plain_text::write_str::{WriteFault, WriteStr};
 use report_text::helpers::write_nt_status;
 use run_model::abort::{AbortDescription, DescriptionText};
 use run_model::status::{ExecutionResultDescription, FailureDescription};
+use writers::write_str::{WriteFault, WriteStr};
 
 /// Writes what is said of an abort after the line of its test. A signal is told by the line itself.
 #[tactic(auto, unfolding(crate::specs::AbortLine::abort_line))]

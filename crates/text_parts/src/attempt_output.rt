@@ -2,7 +2,7 @@
 
 ghost use Rattle.std.specs.Prelude.{◌≡◌, true};
 ghost use Rattle.run_model.specs.Outputs.{has_loaded_output};
-ghost use Rattle.plain_text.specs.Writer.{Puts};
+ghost use Rattle.writers.specs.Writer.{Puts};
 ghost use Rattle.report_words.specs.Parts.{paint};
 ghost use Rattle.unit_report.specs.UnitOutput.{layout_of};
 ghost use Rattle.text_parts.specs.AttemptOutput.{attempt_output, exec_fail_header, finished_layout, has_info_after_failure, has_info_line, info_line, info_line_start, layout_in, output_margin, result_style, script_output, shown_info_line, stream_header, unit_output};
@@ -10,7 +10,6 @@ ghost use Rattle.text_parts.specs.AttemptOutput.{attempt_output, exec_fail_heade
 use crate::info_result::write_info_result;
 use crate::settings::Settings;
 use plain_text::style::{Style, Styles, write_plain};
-use plain_text::write_str::{WriteFault, WriteStr};
 use report_text::helpers::ThemeCharacters;
 use run_model::output::{ChildExecutionOutputDescription, LiveSpec};
 use run_model::status::{
@@ -18,6 +17,7 @@ use run_model::status::{
 };
 use run_model::unit::UnitKind;
 use unit_report::unit_output::{ChildOutputSpec, OutputHeader, OutputName};
+use writers::write_str::{WriteFault, WriteStr};
 
 /// Writes the output of an attempt that ended with this result, and how it ended where nextest has a line for that.
 ///

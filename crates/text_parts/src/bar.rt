@@ -2,12 +2,12 @@
 
 ghost use Rattle.std.specs.Prelude.{◌++◌, codes};
 ghost use Rattle.plain_text.specs.Style.{plain};
-ghost use Rattle.plain_text.specs.Writer.{Puts};
+ghost use Rattle.writers.specs.Writer.{Puts};
 ghost use Rattle.report_words.specs.Theme.{hbar_text};
 
 use plain_text::style::write_plain;
-use plain_text::write_str::{WriteFault, WriteStr};
 use report_text::helpers::ThemeCharacters;
+use writers::write_str::{WriteFault, WriteStr};
 
 /// Writes the line of a bar of twelve characters.
 pub fn write_bar_line<W: WriteStr>(

@@ -1,16 +1,16 @@
 //! What an attempt came to, in words.
 
-ghost use Rattle.plain_text.specs.Writer.{Puts};
+ghost use Rattle.writers.specs.Writer.{Puts};
 ghost use Rattle.report_words.specs.Parts.{paint};
 ghost use Rattle.text_parts.specs.InfoResult.{leaked_note, exit_code_info, signal_name, signal_info, aborted_info, abort_info, failure_info, leak_info, leak_failed_info, timeout_info, passed_info, exec_fail_info, info_text};
 
 use itoa::Buffer;
 use plain_text::style::{Styles, write_plain};
-use plain_text::write_str::{WriteFault, WriteStr};
 use run_model::abort::{AbortDescription, DescriptionText};
 use run_model::status::{
     ExecutionResultDescription, FailureDescription, LeakTimeoutResult, SlowTimeoutResult,
 };
+use writers::write_str::{WriteFault, WriteStr};
 
 /// Writes how an attempt ended, as in `failed with exit code 1`.
 pub fn write_info_result<W: WriteStr>(

@@ -2,16 +2,16 @@
 
 ghost use Rattle.std.specs.Prelude.{◌≡◌};
 ghost use Rattle.report_text.specs.Instance.{instance_text};
-ghost use Rattle.plain_text.specs.Writer.{Puts};
+ghost use Rattle.writers.specs.Writer.{Puts};
 ghost use Rattle.report_words.specs.Parts.{paint};
 ghost use Rattle.text_parts.specs.Instance.{instance_end, padded_instance, untimed_end};
 
 use crate::settings::Settings;
 use plain_text::style::{Styles, write_plain};
-use plain_text::write_str::{WriteFault, WriteStr};
 use report_text::helpers::{DisplayCounterIndex, write_test_instance};
 use run_model::name::TestInstanceId;
 use run_model::stress::StressIndex;
+use writers::write_str::{WriteFault, WriteStr};
 
 /// A test as its lines name it.
 #[derive(Clone, Copy)]

@@ -1,15 +1,15 @@
 //! Which setup script a line speaks of.
 
-ghost use Rattle.plain_text.specs.Writer.{Puts};
+ghost use Rattle.writers.specs.Writer.{Puts};
 ghost use Rattle.report_words.specs.Parts.{paint};
 ghost use Rattle.text_parts.specs.Script.{script_of, shown_script};
 
 use plain_text::style::Styles;
-use plain_text::write_str::{WriteFault, WriteStr};
 use report_text::helpers::write_script_instance;
 use run_model::command::CommandLine;
 use run_model::name::{ProgramName, ScriptId};
 use run_model::stress::StressIndex;
+use writers::write_str::{WriteFault, WriteStr};
 
 /// A setup script as its lines name it.
 #[derive(Clone, Copy)]

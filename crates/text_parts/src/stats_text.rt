@@ -1,14 +1,14 @@
 //! The counts of a run in words, and the style that they give it.
 
 ghost use Rattle.std.specs.Prelude.{◌≡◌, ◌==◌, ◌++◌, [], if◌then◌else◌, codes};
-ghost use Rattle.plain_text.specs.Writer.{Puts};
+ghost use Rattle.writers.specs.Writer.{Puts};
 ghost use Rattle.plain_text.specs.Style.{plain, styled};
 ghost use Rattle.report_words.specs.Parts.{paint, style_of};
 ghost use Rattle.text_parts.specs.StatsText.{failure_tone, progress_message, summary_text, counted_front, passed_front, passed_notes, leaky_failed_note, failed_count, failed_counts, exec_failed_count, timed_out_count};
 
 use plain_text::style::{Style, Styles, write_plain};
-use plain_text::write_str::{WriteFault, WriteStr};
 use run_model::stats::RunStats;
+use writers::write_str::{WriteFault, WriteStr};
 
 /// The style of a run by whether something has failed in it.
 pub fn failure_style(styles: &Styles, stats: &RunStats) -> Style

@@ -2,8 +2,8 @@
 use Rattle.std.proofs.Common.{◌≡◌, ℕ, ◌+◌, ◌<◌, ◌≤◌, List, [], ◌∷◌, ◌++◌, length, reverse, take, get_or, sym, ap, ◌∙◌, subst, Result, Ok, Err, IfErr, OnOk, Some, ◌⊎◌, inl, inr, refl, append-nil}
 use Rattle.std.specs.Result.{IsErrOf}
 use Rattle.std.proofs.lemmas.List.{take_more, take_all, reverse-append}
-use Rattle.plain_text.specs.Writer.{Meaning, WriterLaws, successor}
-use Rattle.plain_text.specs.declared.write_str.WriteFault.{WriteFault}
+use Rattle.writers.specs.Writer.{Meaning, WriterLaws, successor}
+use Rattle.writers.specs.declared.write_str.WriteFault.{WriteFault}
 use Rattle.reporter_state.specs.declared.faults.WriteEventError.{WriteEventError}
 use Rattle.reporter_state.specs.declared.faults.WriteEventError.TheVariants.{RetriedSuccess, OutputNotLoaded, Io, Memory, Failed, StoreIo}
 use Rattle.reporter_state.specs.declared.faults.RunFault.{RunFault}
@@ -16,7 +16,7 @@ use Rattle.run_model.specs.declared.event.TestEvent.{TestEvent}
 use Rattle.run_model.specs.declared.call.ReportCall.TheVariants.{Event}
 use Rattle.console_reporter.specs.Configuration.{Configuration}
 use Rattle.run_model.specs.declared.call.ReportCall.{ReportCall}
-use Rattle.plain_text.specs.declared.write_str.WriteFault.TheVariants.{Device, Memory as RefusedMemory}
+use Rattle.writers.specs.declared.write_str.WriteFault.TheVariants.{Device, Memory as RefusedMemory}
 use Rattle.console_reporter.specs.Outcomes.{IsOfConsole, Side, Stops, error_for}
 use Rattle.console_reporter.specs.Outcomes.Side.{Report, Records}
 use Rattle.console_reporter.specs.HeldState.{MayGrow, StandsAfter}

@@ -3,7 +3,7 @@
 use Rattle.std.proofs.Common.{◌≡◌, ◌⊎◌, Bool, true, false, inl, inr, List, [], Option, None, Some, IfSome, Ok, Err, refl, ap, ap₂, sym, subst, ◌∙◌}
 use Rattle.std.specs.Option.{is_some}
 use Rattle.plain_text.specs.Texts.{Text}
-use Rattle.plain_text.specs.Writer.{Meaning, WriterLaws}
+use Rattle.writers.specs.Writer.{Meaning, WriterLaws}
 use Rattle.console_reporter.specs.Configuration.{Configuration}
 use Rattle.console_reporter.specs.OptionalStore.{config_of}
 use Rattle.console_reporter.specs.HeldState.{HasFailed, MayGrowIn, StandsAfter}

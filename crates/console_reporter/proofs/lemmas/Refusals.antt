@@ -1,7 +1,7 @@
 -- Refusals (for `DisplayReporter::write_event`, and lemmas/Promises).
 use Rattle.std.proofs.Common.{◌≡◌, ℕ, List, true, Option, None, Some, inl, refl}
 use Rattle.std.specs.Option.{is_some}
-use Rattle.plain_text.specs.Writer.{Meaning}
+use Rattle.writers.specs.Writer.{Meaning}
 use Rattle.console_reporter.specs.OptionalStore.{store_meaning}
 use Rattle.console_reporter.specs.Telling.{Breaks}
 use Rattle.run_model.specs.declared.call.ReportCall.{ReportCall}

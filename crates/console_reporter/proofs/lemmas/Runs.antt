@@ -4,7 +4,7 @@ use Rattle.std.proofs.lemmas.Result.{on_ok_weaker, IfErr-weaker}
 use Rattle.std.specs.Option.{option_map_or}
 use Rattle.std.specs.Prelude.{slice_get}
 use Rattle.plain_text.specs.Texts.{Text}
-use Rattle.plain_text.specs.Writer.{Meaning, WriterLaws, successor}
+use Rattle.writers.specs.Writer.{Meaning, WriterLaws, successor}
 use Rattle.reporter_state.specs.Entries.{cancel}
 use Rattle.console_reporter.specs.Accepted.{AreAccepted, refusal_at}
 use Rattle.console_reporter.specs.Configuration.{Configuration, settings_of}

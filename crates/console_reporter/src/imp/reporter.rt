@@ -2,7 +2,7 @@
 
 ghost use Rattle.std.specs.Prelude.{◌≡◌, ◌≤◌, ◌⊎◌, List, [], ◌∷◌, OnOk, IfErr, IfSome, IsErrOf, Err, None, Some, length, reverse, slice_get, take, false};
 ghost use Rattle.run_names.specs.Levels.{reason_rank};
-ghost use Rattle.plain_text.specs.Writer.{Puts, successor};
+ghost use Rattle.writers.specs.Writer.{Puts, successor};
 ghost use Rattle.report_words.specs.Parts.{paint};
 ghost use Rattle.run_text.specs.Header.{replay_header_text};
 ghost use Rattle.run_model.specs.declared.call.ReportCall.{ReportCall};
@@ -24,7 +24,6 @@ ghost use Rattle.console_reporter.specs.HeldState.{StandsAfter, HasFailed, IsSam
 
 use super::event_text::write_event_text;
 use super::store::Store;
-use plain_text::write_str::{WriteFault, WriteStr};
 use reporter_state::decider::OutputLoadDecider;
 use reporter_state::faults::{RunFault, WriteEventError};
 use reporter_state::finished_attempts::FinishedAttempts;
@@ -39,6 +38,7 @@ use std::alloc::Global;
 use store_text::config::StoreConfig;
 use test_text::test_finished::FinishedTest;
 use text_parts::settings::Settings;
+use writers::write_str::{WriteFault, WriteStr};
 
 /// Reports events to a writer, and writes a record of each finished test to a store, if it has one.
 ///

@@ -10,11 +10,11 @@ ghost use Rattle.console_reporter.specs.Runs.{Runs, absent};
 use super::builder::DisplayReporterBuilder;
 use super::reporter::DisplayReporter;
 use super::store::Store;
-use plain_text::write_str::WriteStr;
 use reporter_state::faults::RunFault;
 use run_model::call::ReportCall;
 use std::alloc::Global;
 use store_text::config::StoreConfig;
+use writers::write_str::WriteStr;
 
 /// A report is the texts of its calls, one after another, each at the index of its call.
 pub fn texts_make_the_report()

@@ -5,7 +5,7 @@ use Rattle.std.proofs.lemmas.Str.{IsCharBoundary-after_ascii}
 use Rattle.std.specs.Str.{IsUtf8, IsCharBoundary}
 use Rattle.memchr.specs.Find.{NoneBefore, Passes, is_byte, Nowhere}
 use Rattle.plain_text.specs.Texts.{Text}
-use Rattle.plain_text.specs.Lines.{IsOneLine, lines, onto_first_line, whole_lines}
+use Rattle.plain_text.specs.Lines.{IsOneLine, lines, whole_lines}
 use lib.Seq.{take-add}
 use Rattle.std.proofs.Math.Seq.{drop-cons, take-suc, take-length}
 use Rattle.std.proofs.lemmas.Bool.{false_from_ne_true, eqb-true}

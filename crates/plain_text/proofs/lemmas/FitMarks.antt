@@ -16,9 +16,9 @@ use Rattle.plain_text.proofs.lemmas.Marks.{Mark, marks, tagged, piece_marks, mar
 use Rattle.plain_text.specs.declared.escapes.Mode.{Mode}
 use Rattle.plain_text.specs.declared.escapes.Mode.TheVariants as mode
 use Rattle.plain_text.specs.declared.fitting.scan_state.ScanState.{ScanState}
-use Rattle.plain_text.specs.Writer.{Meaning, WriterLaws, Puts}
+use Rattle.writers.specs.Writer.{Meaning, WriterLaws, Puts}
 use Rattle.plain_text.specs.declared.fitting.fitted.Fitted.{Fitted}
-use Rattle.plain_text.specs.declared.write_str.WriteFault.{WriteFault}
+use Rattle.writers.specs.declared.write_str.WriteFault.{WriteFault}
 use Rattle.plain_text.proofs.lemmas.FittedPuts.{first_scalar, one_utf8, one_char}
 use Rattle.plain_text.specs.declared.fitting.column_counter.ColumnCounter.{ColumnCounter}
 

@@ -6,9 +6,9 @@ use Rattle.std.specs.Str.{IsUtf8, all_scalars}
 use lib.Utf8.{scalar}
 use Rattle.plain_text.specs.Texts.{Text}
 use Rattle.plain_text.specs.Fitted.{kept_char, kept_from, fitted_text, fitted_text-nil, scan_after, PutsChar, fitted_meaning}
-use Rattle.plain_text.specs.Writer.{Meaning, Puts}
+use Rattle.writers.specs.Writer.{Meaning, Puts}
 use Rattle.plain_text.specs.declared.fitting.fitted.Fitted.{Fitted}
-use Rattle.plain_text.specs.declared.write_str.WriteFault.{WriteFault}
+use Rattle.writers.specs.declared.write_str.WriteFault.{WriteFault}
 
 -- a character that a text begins with
 pub first_scalar : (t rest : Text) (c : ℕ) → IsUtf8 t → t ≡ encode_utf8 c ++ rest → scalar c ≡ true

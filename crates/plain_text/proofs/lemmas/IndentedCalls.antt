@@ -12,7 +12,7 @@ use Rattle.plain_text.specs.Texts.{Text}
 use Rattle.plain_text.specs.Lines.{IsOneLine}
 use Rattle.plain_text.specs.Indent.{margin, indent, after}
 use Rattle.plain_text.specs.Indentation.{IndentedTakes, TakesMargin, indent-append, after-append, indent-none, after-none}
-use Rattle.plain_text.specs.OnFormatter.{folds_append, concat_append, written_twice}
+use Rattle.writers.specs.OnFormatter.{folds_append, concat_append, written_twice}
 use Rattle.plain_text.proofs.lemmas.Indents.{indent-line, margin-first}
 use Rattle.plain_text.specs.declared.indenter.indentation.Indented.{Indented}
 

@@ -7,9 +7,9 @@ use Rattle.plain_text.specs.Texts.{Text}
 use Rattle.plain_text.specs.Lines.{IsOneLine}
 use Rattle.plain_text.specs.Indent.{margin, indent, after}
 use Rattle.plain_text.specs.Indentation.{indent-append, indent_onward, indent-onward, after_onward, after-onward, indented_meaning, IndentedStops, IndentedAccepts, PutsMargin}
-use Rattle.plain_text.specs.Writer.{Meaning, WriterLaws, Puts}
+use Rattle.writers.specs.Writer.{Meaning, WriterLaws, Puts}
 use Rattle.plain_text.specs.declared.indenter.indentation.Indented.{Indented}
-use Rattle.plain_text.specs.declared.write_str.WriteFault.{WriteFault}
+use Rattle.writers.specs.declared.write_str.WriteFault.{WriteFault}
 
 -- one line, by its bytes
 abbrev Line : Text → Type 0

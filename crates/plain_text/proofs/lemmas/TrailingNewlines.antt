@@ -5,9 +5,9 @@ use Rattle.std.proofs.lemmas.List.{nil_from_length}
 use Rattle.std.specs.Result.{IsErrAnd}
 use Rattle.plain_text.specs.Texts.{Text}
 use Rattle.plain_text.specs.TrailingNewline.{without_trailing_newline, ends_in_line_feed, held}
-use Rattle.plain_text.specs.Writer.{Meaning, WriterLaws, Puts, Owes}
-use Rattle.plain_text.specs.declared.write_str.WriteFault.{WriteFault}
-use Rattle.plain_text.proofs.lemmas.Steps.{owes_accepted, owes_stopped, owes_nothing, at_exit, owes_all, stops_early}
+use Rattle.writers.specs.Writer.{Meaning, WriterLaws, Puts, Owes}
+use Rattle.writers.specs.declared.write_str.WriteFault.{WriteFault}
+use Rattle.writers.proofs.lemmas.Steps.{owes_accepted, owes_stopped, owes_nothing, at_exit, owes_all, stops_early}
 
 -- the end of a text is that of what follows its front
 pub without_trailing_newline-after : (t : Text) (d : ℕ) (u : Text) → without_trailing_newline (t ++ (d ∷ u)) ≡ t ++ without_trailing_newline (d ∷ u)

@@ -4,7 +4,7 @@ ghost use Rattle.std.specs.Prelude.{◌≡◌, ◌<◌, ◌^◌};
 
 use super::scan_state::char_columns;
 use crate::escapes::{Mode, advance};
-use crate::write_str::{WriteFault, WriteStr};
+use writers::write_str::{WriteFault, WriteStr};
 
 /// Counts the columns of what is written to it, up to `u128::MAX`. Nothing else becomes of it, and no write fails.
 #[derive(Drop)]

@@ -4,7 +4,7 @@ ghost use Rattle.std.specs.Prelude.{◌≡◌, ◌<◌, ◌^◌, false};
 
 use super::scan_state::ScanState;
 use crate::escapes::Mode;
-use crate::write_str::{WriteFault, WriteStr};
+use writers::write_str::{WriteFault, WriteStr};
 
 /// Lets through what lies between two columns of what is written, and every sequence.
 #[derive(Drop)]

@@ -5,11 +5,11 @@
 ghost use Rattle.std.specs.Prelude.{◌≡◌, false, OnOk};
 ghost use Rattle.plain_text.specs.Indentation.{PutsMargin, TakesMargin, IndentedTakes, indented_meaning, indented_laws};
 ghost use Rattle.plain_text.specs.Lines.{IsOneLine};
-ghost use Rattle.plain_text.specs.Writer.{Puts};
+ghost use Rattle.writers.specs.Writer.{Puts};
 
 use crate::lines::split_line;
-use crate::write_str::{WriteFault, WriteStr};
 use std::fmt;
+use writers::write_str::{WriteFault, WriteStr};
 
 /// Indents each line of what is written to the writer below.
 ///

@@ -6,7 +6,7 @@ ghost use Rattle.plain_text.specs.GatheredPieces.{unwritten, Carries};
 
 use super::piece_buffer::PieceBuffer;
 use crate::trailing_newline::TrailingNewline;
-use crate::write_str::{WriteFault, WriteStr};
+use writers::write_str::{WriteFault, WriteStr};
 
 /// Gathers pieces of a text, so that a writer gets few and long ones.
 #[derive(Drop)]

@@ -12,9 +12,9 @@ use Rattle.plain_text.specs.Texts.{Text, right_in}
 use Rattle.plain_text.specs.Escapes.{HasNoEscape}
 use Rattle.plain_text.specs.ColumnCounter.{saturated}
 use Rattle.plain_text.specs.Fitting.{FitsWidth, IsPainted, ArePainted, columns, shrunk, shrunk_parts}
-use Rattle.plain_text.specs.Writer.{Meaning, WriterLaws, Puts}
-use Rattle.plain_text.specs.declared.write_str.WriteFault.{WriteFault}
-use Rattle.plain_text.proofs.lemmas.Steps.{puts_then}
+use Rattle.writers.specs.Writer.{Meaning, WriterLaws, Puts}
+use Rattle.writers.specs.declared.write_str.WriteFault.{WriteFault}
+use Rattle.writers.proofs.lemmas.Steps.{puts_then}
 use Rattle.plain_text.specs.Style.{Plain, Styled, part_texts}
 use Rattle.report_text.specs.Instance.{stress_parts, stress_text, stress_prefix, counter_text, counter_prefix, id_prefix, name_parts, test_name_text, HasPlainCounter, HasPlainWords}
 use Rattle.plain_text.proofs.lemmas.Closed.{IsClosedText, closed-append, closed-free, closed-none, paint_closed, decimal_free, right_free, char_free, repeat_free}

@@ -3,14 +3,14 @@
 ghost use Rattle.std.specs.Prelude.{◌≡◌, ◌<◌, ◌∷◌, [], IfOk, string_bytes};
 ghost use Rattle.run_names.specs.Names.{optional_text};
 ghost use Rattle.report_text.specs.Failure.{abort_details, abort_text, abort_words, exit_details, exit_text, exit_words, hex_digit, last_hex_digits, message_text, nt_status_text, signal_name_text};
-ghost use Rattle.plain_text.specs.Writer.{Puts};
+ghost use Rattle.writers.specs.Writer.{Puts};
 
 use itoa::Buffer;
 use plain_text::style::{plain, write_parts, write_plain};
-use plain_text::write_str::{WriteFault, WriteStr};
 use run_model::abort::{AbortDescription, DescriptionText};
 use run_model::memory::OutOfMemory;
 use std::alloc::Global;
+use writers::write_str::{WriteFault, WriteStr};
 
 /// How a process ended.
 #[derive(Drop)]

@@ -6,16 +6,17 @@
 ghost use Rattle.std.specs.Prelude.{◌<◌, ◌^◌, ◌∷◌, []};
 ghost use Rattle.plain_text.specs.Fitting.{FitsWidth, columns, shrunk_parts};
 ghost use Rattle.report_text.specs.Instance.{HasPlainWords, counter_prefix, id_prefix, test_name_text, stress_prefix};
-ghost use Rattle.plain_text.specs.Writer.{Puts};
+ghost use Rattle.writers.specs.Writer.{Puts};
 
 use crate::helpers::instance::{
     DisplayCounterIndex, DisplayTestName, write_counter_prefix, write_id_prefix,
     write_stress_prefix,
 };
-use plain_text::fitting::{WriteText, count_columns, write_back, write_front};
+use plain_text::fitting::{count_columns, write_back, write_front};
 use plain_text::style::Style;
-use plain_text::write_str::{WriteFault, WriteStr};
 use run_model::stress::StressIndex;
+use writers::text::WriteText;
+use writers::write_str::{WriteFault, WriteStr};
 
 /// The iteration of a stress run, between brackets and a space.
 #[derive(Clone, Copy)]

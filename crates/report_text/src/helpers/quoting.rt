@@ -4,13 +4,13 @@ ghost use Rattle.std.specs.Prelude.{◌≡◌, ℕ, List, ◌∷◌, ◌++◌, �
 ghost use Rattle.std.specs.List.{flat_map};
 ghost use Rattle.std.specs.Option.{option_map};
 ghost use Rattle.report_text.specs.Quoting.{in_single_quotes, is_unquoted, is_unquoted_byte, quoted_text, shell_word, shell_words};
-ghost use Rattle.plain_text.specs.Writer.{Puts};
+ghost use Rattle.writers.specs.Writer.{Puts};
 
-use plain_text::write_str::{WriteFault, WriteStr, write_strs};
 use run_model::memory::OutOfMemory;
 use std::alloc::Global;
 use std::fmt;
 use std::fmt::Formatter;
+use writers::write_str::{WriteFault, WriteStr, write_strs};
 
 /// A word of a command.
 pub trait CommandWord {

@@ -2,11 +2,11 @@
 use Rattle.std.proofs.Common.{◌≡◌, ◌⊎◌, ℕ, List, [], ◌∷◌, ◌++◌, reverse, Option, None, Some, Result, Ok, Err, IfErr, OnOk, refl, sym, ap, ◌∙◌, subst, append-nil, inl, inr}
 use Rattle.std.specs.Io.KnownBytes.{Appends, append_known}
 use Rattle.scenes.proofs.Common.{Appends-nil, AreWhole, Begins, buffer_meaning, BufferAccepts, DeliversRest, device, Event, false≢true, Fault, HasAtLeast, HasAtMost, HasBeginning, Header, is_some, IsSameStore, Meaning, Options, ParsedLines, Prefix, report_of, ReportCall, Reported, SceneConfig, StandAtOneCall, Store, store_for, store_meaning, stored, stored_of, StoreFailed, Text, TextBuffer, WriteFailed}
-use Rattle.plain_text.specs.TextBuffer.{BufferStops, buffer_laws, GrowsWithin, Holds}
-use Rattle.plain_text.specs.Writer.{AppendsFront}
-use Rattle.plain_text.specs.declared.write_str.WriteFault.{WriteFault}
-use Rattle.plain_text.specs.declared.write_str.WriteFault.TheVariants.{Device, Memory}
-use Rattle.plain_text.proofs.lemmas.Deliveries.{accepted_delivers, begins_of, stopped_begins}
+use Rattle.writers.specs.TextBuffer.{BufferStops, buffer_laws, GrowsWithin, Holds}
+use Rattle.writers.specs.Writer.{AppendsFront}
+use Rattle.writers.specs.declared.write_str.WriteFault.{WriteFault}
+use Rattle.writers.specs.declared.write_str.WriteFault.TheVariants.{Device, Memory}
+use Rattle.writers.proofs.lemmas.Deliveries.{accepted_delivers, begins_of, stopped_begins}
 use Rattle.scenes.specs.Deferred.{deferred_meaning}
 use Rattle.scenes.specs.Prints.{AreBegun, IsStop}
 use Rattle.scenes.specs.declared.deferred.Deferred.{Deferred}

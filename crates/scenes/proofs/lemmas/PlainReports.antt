@@ -15,8 +15,8 @@ use Rattle.console_reporter.specs.Outcomes.Side.{Report}
 use Rattle.console_reporter.specs.Report.{past_at, text_at}
 use Rattle.console_reporter.specs.Stored.{stored_at}
 use Rattle.reporter_state.specs.Refusals.{refusal_at_by, refusal_in}
-use Rattle.plain_text.specs.TextBuffer.{buffer_laws}
-use Rattle.plain_text.specs.declared.write_str.WriteFault.TheVariants.{Device}
+use Rattle.writers.specs.TextBuffer.{buffer_laws}
+use Rattle.writers.specs.declared.write_str.WriteFault.TheVariants.{Device}
 use Rattle.std.specs.Io.KnownBytes.{Appends}
 use Rattle.store_text.specs.declared.config.StoreConfig.{StoreConfig}
 use Rattle.console_reporter.specs.declared.imp.builder.DisplayReporterBuilder.{DisplayReporterBuilder}

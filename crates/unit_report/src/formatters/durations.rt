@@ -2,16 +2,16 @@
 
 ghost use Rattle.std.specs.Prelude.{Some};
 ghost use Rattle.plain_text.specs.Numbers.{seconds};
-ghost use Rattle.plain_text.specs.Writer.{Puts};
+ghost use Rattle.writers.specs.Writer.{Puts};
 ghost use Rattle.unit_report.specs.Durations.{bracketed_clock, bracketed_duration, duration_by, slow_duration};
 
 use plain_text::numbers::{write_bracketed_seconds, write_seconds_between};
-use plain_text::show_written;
-use plain_text::write_str::{WriteFault, WriteStr};
 use report_words::durations::write_clock_between;
 use run_model::time::Nanos;
 use std::fmt;
 use std::fmt::Formatter;
+use writers::show_written;
+use writers::write_str::{WriteFault, WriteStr};
 
 /// A duration between brackets, and a space: seconds with three decimals, right-aligned in eight columns.
 ///

@@ -1,16 +1,16 @@
 //! How many tests and binaries a run skips, and why.
 
 ghost use Rattle.std.specs.Prelude.{◌≡◌, ◌||◌, [], if◌then◌else◌};
-ghost use Rattle.plain_text.specs.Writer.{Puts};
+ghost use Rattle.writers.specs.Writer.{Puts};
 ghost use Rattle.plain_text.specs.Style.{plain};
 ghost use Rattle.report_words.specs.Parts.{paint};
 ghost use Rattle.unit_report.specs.SkipCounts.{binaries_text, filter_name, filtered_text, has_no_filtered, included_text, override_name, rerun_text, skip_counts_text, skip_note, skip_reason, skipped_tests_in, tests_and_binaries, tests_text, via_filter};
 
 use plain_text::style::{Styles, write_plain};
-use plain_text::write_str::{WriteFault, WriteStr};
 use report_words::plural::{binaries_str, tests_str};
 use run_model::config::{CompiledDefaultFilter, CompiledDefaultFilterSection, NextestRunMode};
 use run_model::event::SkipCounts;
+use writers::write_str::{WriteFault, WriteStr};
 
 /// Writes what a run skips, between parentheses and after a space; nothing where it skips nothing.
 ///

@@ -1,15 +1,15 @@
 //! The word for a unit.
 
 ghost use Rattle.std.specs.Prelude.{◌≡◌, Some};
-ghost use Rattle.plain_text.specs.Writer.{Puts};
+ghost use Rattle.writers.specs.Writer.{Puts};
 ghost use Rattle.unit_report.specs.UnitKind.{unit_word};
 
-use plain_text::show_written;
-use plain_text::write_str::{WriteFault, WriteStr};
 use run_model::config::NextestRunMode;
 use run_model::unit::UnitKind;
 use std::fmt;
 use std::fmt::Formatter;
+use writers::show_written;
+use writers::write_str::{WriteFault, WriteStr};
 
 /// The word for a unit: "test", in benchmark mode "benchmark", or "script".
 ///

@@ -1,15 +1,15 @@
 //! Warnings of tests that a run left out.
 
-ghost use Rattle.plain_text.specs.Writer.{Puts};
+ghost use Rattle.writers.specs.Writer.{Puts};
 ghost use Rattle.report_words.specs.Parts.{paint};
 ghost use Rattle.unit_report.specs.Warnings.{due_to, final_warnings, hint_after, not_run_count, not_run_warning, options_hint, warning_of};
 
 use plain_text::style::{Styles, write_plain};
-use plain_text::write_str::{WriteFault, WriteStr};
 use report_words::plural::{tests_plural_if, were_plural_if};
 use run_model::config::NextestRunMode;
 use run_model::level::CancelReason;
 use run_model::stats::{FinalRunStats, RunStatsFailureKind};
+use writers::write_str::{WriteFault, WriteStr};
 
 /// Writes a warning line about tests that were not run; nothing if all ran, or if a setup script failed.
 ///

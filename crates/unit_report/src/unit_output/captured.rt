@@ -6,7 +6,7 @@
 ghost use Rattle.std.specs.Prelude.{◌≡◌, true, false, take, drop, MatchOption};
 ghost use Rattle.run_model.specs.Outputs.{subslice_value};
 ghost use Rattle.plain_text.specs.Highlights.{highlight_end};
-ghost use Rattle.plain_text.specs.Writer.{Puts};
+ghost use Rattle.writers.specs.Writer.{Puts};
 ghost use Rattle.unit_report.specs.Captured.{captured, coloured_output, highlight_stop, is_valid, part_value, reset_output};
 
 use super::highlighted_lines::write_highlighted_lines;
@@ -14,8 +14,8 @@ use plain_text::reporter_helpers::highlight_end;
 use plain_text::stripped::write_stripped_text;
 use plain_text::style::{RESET_COLOR, Style, Styles, write_plain};
 use plain_text::trailing_newline::split_trailing_newline;
-use plain_text::write_str::{WriteFault, WriteStr};
 use run_model::output::ByteSubslice;
+use writers::write_str::{WriteFault, WriteStr};
 
 /// Writes a text and highlights a part of it. A highlight that is not valid is left out.
 #[tactic(auto, unfolding(crate::specs::Captured::captured, crate::specs::Captured::plain_output))]

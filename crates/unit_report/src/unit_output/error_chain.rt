@@ -3,14 +3,14 @@
 ghost use Rattle.std.specs.Prelude.{false, codes};
 ghost use Rattle.std.specs.List.{flat_map};
 ghost use Rattle.plain_text.specs.Indent.{indent};
-ghost use Rattle.plain_text.specs.Writer.{Puts};
+ghost use Rattle.writers.specs.Writer.{Puts};
 ghost use Rattle.unit_report.specs.ErrorChain.{cause_text, causes_text, error_chain_text};
 
 use plain_text::indenter::indented;
 use plain_text::style::write_plain;
-use plain_text::write_str::{WriteFault, WriteStr};
 use run_model::abort::DescriptionText;
 use run_model::output::ErrorChain;
+use writers::write_str::{WriteFault, WriteStr};
 
 /// Writes the message, and below it each cause on a line of its own.
 ///

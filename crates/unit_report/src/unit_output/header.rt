@@ -2,12 +2,12 @@
 
 ghost use Rattle.std.specs.Prelude.{◌≡◌, Some};
 ghost use Rattle.plain_text.specs.Style.{styled};
-ghost use Rattle.plain_text.specs.Writer.{Puts};
+ghost use Rattle.writers.specs.Writer.{Puts};
 ghost use Rattle.unit_report.specs.Header.{bar_text, header_text, output_name_text};
 
 use plain_text::style::{Style, write_plain};
-use plain_text::write_str::{WriteFault, WriteStr};
 use report_words::theme::ThemeCharacters;
+use writers::write_str::{WriteFault, WriteStr};
 
 /// What a header calls what follows it.
 #[derive(Clone, Copy, Debug, PartialEq, Eq)]

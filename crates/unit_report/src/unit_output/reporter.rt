@@ -4,7 +4,7 @@ ghost use Rattle.std.specs.Prelude.{◌≡◌, ◌∷◌, ◌++◌, [], true};
 ghost use Rattle.std.specs.Option.{option_map, option_and_then};
 ghost use Rattle.run_model.specs.Outputs.{combined_part, has_loaded_output, is_loaded, stderr_part, stdout_part, subslice_value};
 ghost use Rattle.plain_text.specs.Indent.{indent};
-ghost use Rattle.plain_text.specs.Writer.{Puts};
+ghost use Rattle.writers.specs.Writer.{Puts};
 ghost use Rattle.unit_report.specs.Captured.{captured};
 ghost use Rattle.unit_report.specs.ErrorChain.{error_chain_text};
 ghost use Rattle.unit_report.specs.UnitOutput.{both_streams, child_output, errors_block, errors_text, execution_output, layout_of, not_captured_text, present_stream, shown_stream, split_text, stream_text};
@@ -16,13 +16,13 @@ use super::header::{OutputHeader, OutputName};
 use super::overrides::OutputDisplayOverrides;
 use plain_text::indenter::indented;
 use plain_text::style::{Part, Styles, write_parts, write_plain};
-use plain_text::write_str::{WriteFault, WriteStr};
 use run_model::boxed::Boxed;
 use run_model::output::{
     ByteSubslice, ChildExecutionOutputDescription, ChildOutputDescription, ChildSingleOutput,
     ErrorChain, Highlight, LiveSpec,
 };
 use run_model::unit::UnitKind;
+use writers::write_str::{WriteFault, WriteStr};
 
 /// How the output of a unit is laid out.
 #[derive(Clone, Copy, Debug)]

@@ -1,4 +1,4 @@
-use Rattle.plain_text.proofs.lemmas.Steps.{puts_then, at_exit}
+use Rattle.writers.proofs.lemmas.Steps.{puts_then, at_exit}
 use Rattle.info_text.specs.State.{terminating_note}
 use Rattle.info_text.proofs.state.write_terminating_note.Goals as goal
 

@@ -1,4 +1,4 @@
-use Rattle.plain_text.proofs.lemmas.Steps.{puts_then, at_exit}
+use Rattle.writers.proofs.lemmas.Steps.{puts_then, at_exit}
 use Rattle.info_text.specs.State.{waiting_line}
 use Rattle.info_text.proofs.state.write_waiting_line.Goals as goal
 

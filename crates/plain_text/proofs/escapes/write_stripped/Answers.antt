@@ -2,7 +2,7 @@ use Rattle.std.proofs.Common.{rules, ◌≡◌, ◌∷◌, ap}
 use Rattle.plain_text.specs.Escapes.{stretches}
 use Rattle.plain_text.specs.Escapes.PieceText.{StretchText}
 use Rattle.plain_text.proofs.lemmas.Pieces.{stretches-pieces}
-use Rattle.plain_text.proofs.lemmas.Steps.{owes_stopped, owes_nothing}
+use Rattle.writers.proofs.lemmas.Steps.{owes_stopped, owes_nothing}
 use Rattle.plain_text.proofs.escapes.write_stripped.Goals as goal
 
 pub returns-in_err-write_str : goal.returns-in_err-write_str

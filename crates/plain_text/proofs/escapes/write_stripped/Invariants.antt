@@ -1,5 +1,5 @@
 use Rattle.plain_text.specs.Escapes.{pieces, stretches}
-use Rattle.plain_text.specs.Writer.{Owes}
+use Rattle.writers.specs.Writer.{Owes}
 use Rattle.plain_text.proofs.escapes.write_stripped.Given as goal
 
 -- the stretches that are left are owed

@@ -1,6 +1,6 @@
 use Rattle.std.proofs.Common.{arith, rules}
 use Rattle.plain_text.proofs.lemmas.Decimals.{right-seconds}
-use Rattle.plain_text.proofs.lemmas.Steps.{puts_then, at_exit, stops_early}
+use Rattle.writers.proofs.lemmas.Steps.{puts_then, at_exit, stops_early}
 use Rattle.plain_text.proofs.numbers.write_seconds_right.Goals as goal
 
 pub returns-in_err-write_str : goal.returns-in_err-write_str

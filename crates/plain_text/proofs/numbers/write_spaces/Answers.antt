@@ -1,5 +1,5 @@
 use Rattle.std.proofs.Common.{arith}
-use Rattle.plain_text.proofs.lemmas.Steps.{owes_accepted, owes_stopped}
+use Rattle.writers.proofs.lemmas.Steps.{owes_accepted, owes_stopped}
 use Rattle.plain_text.proofs.lemmas.Decimals.{spaces_first}
 use Rattle.plain_text.proofs.numbers.write_spaces.Goals as goal
 

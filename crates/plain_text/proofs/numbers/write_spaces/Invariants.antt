@@ -1,5 +1,5 @@
 use Rattle.plain_text.specs.Texts.{spaces}
-use Rattle.plain_text.specs.Writer.{Owes}
+use Rattle.writers.specs.Writer.{Owes}
 use Rattle.plain_text.proofs.numbers.write_spaces.Given as goal
 
 -- the spaces that are left are owed

@@ -1,7 +1,7 @@
 use Rattle.std.proofs.Common.{◌≡◌, ℕ, zero, suc, ◌-◌, ◌<◌, ◌++◌, ap, arith}
 use Rattle.std.specs.List.{repeat}
 use Rattle.plain_text.specs.Texts.{Text}
-use Rattle.plain_text.proofs.lemmas.Steps.{owes_accepted, owes_stopped}
+use Rattle.writers.proofs.lemmas.Steps.{owes_accepted, owes_stopped}
 use Rattle.plain_text.proofs.repeated.write_repeated.Goals as goal
 
 -- the first one, and those that are left

@@ -1,6 +1,6 @@
 use Rattle.std.specs.List.{repeat}
 use Rattle.std.specs.Prelude.{encode_utf8}
-use Rattle.plain_text.specs.Writer.{Owes}
+use Rattle.writers.specs.Writer.{Owes}
 use Rattle.plain_text.proofs.repeated.write_repeated.Given as goal
 
 -- the characters that are left are owed

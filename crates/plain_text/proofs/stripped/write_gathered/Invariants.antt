@@ -4,7 +4,7 @@ use denote.Shadow.{shadow}
 use Rattle.plain_text.specs.TrailingNewline.{without_trailing_newline}
 use Rattle.plain_text.specs.Escapes.{visible}
 use Rattle.plain_text.specs.GatheredPieces.{unwritten}
-use Rattle.plain_text.specs.Writer.{Owes}
+use Rattle.writers.specs.Writer.{Owes}
 use Rattle.plain_text.proofs.stripped.write_gathered.Given as goal
 
 -- what is gathered and what is visible of the rest are owed

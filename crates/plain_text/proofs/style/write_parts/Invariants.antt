@@ -1,6 +1,6 @@
 use Rattle.std.proofs.Common.{drop}
 use Rattle.plain_text.specs.Style.{painted}
-use Rattle.plain_text.specs.Writer.{Owes}
+use Rattle.writers.specs.Writer.{Owes}
 use Rattle.plain_text.proofs.style.write_parts.Given as goal
 
 -- the parts that are left are owed

@@ -1,4 +1,4 @@
-use Rattle.plain_text.proofs.lemmas.Steps.{puts_then, at_exit}
+use Rattle.writers.proofs.lemmas.Steps.{puts_then, at_exit}
 use Rattle.run_text.specs.Cancel.{terminating_words}
 use Rattle.run_text.proofs.cancel.write_terminating_words.Goals as goal
 

@@ -1,4 +1,4 @@
-use Rattle.plain_text.proofs.lemmas.Steps.{puts_then, at_exit}
+use Rattle.writers.proofs.lemmas.Steps.{puts_then, at_exit}
 use Rattle.run_text.specs.Start.{run_id_line}
 use Rattle.run_text.proofs.start.write_run_id_line.Goals as goal
 

@@ -1,4 +1,4 @@
-use Rattle.plain_text.proofs.lemmas.Steps.{puts_then}
+use Rattle.writers.proofs.lemmas.Steps.{puts_then}
 use Rattle.run_text.specs.Summary.{cancel_reason_text}
 use Rattle.run_text.proofs.summary.write_cancel_reason.Goals as goal
 

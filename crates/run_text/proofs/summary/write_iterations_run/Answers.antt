@@ -1,4 +1,4 @@
-use Rattle.plain_text.proofs.lemmas.Steps.{puts_then, at_exit}
+use Rattle.writers.proofs.lemmas.Steps.{puts_then, at_exit}
 use Rattle.run_text.specs.Summary.{iterations_run_text}
 use Rattle.run_text.proofs.summary.write_iterations_run.Goals as goal
 

@@ -1,5 +1,5 @@
 use Rattle.std.proofs.lemmas.Bool.{ne_eqb}
-use Rattle.plain_text.proofs.lemmas.Steps.{puts_then, at_exit}
+use Rattle.writers.proofs.lemmas.Steps.{puts_then, at_exit}
 use Rattle.text_parts.specs.StatsText.{leaky_failed_note}
 use Rattle.text_parts.proofs.stats_text.write_leaky_failed_note.Goals as goal
 

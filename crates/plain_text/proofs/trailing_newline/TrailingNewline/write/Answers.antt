@@ -1,6 +1,6 @@
 use Rattle.std.proofs.Common.{◌<◌, rules, length}
 use Rattle.plain_text.proofs.lemmas.TrailingNewlines.{held-before, piece_nothing}
-use Rattle.plain_text.proofs.lemmas.Steps.{at_exit, puts_then, stops_early}
+use Rattle.writers.proofs.lemmas.Steps.{at_exit, puts_then, stops_early}
 use Rattle.plain_text.specs.TrailingNewline.{held}
 use Rattle.plain_text.proofs.trailing_newline.TrailingNewline.write.Goals as goal
 

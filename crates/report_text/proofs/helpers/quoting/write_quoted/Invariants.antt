@@ -2,7 +2,7 @@ use Rattle.std.proofs.Common.{length}
 use denote.Text.{Utf8}
 use denote.Shadow.{shadow}
 use Rattle.report_text.specs.Quoting.{quoted_text}
-use Rattle.plain_text.specs.Writer.{Owes}
+use Rattle.writers.specs.Writer.{Owes}
 use Rattle.report_text.proofs.helpers.quoting.write_quoted.Given as goal
 
 -- what is left is owed

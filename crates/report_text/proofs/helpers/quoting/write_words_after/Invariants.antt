@@ -1,7 +1,7 @@
 use Rattle.std.proofs.Common.{◌++◌, drop}
 use Rattle.std.specs.List.{flat_map}
 use Rattle.report_text.specs.Quoting.{shell_word}
-use Rattle.plain_text.specs.Writer.{Owes}
+use Rattle.writers.specs.Writer.{Owes}
 use Rattle.report_text.proofs.helpers.quoting.write_words_after.Given as goal
 
 -- the words that are left are owed

@@ -1,5 +1,5 @@
 use Rattle.std.specs.Iterator.Adapters.{rev_source}
-use Rattle.plain_text.specs.Writer.{Owes}
+use Rattle.writers.specs.Writer.{Owes}
 use Rattle.reporter_state.specs.Entries.{shown_entries}
 use Rattle.reporter_state.specs.Keys.{shown_of}
 use Rattle.reporter_state.proofs.kept.KeptEntries.write.Given as goal

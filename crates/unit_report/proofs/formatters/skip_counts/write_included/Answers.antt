@@ -1,5 +1,5 @@
 use Rattle.std.proofs.Common.{rules, ◌≡◌, false, ◌&&◌, ◌==◌}
-use Rattle.plain_text.proofs.lemmas.Steps.{puts_then, at_exit}
+use Rattle.writers.proofs.lemmas.Steps.{puts_then, at_exit}
 use Rattle.unit_report.specs.SkipCounts.{included_text, has_no_filtered}
 use Rattle.unit_report.proofs.formatters.skip_counts.write_included.Goals as goal
 

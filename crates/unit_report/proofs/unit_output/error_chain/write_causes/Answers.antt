@@ -1,4 +1,4 @@
-use Rattle.plain_text.proofs.lemmas.Steps.{puts_then}
+use Rattle.writers.proofs.lemmas.Steps.{puts_then}
 use Rattle.unit_report.specs.ErrorChain.{causes_text}
 use Rattle.unit_report.proofs.unit_output.error_chain.write_causes.Goals as goal
 

@@ -1,4 +1,4 @@
-use Rattle.plain_text.proofs.lemmas.Steps.{owes_at_end}
+use Rattle.writers.proofs.lemmas.Steps.{owes_at_end}
 use Rattle.unit_report.proofs.unit_output.error_chain.write_each_cause.Goals as goal
 
 pub returns : goal.returns

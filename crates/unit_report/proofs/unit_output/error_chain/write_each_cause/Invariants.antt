@@ -1,6 +1,6 @@
 use Rattle.std.proofs.Common.{drop}
 use Rattle.std.specs.List.{flat_map}
-use Rattle.plain_text.specs.Writer.{Owes}
+use Rattle.writers.specs.Writer.{Owes}
 use Rattle.unit_report.specs.ErrorChain.{cause_text}
 use Rattle.unit_report.proofs.unit_output.error_chain.write_each_cause.Given as goal
 

@@ -2,7 +2,7 @@ use Rattle.std.proofs.Common.{rules}
 use Rattle.std.proofs.lemmas.List.{nil_from_length}
 use Rattle.std.proofs.lemmas.Str.{IsUtf8-past_char}
 use Rattle.plain_text.proofs.lemmas.FitMarks.{next_counted}
-use Rattle.plain_text.proofs.lemmas.Steps.{owes_accepted, owes_nothing}
+use Rattle.writers.proofs.lemmas.Steps.{owes_accepted, owes_nothing}
 use Rattle.plain_text.specs.ColumnCounter.{counter_laws}
 use Rattle.plain_text.proofs.fitting.column_counter.ColumnCounterWriteStr.write_str.Goals as goal
 

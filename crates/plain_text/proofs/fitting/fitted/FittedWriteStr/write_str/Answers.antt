@@ -2,7 +2,7 @@ use Rattle.std.proofs.Common.{rules, Ok, Err}
 use Rattle.std.proofs.lemmas.List.{nil_from_length}
 use Rattle.std.proofs.lemmas.Str.{IsUtf8-past_char}
 use Rattle.plain_text.proofs.lemmas.FittedPuts.{next_put}
-use Rattle.plain_text.proofs.lemmas.Steps.{owes_accepted, owes_stopped, owes_nothing}
+use Rattle.writers.proofs.lemmas.Steps.{owes_accepted, owes_stopped, owes_nothing}
 use Rattle.plain_text.specs.Fitted.{fitted_laws}
 use Rattle.plain_text.proofs.fitting.fitted.FittedWriteStr.write_str.Goals as goal
 

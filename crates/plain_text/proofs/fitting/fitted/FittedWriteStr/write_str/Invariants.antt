@@ -1,7 +1,7 @@
 use Rattle.std.specs.Str.{IsUtf8}
 use Rattle.std.specs.Str.Iter.{chars_rest}
 use Rattle.plain_text.specs.Fitted.{fitted_meaning}
-use Rattle.plain_text.specs.Writer.{Owes}
+use Rattle.writers.specs.Writer.{Owes}
 use Rattle.plain_text.proofs.fitting.fitted.FittedWriteStr.write_str.Given as goal
 
 -- the characters that are left are owed

@@ -1,7 +1,7 @@
 use Rattle.std.proofs.Common.{refl, lit<}
 use Rattle.std.proofs.lemmas.Str.Pattern.{ends_char}
 use Rattle.plain_text.proofs.lemmas.Indents.{margin_stopped, line_stopped, line_accepted, after-ends}
-use Rattle.plain_text.proofs.lemmas.Steps.{at_exit}
+use Rattle.writers.proofs.lemmas.Steps.{at_exit}
 use Rattle.plain_text.specs.Indentation.{indented_laws}
 use Rattle.plain_text.proofs.indenter.indentation.Indented.write_line.Goals as goal
 

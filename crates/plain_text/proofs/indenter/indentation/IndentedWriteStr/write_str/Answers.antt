@@ -1,5 +1,5 @@
 use Rattle.std.proofs.Common.{rules}
-use Rattle.plain_text.proofs.lemmas.Steps.{owes_accepted, owes_stopped, owes_done}
+use Rattle.writers.proofs.lemmas.Steps.{owes_accepted, owes_stopped, owes_done}
 use Rattle.plain_text.specs.Indentation.{indented_laws}
 use Rattle.plain_text.proofs.indenter.indentation.IndentedWriteStr.write_str.Goals as goal
 

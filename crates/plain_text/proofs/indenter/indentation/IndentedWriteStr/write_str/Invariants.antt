@@ -2,7 +2,7 @@ use Rattle.std.proofs.Common.{length}
 use denote.Text.{Utf8}
 use denote.Shadow.{shadow}
 use Rattle.plain_text.specs.Indentation.{indented_meaning}
-use Rattle.plain_text.specs.Writer.{Owes}
+use Rattle.writers.specs.Writer.{Owes}
 use Rattle.plain_text.proofs.indenter.indentation.IndentedWriteStr.write_str.Given as goal
 
 -- what is left is owed
