@@ -11,6 +11,7 @@ ghost use Rattle.reporter_state.specs.Refusals.{decider_by};
 ghost use Rattle.reporter_state.specs.Entries.{final_order};
 
 use crate::binary_ids::BinaryIds;
+use crate::faults::WriteEventError;
 use crate::final_output::FinalOutputEntry;
 use crate::finished_attempts::FinishedAttempts;
 use crate::kept::KeptEntries;
@@ -59,6 +60,15 @@ impl ReporterState {
             settings,
             has_failed: false,
         }
+    }
+
+    /// Has the reporter fail, and returns the error.
+    pub fn fail(&mut self, error: WriteEventError) -> WriteEventError
+        ensures error { result ≡ error }
+        ensures failed { self.new ≡ record self.old { has_failed = true } }
+    {
+        self.has_failed = true;
+        error
     }
 
     /// Applies an event: it may cancel the run, and it may end a test. A test that it finishes is passed with it, with its output loaded

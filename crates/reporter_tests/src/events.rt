@@ -36,7 +36,7 @@ fn write_both(alloc: Global, refused: &TestEvent<'_>, next: &TestEvent<'_>) -> R
     let mut reporter = builder.build_for(alloc, &mut report, Surroundings::default());
     let answer = write_event(&mut reporter, refused);
     let next_answer = write_event(&mut reporter, next);
-    let _writers = reporter.into_writers();
+    let _parts = reporter.into_parts();
     if answer != Err(WriteEventError::RetriedSuccess) || next_answer != Ok(()) {
         return Err(Fail::from("the event was not refused, or the next one was"));
     }
@@ -60,7 +60,7 @@ fn write_without_room(alloc: Global, event: &TestEvent<'_>) -> Result<(), Fail> 
     let mut reporter = builder.build_for(alloc, &mut report, Surroundings::default());
     let answer = write_event(&mut reporter, event);
     let later = [write_event(&mut reporter, event), reporter.finish()];
-    let _writers = reporter.into_writers();
+    let _parts = reporter.into_parts();
     if answer != Err(WriteEventError::Io) || later != [Err(WriteEventError::Failed); 2] {
         return Err(Fail::from("the device did not fail, or the report went on"));
     }

@@ -1,5 +1,6 @@
 -- Captured output as a report shows it.
 use Rattle.std.specs.Prelude.{ℕ, ◌+◌, Bool, true, false, ◌&&◌, ◌||◌, ◌==◌, List, [], ◌∷◌, ◌++◌, Option, None, Some, length, slice_index, nat_le, nat_lt, take, drop, if◌then◌else◌}
+use Rattle.std.specs.List.{starts_with}
 use Rattle.run_model.specs.Outputs.{Part}
 use Rattle.run_model.specs.declared.output.ByteSubslice.{ByteSubslice}
 use Rattle.plain_text.specs.TrailingNewline.{without_trailing_newline}
@@ -31,19 +32,13 @@ part_value s = record { start = s.start; bytes = s.slice.now }
 abbrev pub ends_character : ℕ → Text → Bool
 ends_character n t = nat_le n (length t) && (nat_le (length t) n || (nat_lt (slice_index t n) 128 || nat_le 192 (slice_index t n)))
 
--- the text begins with these bytes
-abbrev pub begins_with : List ℕ → Text → Bool
-begins_with [] t = true
-begins_with (b ∷ bs) [] = false
-begins_with (b ∷ bs) (c ∷ t) = (b == c) && begins_with bs t
-
 -- where a highlight ends: its first two lines are shown
 abbrev pub highlight_stop : Part → ℕ
 highlight_stop h = h.start + highlight_end h.bytes
 
 -- a highlight is valid if both its ends are ends of characters, and the text holds its bytes there
 abbrev pub is_valid : Text → Part → Bool
-is_valid t h = ends_character h.start t && (begins_with h.bytes (drop h.start t) && ends_character (highlight_stop h) t)
+is_valid t h = ends_character h.start t && (starts_with ◌==◌ (drop h.start t) h.bytes && ends_character (highlight_stop h) t)
 
 -- a text with its highlight
 abbrev pub highlighted_by : Style → Text → Part → Text

@@ -12,7 +12,7 @@ use Rattle.run_model.specs.declared.output.LiveSpec.{LiveSpec}
 use Rattle.run_names.specs.declared.unit.UnitKind.{UnitKind}
 use Rattle.plain_text.specs.Indent.{indent}
 use Rattle.run_model.specs.Decoded.{decoded_text}
-use Rattle.plain_text.specs.Style.{Plain, Styled, part_texts, plain}
+use Rattle.plain_text.specs.Style.{plain, styled}
 use Rattle.plain_text.specs.Texts.{Text}
 use Rattle.plain_text.specs.declared.style.Styles.{Styles}
 use Rattle.unit_report.specs.Captured.{captured}
@@ -53,7 +53,7 @@ is_replay Replay = true
 -- an output that was not captured. It has its four spaces whatever the indentation is
 unfoldable pub not_captured_text : Styles → OutputName → Text
 not_captured_text s name =
-    part_texts (Plain (codes "    (") ∷ Plain (output_name_text name) ∷ Plain (codes " ") ∷ Styled s.skip (codes "not captured") ∷ Plain (codes ")\n") ∷ [])
+    plain (codes "    (") ++ (plain (output_name_text name) ++ (plain (codes " ") ++ (styled s.skip (codes "not captured") ++ plain (codes ")\n"))))
 
 -- the header of a stream, and the stream below it, indented
 unfoldable pub shown_stream : Styles → Text → OutputHeader → Text → Option Part → Text

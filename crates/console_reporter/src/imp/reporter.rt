@@ -1,7 +1,6 @@
 //! The calls of a reporter.
 
 ghost use Rattle.std.specs.Prelude.{◌≡◌, ◌≤◌, ◌⊎◌, List, [], ◌∷◌, OnOk, IfErr, IfSome, IsErrOf, Err, None, Some, length, reverse, slice_get, take, false};
-ghost use Rattle.std.specs.Option.{option_map};
 ghost use Rattle.run_names.specs.Levels.{reason_rank};
 ghost use Rattle.writers.specs.Writer.{Puts, successor};
 ghost use Rattle.report_words.specs.Parts.{paint};
@@ -122,14 +121,12 @@ impl<'a, W: WriteStr, S: WriteStr> DisplayReporter<'a, W, S> {
         }
         match self.report_and_store(event) {
             Ok(()) => Ok(()),
-            Err(error) => {
-                self.state.has_failed = true;
-                Err(error)
-            }
+            Err(error) => Err(self.state.fail(error)),
         }
     }
 
     // The error of a call that does nothing: the reporter has failed, or the event is refused.
+    #[inline(always)]
     fn early_error(&self, event: &TestEvent<'_>) -> Option<WriteEventError>
         ensures kept { IfSome result (λ e. Promises W.meaning S.meaning self.now (Some (ReportCall.Event event.now)) (Err e) self.now) }
         ensures works { result ≡ None → self.now.state.has_failed ≡ false }
@@ -142,6 +139,7 @@ impl<'a, W: WriteStr, S: WriteStr> DisplayReporter<'a, W, S> {
         self.refusal_of(event)
     }
 
+    #[inline(always)]
     fn refusal_of(&self, event: &TestEvent<'_>) -> Option<WriteEventError>
         ensures refusal { result ≡ event_refusal (decider_by self.now.state.settings (config_of self.now.store)) event.now.kind }
         ensures told { IfSome result (λ e. refusal_in e ≡ Some e) }
@@ -169,6 +167,7 @@ impl<'a, W: WriteStr, S: WriteStr> DisplayReporter<'a, W, S> {
     }
 
     // Looks at a test that finishes once, for its text and its entry.
+    #[inline(always)]
     fn report(&mut self, event: &TestEvent<'_>) -> Result<(), WriteEventError>
         requires { lacks_output (decider_by self.old.state.settings None) event.now.kind ≡ false }
         ensures same_writer { IsSameWriter self.old self.new }
@@ -277,15 +276,11 @@ impl<'a, W: WriteStr, S: WriteStr> DisplayReporter<'a, W, S> {
             return Err(WriteEventError::Failed);
         }
         if let Err(fault) = deliver_header(self.writer, &self.state.settings, header) {
-            self.state.has_failed = true;
-            return Err(error_of(fault));
+            return Err(self.state.fail(error_of(fault)));
         }
         match self.flush_store() {
             Ok(()) => Ok(()),
-            Err(fault) => {
-                self.state.has_failed = true;
-                Err(store_error_of(fault))
-            }
+            Err(fault) => Err(self.state.fail(store_error_of(fault))),
         }
     }
 
@@ -326,10 +321,7 @@ impl<'a, W: WriteStr, S: WriteStr> DisplayReporter<'a, W, S> {
                 self.set_run_id_unique_prefix(prefix);
                 Ok(())
             }
-            Err(OutOfMemory) => {
-                self.state.has_failed = true;
-                Err(WriteEventError::Memory)
-            }
+            Err(OutOfMemory) => Err(self.state.fail(WriteEventError::Memory)),
         }
     }
 
@@ -348,31 +340,12 @@ impl<'a, W: WriteStr, S: WriteStr> DisplayReporter<'a, W, S> {
             return Err(WriteEventError::Failed);
         }
         if let Err(fault) = self.writer.write_str_flush() {
-            self.state.has_failed = true;
-            return Err(error_of(fault));
+            return Err(self.state.fail(error_of(fault)));
         }
         match self.flush_store() {
             Ok(()) => Ok(()),
-            Err(fault) => {
-                self.state.has_failed = true;
-                Err(store_error_of(fault))
-            }
+            Err(fault) => Err(self.state.fail(store_error_of(fault))),
         }
-    }
-
-    /// Gives the writers back as they are: that of the report, and that of the store, if there is one.
-    ///
-    /// ```
-    /// reporter.write_event(&event)?;
-    /// let (writer, _) = reporter.into_writers();
-    /// writer.write_str("done\n")?;
-    /// ```
-    pub fn into_writers(self) -> (&'a mut W, Option<&'a mut S>)
-        ensures writer { result.0 ≡ self.entry.writer }
-        ensures store { result.1 ≡ option_map (λ s. s.writer) self.entry.store }
-    {
-        let (writer, store) = self.into_parts();
-        (writer, store.map(|store| store.writer))
     }
 
     /// Returns the writer and the store as they are.

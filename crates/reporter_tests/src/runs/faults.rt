@@ -149,7 +149,7 @@ impl Fault {
         let mut reporter = builder.build_in(alloc, &mut report, store, Surroundings::default());
         let answer = write_event(&mut reporter, refused);
         let answers = make_calls(alloc, &mut reporter, calls);
-        let _writers = reporter.into_writers();
+        let _parts = reporter.into_parts();
         let is_refused = answer == Err(WriteEventError::RetriedSuccess);
         Ok((Devices::under(report, records), is_refused, answers))
     }

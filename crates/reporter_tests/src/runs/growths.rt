@@ -55,7 +55,7 @@ fn make_each<W: WriteStr, S: WriteStr>(
         alloc, report, records, ALL_OUTPUT, false, false, false, false,
     );
     let answers = make_calls(alloc, &mut reporter, calls);
-    let _writers = reporter.into_writers();
+    let _parts = reporter.into_parts();
     answers
 }
 
@@ -180,7 +180,7 @@ fn run_after(
     );
     let copied = make_call(alloc, &mut reporter, prefix);
     let answers = make_calls(alloc, &mut reporter, calls);
-    let _writers = reporter.into_writers();
+    let _parts = reporter.into_parts();
     let Err(fault) = copied else {
         return judge(
             texts,

@@ -2,7 +2,7 @@ use Rattle.std.proofs.Common.{drop}
 use Rattle.std.specs.List.{flat_map}
 use Rattle.writers.specs.Writer.{Owes}
 use Rattle.unit_report.specs.ErrorChain.{cause_text}
-use Rattle.unit_report.proofs.unit_output.error_chain.write_each_cause.Given as goal
+use Rattle.unit_report.proofs.unit_output.error_chain.CausesWriteText.write_to.Given as goal
 
 -- the remaining causes are owed
 abbrev pub invariant-loop-cause : goal.invariant-loop-cause
