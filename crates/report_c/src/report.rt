@@ -29,6 +29,7 @@ pub fn options_of(options: &NorigullyOptions) -> Option<Options<'static>>
             status_level,
             store: None,
             file: "",
+            is_last: false,
         }),
     }
 }

@@ -125,7 +125,7 @@ fn follow_to<'a, 'w, L: RunSource, W: WriteStr, S: WriteStr>(
     };
     let mut reporter = SceneReporter::build(alloc, builder, &read.run.config, writer, store);
     let followed = follow_lines(alloc, options, source, &mut read, more, &mut reporter);
-    let (writer, store) = reporter.reporter.into_parts();
+    let (writer, store) = reporter.into_parts(options);
     (followed, writer, store)
 }
 

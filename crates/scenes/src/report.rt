@@ -328,6 +328,6 @@ fn report_to<'w, W: WriteStr, S: WriteStr>(
     let mut reporter = SceneReporter::build(alloc, builder, &scene.config, writer, store);
     let (events, lines) = (scene.events.as_slice(), scene.lines.as_slice());
     let reported = reporter.report_events(alloc, options, events, lines);
-    let (writer, store) = reporter.reporter.into_parts();
+    let (writer, store) = reporter.into_parts(options);
     (reported, writer, store)
 }

@@ -82,6 +82,20 @@ impl<'a, W: WriteStr, S: WriteStr> SceneReporter<'a, W, S> {
     }
 }
 
+impl<'a, W: WriteStr, S: WriteStr> SceneReporter<'a, W, S> {
+    /// Gives the writer and the store back. What the reporter kept is freed, unless the process ends.
+    pub(crate) fn into_parts(self, options: &Options<'_>) -> (&'a mut W, Option<Store<'a, S>>)
+        ensures writer { result.0 ≡ self.entry.reporter.writer }
+        ensures store { result.1 ≡ self.entry.reporter.store }
+    {
+        if options.is_last {
+            self.reporter.into_parts_unfreed()
+        } else {
+            self.reporter.into_parts()
+        }
+    }
+}
+
 // The call of an event, with its output left unread where that is asked for and the report does not show it.
 fn ready_call<'r, 'a>(
     alloc: Global,

@@ -37,6 +37,7 @@ use run_model::replay::ReplayHeader;
 use run_model::run_id::ShortestRunIdPrefix;
 use run_text::header::write_replay_header;
 use std::alloc::Global;
+use std::mem;
 use store_text::config::StoreConfig;
 use test_text::test_finished::FinishedTest;
 use text_parts::settings::Settings;
@@ -398,6 +399,25 @@ impl<'a, W: WriteStr, S: WriteStr> DisplayReporter<'a, W, S> {
             state,
         } = self;
         drop(state);
+        (writer, store)
+    }
+
+    /// Gives the writer and the store back as `into_parts` does, and frees nothing: for a program that ends.
+    ///
+    /// ```
+    /// let (writer, _) = reporter.into_parts_unfreed();
+    /// assert_eq!(writer.as_str(), "");
+    /// ```
+    pub fn into_parts_unfreed(self) -> (&'a mut W, Option<Store<'a, S>>)
+        ensures writer { result.0 ≡ self.entry.writer }
+        ensures store { result.1 ≡ self.entry.store }
+    {
+        let DisplayReporter {
+            writer,
+            store,
+            state,
+        } = self;
+        mem::forget(state);
         (writer, store)
     }
 
