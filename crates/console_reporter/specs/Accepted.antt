@@ -1,4 +1,4 @@
--- Which calls a reporter refuses: judged by the call and the configuration alone, whatever stood before.
+-- Which calls a reporter refuses: from the call and the configuration alone, whatever came before.
 use Rattle.std.specs.Prelude.{ℕ, List, Option}
 use Rattle.console_reporter.specs.Configuration.{Configuration, settings_of}
 use Rattle.reporter_state.specs.Refusals.{AreAcceptedBy, IsAcceptedBy, decider_by, refusal_at_by, refusal_by}
@@ -6,7 +6,7 @@ use Rattle.run_model.specs.declared.call.ReportCall.{ReportCall}
 use Rattle.reporter_state.specs.declared.decider.OutputLoadDecider.{OutputLoadDecider}
 use Rattle.reporter_state.specs.declared.faults.WriteEventError.{WriteEventError}
 
--- what decides as a reporter of this configuration does
+-- the decider of a reporter with this configuration
 abbrev pub decider_of : Configuration → OutputLoadDecider
 decider_of config = decider_by (settings_of config) config.store
 
@@ -14,7 +14,7 @@ decider_of config = decider_by (settings_of config) config.store
 abbrev pub refusal : Configuration → ReportCall → Option WriteEventError
 refusal config call = refusal_by (decider_of config) call
 
--- the same of the call at a place
+-- why it refuses the call at an index
 abbrev pub refusal_at : Configuration → List ReportCall → ℕ → Option WriteEventError
 refusal_at config calls i = refusal_at_by (decider_of config) calls i
 

@@ -12,16 +12,16 @@ use Rattle.run_model.specs.declared.call.ReportCall.{ReportCall}
 abbrev pub in_colour : Bool → Configuration → Configuration
 in_colour b config = record config { builder = record config.builder { should_colorize = b } }
 
--- what is visible in colour is alike what is written without colour: the text of each call, and the whole report
+-- the visible text in colour is alike the text without colour: the text of each call, and the whole report
 pub record IsEqualInColour (config : Configuration) (calls : List ReportCall) : Type 0 where
   pub at_each : (position : ℕ) → IsEqualButEndSpaces (visible (text_at (in_colour true config) calls position)) (text_at (in_colour false config) calls position)
   pub whole : IsEqualButEndSpaces (visible (report (in_colour true config) (reverse calls))) (report (in_colour false config) (reverse calls))
 
--- it is so where no text that is handed in holds an escape character
+-- this holds if no given text holds an escape character
 abbrev pub ColourLaw : Configuration → List ReportCall → Type 0
 ColourLaw config calls = IsPlainConfiguration config → ArePlain true calls → IsEqualInColour config calls
 
--- what is stored is the same, byte for byte, in colour and without: the record of each call, and all that is stored
+-- the store gets the same bytes in colour and without: the record of each call, and all of them
 pub record IsSameStoredInColour (config : Configuration) (calls : List ReportCall) : Type 0 where
   pub at_each : (position : ℕ) → stored_at (in_colour true config).store calls position ≡ stored_at (in_colour false config).store calls position
   pub whole : stored (in_colour true config).store (reverse calls) ≡ stored (in_colour false config).store (reverse calls)

@@ -1,4 +1,4 @@
--- A configuration of a reporter, and what it comes to.
+-- The configuration of a reporter, and the settings that it leads to.
 use Rattle.std.specs.Prelude.{ℕ, Bool, false, Option, None, Some}
 use Rattle.run_names.specs.Filters.{default_config_filter}
 use Rattle.run_names.specs.declared.config.NextestRunMode.TheVariants.{Test}
@@ -16,7 +16,7 @@ use Rattle.store_text.specs.declared.config.StoreConfig.{StoreConfig}
 use Rattle.console_reporter.specs.declared.imp.builder.DisplayReporterBuilder.{DisplayReporterBuilder}
 use Rattle.console_reporter.specs.declared.imp.builder.Surroundings.{Surroundings}
 
--- nextest's defaults, for a run of so many tests
+-- nextest's defaults, for a run of n tests
 abbrev pub default_builder : ℕ → DisplayReporterBuilder
 default_builder run_count = record {
   mode = Test;
@@ -38,7 +38,7 @@ default_builder run_count = record {
   displayer_kind = Live;
 }
 
--- the builder's fields, what the caller knows of the terminal and of the environment, and what a store is asked to keep, if there
+-- the builder's fields, what the caller knows of the terminal and of the environment, and what a store keeps, if there
 -- is one
 pub record Configuration : Type 0 where
   pub builder : DisplayReporterBuilder
@@ -58,12 +58,12 @@ configured builder use_unicode is_terminal is_ci display_empty_outputs = record 
   store = None;
 }
 
--- the same in named surroundings, and with a store where there is one
+-- a configuration in named surroundings, with a store if there is one
 abbrev pub configured_in : DisplayReporterBuilder → Surroundings → Option StoreConfig → Configuration
 configured_in builder surroundings store =
     record (configured builder surroundings.use_unicode surroundings.is_terminal surroundings.is_ci surroundings.display_empty_outputs) { store = store }
 
--- the same with a store
+-- a configuration with a store
 abbrev pub configured_with_store : StoreConfig → DisplayReporterBuilder → Bool → Bool → Bool → Bool → Configuration
 configured_with_store store builder use_unicode is_terminal is_ci display_empty_outputs =
     record (configured builder use_unicode is_terminal is_ci display_empty_outputs) { store = Some store }
@@ -74,7 +74,7 @@ resolved_of c = resolved_display c.builder.display_config c.is_terminal c.is_ci
 abbrev pub overrides_of : Configuration → OutputDisplayOverrides
 overrides_of c = overrides_by c.builder.display_config.no_capture c.builder.success_output c.builder.failure_output
 
--- what a reporter of this configuration goes by
+-- the settings of a reporter with this configuration
 abbrev pub settings_of : Configuration → Settings
 settings_of c = record {
   mode = c.builder.mode;

@@ -21,7 +21,7 @@ use Rattle.reporter_state.specs.declared.decider.OutputLoadDecider.{OutputLoadDe
 abbrev pub combined : Text → Written
 combined t = Output None (Combined t) None None
 
--- a decided event with this execution output: of a finished test, that of the last attempt. Other events stay
+-- a decided event with this execution output: for a finished test, that of the last attempt. Other events do not change
 abbrev pub with_output : Written → TestEventKind → TestEventKind
 with_output output (SetupScriptFinished stress script program args status) = SetupScriptFinished stress script program args (record status { output = output })
 with_output output (TestAttemptFailedWillRetry stress test status delay failure) = TestAttemptFailedWillRetry stress test (record status { output = output }) delay failure
@@ -33,26 +33,26 @@ with_output output e = e
 abbrev pub writing : Text → TestEvent → ReportCall
 writing t e = Event (record e { kind = with_output (combined t) e.kind })
 
--- between these calls, the text of some position is another one where the event's output is "a" than where it is "b"
+-- between these calls, some position has another text if the event's output is "a" than if it is "b"
 abbrev pub IsSeen : Configuration → List ReportCall → TestEvent → List ReportCall → Type 0
 IsSeen config before event after =
     report_texts config (reverse (before ++ writing (codes "a") event ∷ after)) ≢ report_texts config (reverse (before ++ writing (codes "b") event ∷ after))
 
--- the same of the record of some position
+-- and another record
 abbrev pub IsStoredThere : Configuration → List ReportCall → TestEvent → List ReportCall → Type 0
 IsStoredThere config before event after =
     records config.store (before ++ writing (codes "a") event ∷ after) ≢ records config.store (before ++ writing (codes "b") event ∷ after)
 
--- either of the two is another one
+-- the text or the record differs
 abbrev pub IsObserved : Configuration → List ReportCall → TestEvent → List ReportCall → Type 0
 IsObserved config before event after = IsSeen config before event after ⊎ IsStoredThere config before event after
 
--- the decider answers Load: none but decided events have an answer
+-- the decision is Load: only decided events have one
 abbrev pub AnswersLoad : OutputLoadDecider → TestEvent → Type 0
 AnswersLoad decider event = decision decider event.kind ≡ Some Load
 
--- In every list of calls an event is observed only where the decider answers Load; and in uninterrupted calls, of which the last is the
--- end of a run, it is observed exactly where the decider answers Load.
+-- In every list of calls an event is observed only if the decision is Load; and in uninterrupted calls, of which the last is the
+-- end of a run, it is observed exactly if the decision is Load.
 abbrev pub IsExact : Configuration → OutputLoadDecider → Type 0
 IsExact config decider =
     (before after : List ReportCall) (event : TestEvent) →

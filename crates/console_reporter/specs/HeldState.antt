@@ -14,8 +14,8 @@ use Rattle.run_model.specs.declared.call.ReportCall.TheVariants.{Event, Header, 
 use Rattle.console_reporter.specs.declared.imp.reporter.DisplayReporter.{DisplayReporter}
 use Rattle.reporter_state.specs.declared.state.ReporterState.{ReporterState}
 
--- the reporter works, and holds what the texts after this past need: its entries stand in their final order; and its store, if it
--- has one, is asked to keep what the configuration says
+-- the reporter works, and holds what the texts after this past need: its entries are in their final order; and its store, if it
+-- has one, keeps what the configuration says
 pub record StandsAfter {W S : Type 0} (config : Configuration) (past : List ReportCall) (reporter : DisplayReporter W S) : Type 0 where
   pub settings : reporter.state.settings ≡ settings_of config
   pub prefix : reporter.state.unique_prefix ≡ prefix past
@@ -39,11 +39,11 @@ known_by state = record {
   entries = state.kept;
 }
 
--- the reporter may take memory of its own for the event
+-- the reporter may allocate for the event
 abbrev pub MayGrow : {W S : Type 0} → DisplayReporter W S → TestEvent → Type 0
 MayGrow reporter event = IsTrue (may_grow_for reporter.state.settings (reason_rank reporter.state.cancel_status) event.kind)
 
--- the same of a call under a reason: a prefix is copied
+-- it may for a call under a reason: a prefix is copied
 abbrev pub may_grow_in : Settings → ℕ → ReportCall → Bool
 may_grow_in s reason (Event e) = may_grow_for s reason e.kind
 may_grow_in s reason (Header h) = false
@@ -52,6 +52,6 @@ may_grow_in s reason (Prefix p) = true
 abbrev pub MayGrowIn : {W S : Type 0} → DisplayReporter W S → ReportCall → Type 0
 MayGrowIn reporter call = IsTrue (may_grow_in reporter.state.settings (reason_rank reporter.state.cancel_status) call)
 
--- the same of the call at a place; past the end there is none
+-- and for the call at an index; past the end there is none
 abbrev pub MayGrowAt : Configuration → List ReportCall → ℕ → Type 0
 MayGrowAt config calls i = IsTrue (option_map_or (may_grow_in (settings_of config) (cancel (past_at calls i))) (slice_get calls i) false)

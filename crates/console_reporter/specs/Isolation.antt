@@ -1,4 +1,4 @@
--- Isolation: a replay may leave unread every captured output that the load decider skips, and no byte changes.
+-- Isolation: a replay may skip every captured output that the load decider skips, and no byte changes.
 use Rattle.std.specs.Prelude.{◌≡◌, ℕ, List, reverse}
 use Rattle.reporter_state.specs.Refusals.{AreAcceptedBy, first_refused, refusal_at_by}
 use Rattle.console_reporter.specs.Accepted.{decider_of}
@@ -8,8 +8,8 @@ use Rattle.console_reporter.specs.Stored.{records, stored}
 use Rattle.run_model.specs.declared.call.ReportCall.{ReportCall}
 use Rattle.reporter_state.specs.declared.decider.OutputLoadDecider.{OutputLoadDecider}
 
--- For every configuration that has this decider, each position of the calls with its skipped outputs left unread has the text and
--- the record of that position of the calls, so the report and what is stored are the same; where the calls are accepted they still are; the first call that is
+-- For every configuration with this decider, each position of the calls without their skipped outputs has the text and
+-- the record of that position of the calls, so the report and what is stored are the same; calls that are accepted still are; the first call that is
 -- refused is the same one; and each call is refused for the same reason.
 abbrev pub IsIsolated : OutputLoadDecider → List ReportCall → List ReportCall → Type 0
 IsIsolated decider calls left =

@@ -5,14 +5,14 @@ use Rattle.plain_text.specs.declared.write_str.WriteFault.{WriteFault}
 use Rattle.store_text.specs.declared.config.StoreConfig.{StoreConfig}
 use Rattle.console_reporter.specs.declared.imp.store.Store.{Store}
 
--- both have the same writer and are asked to keep the same, or both are absent
+-- both have the same writer and keep the same, or both are absent
 abbrev pub IsSameStore : {S : Type 0} → Option (Store S) → Option (Store S) → Type 0
 IsSameStore None None = Unit {0}
 IsSameStore None (Some b) = ⊥
 IsSameStore (Some a) None = ⊥
 IsSameStore (Some a) (Some b) = (b.writer.ghost_name ≡ a.writer.ghost_name) × (b.config ≡ a.config)
 
--- what it is asked to keep
+-- what it keeps
 abbrev pub config_of : {S : Type 0} → Option (Store S) → Option StoreConfig
 config_of None = None
 config_of (Some a) = Some a.config

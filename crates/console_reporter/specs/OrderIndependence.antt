@@ -1,4 +1,4 @@
--- Order: where a run goes on calmly, its end does not tell which of two neighbouring calls came first.
+-- Order: in an uninterrupted run, its end does not depend on which of two neighbouring calls came first.
 use Rattle.std.specs.Prelude.{◌≡◌, true, List, [], ◌∷◌, ◌++◌, reverse, Option, None, Some}
 use Rattle.run_model.specs.declared.event.TestEvent.{TestEvent}
 use Rattle.console_reporter.specs.Uninterrupted.{AreUninterrupted, is_end_of_run}
@@ -22,8 +22,8 @@ AreOfOneKey (Some x) (Some y) = entry_key x ≡ entry_key y
 AreOfOneKey (Some x) None = ⊥
 AreOfOneKey None y = ⊥
 
--- In uninterrupted calls, of which the last is the end of a run, an exchange of two neighbours, neither the last, that are not both kept
--- entries of one key leaves the text of the last as it is.
+-- In uninterrupted calls, of which the last is the end of a run, swapping two neighbours, neither the last, that are not both kept
+-- entries of one key does not change the text of the last.
 abbrev pub IsOrderIndependent : Configuration → List ReportCall → Type 0
 IsOrderIndependent config calls =
     (before after : List ReportCall) (first second : ReportCall) (end : TestEvent) →

@@ -8,20 +8,20 @@ use Rattle.reporter_state.specs.Refusals.{refusal_in}
 use Rattle.reporter_state.specs.declared.faults.WriteEventError.{WriteEventError}
 use Rattle.reporter_state.specs.declared.faults.WriteEventError.TheVariants.{RetriedSuccess, OutputNotLoaded, Io, Memory, Failed, StoreIo}
 
--- a beginning of the text was accepted
+-- a prefix of the text was accepted
 pub record HasFront {S : Type 0} (m : Meaning S) (old : S) (text : Text) (new : S) : Type 0 where
   pub front : Text
   pub rest : Text
   pub whole : text ≡ front ++ rest
   pub accepted : m.accepts old front new
 
--- what a reporter writes: the report to its first writer, and the records to its store
+-- the writer of a reporter: the report goes to its first writer, and the records to its store
 pub data Side : Type 0 where
   Report : Side
   Records : Side
 
--- From old, the error stopped the text of a side, of which a beginning was accepted, and left new: a device stops the side that it is
--- of, and memory either, or the reporter itself. A refusal leaves both as they were, a fault of the first writer the store, and a fault
+-- From old, the error stopped the text of a side, of which a prefix was accepted, and left new: a device stops its own side,
+-- and memory either, or the reporter itself. A refusal changes neither, a fault of the first writer does not change the store, and a fault
 -- of the store comes after the whole text of the report.
 abbrev pub Stops : {S : Type 0} → Side → Meaning S → S → Text → WriteEventError → S → Type 0
 Stops side m old text RetriedSuccess new = new ≡ old
@@ -33,12 +33,12 @@ Stops Report m old text StoreIo new = m.accepts old text new
 Stops Records m old text Io new = new ≡ old
 Stops Records m old text StoreIo new = m.stops old text Device new
 
--- the refusal that a call answered
+-- the refusal that a call returned
 abbrev pub answered_refusal : Result (Unit {0}) WriteEventError → Option WriteEventError
 answered_refusal (Ok done) = None
 answered_refusal (Err e) = refusal_in e
 
--- what a fault at a side is to the caller of a reporter
+-- a fault of a side as the caller sees it
 abbrev pub error_for : Side → WriteFault → WriteEventError
 error_for Report Device = Io
 error_for Records Device = StoreIo

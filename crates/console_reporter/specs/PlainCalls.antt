@@ -1,4 +1,4 @@
--- What is handed to a reporter for texts without escape characters.
+-- What the laws need of a reporter's input for texts without escape characters.
 use Rattle.std.specs.Prelude.{Bool, List}
 use Rattle.std.specs.List.{AllByRecursion}
 use Rattle.run_model.specs.declared.event.TestEventKind.{TestEventKind}
@@ -27,7 +27,7 @@ IsPlainConfiguration config = HasNoEscape config.builder.default_filter.profile
 abbrev pub ArePlainWords : List Text → Type 0
 ArePlainWords words = AllByRecursion HasNoEscape words
 
--- nor does what an attempt came to and wrote; of what it wrote where the flag says that texts are in colour
+-- nor do the result and output of an attempt; the output counts in colour (the flag)
 abbrev pub IsPlainAttempt : Bool → ExecuteStatus LiveSpec ChildOutputDescription → Type 0
 IsPlainAttempt k x = IsPlainResult x.result × IsPlainWritten k x.output
 

@@ -1,4 +1,4 @@
--- The law of plain reports: captured output puts no escape character into them.
+-- The law of plain reports: captured output brings no escape character into them.
 use Rattle.std.specs.Prelude.{◌≡◌, ℕ, List, false, reverse}
 use Rattle.plain_text.specs.Escapes.{HasNoEscape}
 use Rattle.console_reporter.specs.Configuration.{Configuration}
@@ -11,6 +11,6 @@ pub record IsPlainReport (config : Configuration) (calls : List ReportCall) : Ty
   pub at_each : (position : ℕ) → HasNoEscape (text_at config calls position)
   pub whole : HasNoEscape (report config (reverse calls))
 
--- it is so without colour, where no text that is handed in holds one but for captured outputs, which may hold anything
+-- this holds without colour if no given text holds one, except captured outputs, which may hold anything
 abbrev pub PlainLaw : Configuration → List ReportCall → Type 0
 PlainLaw config calls = config.builder.should_colorize ≡ false → IsPlainConfiguration config → ArePlain false calls → IsPlainReport config calls

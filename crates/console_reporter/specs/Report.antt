@@ -35,13 +35,13 @@ use Rattle.run_model.specs.declared.call.ReportCall.{ReportCall}
 use Rattle.run_model.specs.declared.call.ReportCall.TheVariants.{Event, Header, Prefix}
 use Rattle.reporter_state.specs.declared.final_output.FinalOutputEntry.{FinalOutputEntry}
 
--- what a text may read of the calls before it: the prefix of the run's id, the rank of the reason, and the entries as they stand
+-- what a text may depend on of the calls before it: the prefix of the run's id, the rank of the reason, and the entries in order
 pub record Known : Type 0 where
   pub prefix : Option UniquePrefix
   pub reason : ℕ
   pub entries : List FinalOutputEntry
 
--- the entries, where no hiding reason was given
+-- the entries, unless a hiding reason was given
 unfoldable pub listed_text : Settings → Known → Parts false Lines
 listed_text s known = choice (nat_lt known.reason hiding_rank) (entries_text s known.entries) none
 
@@ -57,11 +57,11 @@ end_of_run_text s known elapsed stats outstanding =
 abbrev pub script_by : Option StressIndex → Text → Text → List Text → Script
 script_by stress id program args = record { stress_index = stress; script_id = id; program = program; args = args }
 
--- what ends in a line feed, beside texts that may be empty
+-- a text that ends in a line feed, where others may be empty
 abbrev pub line : {a : Bool} → Parts a Line → Parts false Lines
 line x = plainly (loosely x)
 
--- the parts of an event, by what is known of the calls before it and how long the run has taken
+-- the parts of an event, from what is known of the calls before it and the time since the start of the run
 abbrev pub event_parts : Settings → Known → ℕ → TestEventKind → Parts false Lines
 event_parts s known elapsed (RunStarted counts id profile) = line (run_started_text s known.prefix counts id profile)
 event_parts s known elapsed (StressSubRunStarted progress) = line (stress_sub_run_started_text s.theme_characters progress)
@@ -117,10 +117,10 @@ abbrev pub report : Configuration → List ReportCall → Text
 report config [] = []
 report config (call ∷ past) = report config past ++ text config past call
 
--- what stood before a place of a list of calls
+-- the calls before an index, as a past
 abbrev pub past_at : List ReportCall → ℕ → List ReportCall
 past_at calls i = reverse (take i calls)
 
--- the text of the call at a place; past the end there is none
+-- the text of the call at an index; past the end there is none
 abbrev pub text_at : Configuration → List ReportCall → ℕ → Text
 text_at config calls i = option_map_or (text config (past_at calls i)) (slice_get calls i) []

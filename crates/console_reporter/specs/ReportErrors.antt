@@ -17,6 +17,6 @@ abbrev pub error_of_io : ErrorKind → ReportError
 error_of_io kind.OutOfMemory = OutOfMemory
 error_of_io _ = Io
 
--- a list of calls stopped there for that
+-- the list of calls stopped at this position for this fault
 abbrev pub error_of_run : RunFault → ReportError
 error_of_run stop = Run stop.position stop.fault

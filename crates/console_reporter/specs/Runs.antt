@@ -29,17 +29,17 @@ absent = record {
   failures = λ store. 0;
 }
 
--- Calls made in order on a reporter of their own, from its writers as they were to its writers as they are: the report, and the records. A
+-- Calls made in order by a new reporter, from its writers before to its writers after: the report, and the records. A
 -- summary lists its entries in their final order, of which `one_final_order` says that there is no other.
 pub record Runs {W S : Type 0} (m : Meaning W) (n : Meaning S) (config : Configuration) (calls : List ReportCall) (old : W × S) (result : Result (Unit {0}) RunFault) (new : W × S) : Type 0 where
-  -- all were made: the report of the calls was accepted and delivered, and so were their records
+  -- all succeeded: the report of the calls was accepted and delivered, and so were their records
   pub ok : OnOk result (m.accepts old.0 (report config (reverse calls)) new.0)
   pub stored : OnOk result (n.accepts old.1 (stored_by config.store (reverse calls)) new.1)
   pub delivered : OnOk result (m.is_delivered new.0)
   pub store_delivered : OnOk result (n.is_delivered new.1)
   pub accepted : OnOk result (AreAccepted config calls)
   pub no_failure : OnOk result (m.failures new.0 ≡ m.failures old.0)
-  -- the calls before a position were made and delivered, and that at it, or past the last one the end of the report, was stopped
+  -- the calls before a position succeeded and were delivered, and the one at it, or past the last one the end of the report, was stopped
   pub position : IfErr result (λ stop. stop.position ≤ length calls)
   pub err : IfErr result (λ stop. (mid : W) × m.accepts old.0 (report config (past_at calls stop.position)) mid
       × Stops Report m mid (text_at config calls stop.position) stop.fault new.0
@@ -58,7 +58,7 @@ pub record Runs {W S : Type 0} (m : Meaning W) (n : Meaning S) (config : Configu
   pub store_io : IfErr result (λ stop. stop.fault ≡ StoreIo → n.failures new.1 ≡ successor (n.failures old.1))
   pub memory : IfErr result (λ stop. stop.fault ≡ Memory → m.may_refuse old.0 ⊎ MayGrowAt config calls stop.position ⊎ n.may_refuse old.1)
   pub known : IfErr result (λ stop. stop.fault ≡ Failed → ⊥)
-  -- what a fault of one device leaves of the other is delivered, as far as it was accepted
+  -- after a fault of one device the other has delivered what it accepted
   pub text_delivered : IfErr result (λ stop. stop.fault ≡ StoreIo → m.is_delivered new.0)
   pub records_delivered : m.is_delivered old.0 → n.is_delivered old.1 → IfErr result (λ stop. stop.fault ≡ Io → n.is_delivered new.1)
   -- the laws over two runs

@@ -1,4 +1,4 @@
--- Statistics: where no counter is shown, nothing shows how far the run was when a test finished.
+-- Statistics: without counters, nothing depends on how far the run was when a test finished.
 use Rattle.std.specs.Prelude.{◌≡◌, List, ◌∷◌, ◌++◌, reverse, None}
 use Rattle.run_model.specs.declared.event.TestEvent.{TestEvent}
 use Rattle.run_model.specs.declared.event.TestEventKind.{TestEventKind}
@@ -14,7 +14,7 @@ abbrev pub with_stats : RunStats → TestEventKind → TestEventKind
 with_stats stats (TestFinished stress test success failure statuses old) = TestFinished stress test success failure statuses stats
 with_stats stats e = e
 
--- Where no counter is shown, other statistics in the event of a finished test leave the text of each position as it is.
+-- Without counters, other statistics in the event of a finished test do not change the text of any position.
 abbrev pub IsStatsIndependent : Configuration → List ReportCall → Type 0
 IsStatsIndependent config calls =
     (before after : List ReportCall) (e : TestEvent) (stats : RunStats) →

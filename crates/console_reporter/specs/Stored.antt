@@ -1,4 +1,4 @@
--- What a store keeps of a run: the record of each finished test, whatever the reasons for cancelling.
+-- What a store keeps of a run: the record of each finished test, whatever the cancel reasons.
 use Rattle.std.specs.Prelude.{ℕ, List, [], ◌∷◌, ◌++◌, Option, None, Some, map, slice_get}
 use Rattle.std.specs.Option.{option_map_or}
 use Rattle.run_model.specs.declared.event.TestEventKind.{TestEventKind}
@@ -9,7 +9,7 @@ use Rattle.store_text.specs.declared.config.StoreConfig.{StoreConfig}
 use Rattle.run_model.specs.declared.call.ReportCall.{ReportCall}
 use Rattle.run_model.specs.declared.call.ReportCall.TheVariants.{Event, Header, Prefix}
 
--- the record of an event: none but a finished test has one, and where there is no store none has
+-- the record of an event: only a finished test has one, and only with a store
 abbrev pub record_of : Option StoreConfig → TestEventKind → Text
 record_of (Some store) (TestFinished stress test success failure statuses stats) = record_text store test statuses
 record_of (Some store) _ = []
@@ -30,6 +30,6 @@ abbrev pub stored : Option StoreConfig → List ReportCall → Text
 stored store [] = []
 stored store (call ∷ past) = stored store past ++ stored_text store call
 
--- the record of the call at a place; past the end there is none
+-- the record of the call at an index; past the end there is none
 abbrev pub stored_at : Option StoreConfig → List ReportCall → ℕ → Text
 stored_at store calls i = option_map_or (stored_text store) (slice_get calls i) []

@@ -1,4 +1,4 @@
--- What one call does to the two writers of a reporter, and what calls in turn do.
+-- What one call does to the two writers of a reporter, and what calls in sequence do.
 use Rattle.std.specs.Prelude.{◌≡◌, ◌⊎◌, true, List, [], ◌∷◌, Option, None, Some, Result, Err, OnOk, IfErr}
 use Rattle.std.specs.Option.{is_some, option_and_then, option_map_or}
 use Rattle.plain_text.specs.Texts.{Text}
@@ -20,7 +20,7 @@ use Rattle.reporter_state.specs.declared.faults.WriteEventError.TheVariants.{Fai
 use Rattle.console_reporter.specs.declared.imp.reporter.DisplayReporter.{DisplayReporter}
 
 -- A call, or the end of a report, which is None: the past after it, what it adds to the report and to the store, and whether the
--- reporter may take memory of its own for it.
+-- reporter may allocate for it.
 abbrev pub past_with : Option ReportCall → List ReportCall → List ReportCall
 past_with None past = past
 past_with (Some call) past = call ∷ past
@@ -39,21 +39,21 @@ MayGrowFor reporter (Some call) = MayGrowIn reporter call
 abbrev pub refusal_for : Configuration → Option ReportCall → Option WriteEventError
 refusal_for config call = option_and_then (refusal config) call
 
--- events alone are refused
+-- only events are refused
 abbrev pub IsNeverRefused : Option ReportCall → Type 0
 IsNeverRefused None = Unit {0}
 IsNeverRefused (Some (Event event)) = ⊥
 IsNeverRefused (Some (Header header)) = Unit {0}
 IsNeverRefused (Some (Prefix prefix)) = Unit {0}
 
--- every call but the taking of a prefix delivers what the writers hold
+-- every call except taking a prefix delivers what the writers hold
 abbrev pub IsDelivered : Option ReportCall → Type 0
 IsDelivered None = Unit {0}
 IsDelivered (Some (Event event)) = Unit {0}
 IsDelivered (Some (Header header)) = Unit {0}
 IsDelivered (Some (Prefix prefix)) = ⊥
 
--- both have the same writers, and go by the same settings
+-- both have the same writers and settings
 pub record IsSameReporter {W S : Type 0} (old new : DisplayReporter W S) : Type 0 where
   pub writer : new.writer.ghost_name ≡ old.writer.ghost_name
   pub store : IsSameStore old.store new.store
@@ -65,7 +65,7 @@ module _ {W S : Type 0} (m : Meaning W) (n : Meaning S) where
     pub writer : m.is_delivered reporter.writer.now
     pub store : (store_meaning n).is_delivered reporter.store
 
-  -- the call was made: its text and its record were accepted, and the reporter stands after it
+  -- the call succeeded: its text and its record were accepted, and the reporter's state is that after it
   pub record Tells (old : DisplayReporter W S) (call : Option ReportCall) (new : DisplayReporter W S) : Type 0 where
     pub accepted : (config : Configuration) (past : List ReportCall) → StandsAfter config past old → m.accepts old.writer.now (told_text config past call) new.writer.now
     pub stored : (config : Configuration) (past : List ReportCall) → StandsAfter config past old → (store_meaning n).accepts old.store (kept_text config call) new.store
@@ -79,7 +79,7 @@ module _ {W S : Type 0} (m : Meaning W) (n : Meaning S) where
     pub io : e ≡ Io → m.failures new.writer.now ≡ successor (m.failures old.writer.now)
     pub store_io : e ≡ StoreIo → (store_meaning n).failures new.store ≡ successor ((store_meaning n).failures old.store)
     pub memory : e ≡ Memory → m.may_refuse old.writer.now ⊎ MayGrowFor old call ⊎ (store_meaning n).may_refuse old.store
-    -- a fault of the store comes once the text is delivered
+    -- a fault of the store comes after the text was delivered
     pub delivered : e ≡ StoreIo → m.is_delivered new.writer.now
 
   -- What every call promises, and the end of a report.
@@ -89,15 +89,15 @@ module _ {W S : Type 0} (m : Meaning W) (n : Meaning S) where
     pub delivered : IsDelivered call ⊎ AreDelivered old → OnOk result (AreDelivered new)
     pub err : IfErr result (λ e. Breaks old call e new)
     pub lines : (config : Configuration) (past : List ReportCall) → IsOfLines (told_text config past call)
-    -- it is refused by itself, whatever stood before, and then changes nothing
+    -- whether it is refused depends on the call alone, and then nothing changes
     pub refused : (config : Configuration) (past : List ReportCall) → StandsAfter config past old → answered_refusal result ≡ refusal_for config call
     pub unrefused : IsNeverRefused call → answered_refusal result ≡ None
     pub untouched : is_some (answered_refusal result) ≡ true → new ≡ old
-    -- after any other error the reporter has failed: it answers `Failed`, and stays as it is
+    -- after any other error the reporter has failed: it returns `Failed`, and does not change
     pub fails : IfErr result (λ e. refusal_in e ≡ None → HasFailed new)
     pub failed : HasFailed old → (result ≡ Err Failed) × (new ≡ old)
 
-  -- the calls of a past were made, by a reporter that had made none
+  -- the calls of a past succeeded, starting with a new reporter
   pub record TellsRun (old : DisplayReporter W S) (past : List ReportCall) (new : DisplayReporter W S) : Type 0 where
     pub accepted : (config : Configuration) → StandsAfter config [] old → m.accepts old.writer.now (report config past) new.writer.now
     pub stored : (config : Configuration) → StandsAfter config [] old → (store_meaning n).accepts old.store (stored config.store past) new.store

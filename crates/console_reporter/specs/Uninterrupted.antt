@@ -10,7 +10,7 @@ use Rattle.reporter_state.specs.Effects.{effect_of}
 use Rattle.run_model.specs.declared.call.ReportCall.{ReportCall}
 use Rattle.run_model.specs.declared.call.ReportCall.TheVariants.{Event, Header, Prefix}
 
--- the rank of the reason that a call carries, 0 where it carries none
+-- the rank of the reason that a call carries, 0 if none
 abbrev pub carried_reason : ReportCall → ℕ
 carried_reason (Event e) = (effect_of e.kind).reason
 carried_reason (Header h) = 0

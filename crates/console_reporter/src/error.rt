@@ -12,7 +12,7 @@ use std::alloc::{AllocError, AllocFailed};
 use std::io;
 use thiserror::Error;
 
-/// Why a program could not make its report. Each fault of this library turns into it by `?`, so a `main` can have it as its error.
+/// Why a program could not make its report. Each fault of this library converts into it with `?`, so a `main` can have it as its error.
 ///
 /// ```
 /// use std::io;
@@ -24,7 +24,7 @@ use thiserror::Error;
 /// }
 /// ```
 ///
-/// Its words are those of the fault, behind the place of the call where there is one.
+/// Its text is that of the fault, after the index of the call if there is one.
 ///
 /// ```
 /// let fault = WriteEventError::StoreIo;
@@ -39,7 +39,7 @@ pub enum ReportError {
     /// A growth of memory was refused.
     #[error("out of memory")]
     OutOfMemory,
-    /// A device failed outside of a reporter's call, where a text was written or a file was read.
+    /// A device failed outside a reporter's call, while a text was written or a file was read.
     #[error("input or output failed")]
     Io,
     /// A call of a reporter failed.
@@ -48,7 +48,7 @@ pub enum ReportError {
     /// A call of a list failed.
     #[error("call {position}: {fault}")]
     Run {
-        /// The place of the call from 0, or the number of calls where the end of the report failed.
+        /// The index of the call, or the number of calls if the end of the report failed.
         position: usize,
         /// Why it failed.
         fault: WriteEventError,
@@ -79,7 +79,7 @@ impl<T: Drop> From<AllocFailed<T>> for ReportError {
     }
 }
 
-// What a buffer answers that cannot be made: it gives back the writer, which is let go.
+// A buffer that cannot be made returns the writer with the error; it is dropped.
 impl<W: Drop> From<(AllocError, W)> for ReportError {
     ghost from_gives = { λ _ error. error ≡ ReportError.OutOfMemory };
 

@@ -1,29 +1,29 @@
 //! The console report of a test run.
 //!
-//! A reporter is handed the events of a run, in order, and writes for each the text that its definition gives from the
+//! A reporter gets the events of a run, in order, and writes for each the text that its definition gives from the
 //! event, the configuration and the calls before it. See [`imp::run_report`].
 //!
 //! # The way of an event
 //!
 //! A call of `write_event` passes these crates:
 //!
-//! 1. `reporter_state`: the decider says by the event's metadata whether it is refused, which changes nothing.
+//! 1. `reporter_state`: the decider says from the event's metadata whether it is refused, which changes nothing.
 //! 2. This one: `imp::event_text` picks the function that writes the text. Those of tests are in `test_text`, of a run and of its setup scripts
-//!    in `run_text`, of what units are doing in `info_text`.
-//! 3. They put together what several events have, in `text_parts`; captured output, in `unit_report`; names and counters, in `report_text`
+//!    in `run_text`, of responses of units in `info_text`.
+//! 3. They share what several events have, in `text_parts`; captured output, in `unit_report`; names and counters, in `report_text`
 //!    and `report_words`; styles, numbers and cut lines, in `plain_text`.
 //! 4. `plain_text`: the `TextBuffer` gathers the text and delivers it.
-//! 5. `reporter_state`: what a later summary lists is kept.
-//! 6. `store_text`: the record of a finished test is written, where there is a store, and delivered.
+//! 5. `reporter_state`: keeps what a later summary lists.
+//! 6. `store_text`: writes the record of a finished test, if there is a store, and delivers it.
 //!
 //! A line of a scene passes others before that:
 //!
-//! 1. `command_line`: the next whole lines of the file are taken.
-//! 2. `scene_text`: the line is read into an event of `scene_events`, field by field in `scene_fields`.
-//! 3. `scenes`, in `report`: once all lines are read, the decider is asked of each event. `follow` asks when the event's turn comes.
-//! 4. `scenes`, `SceneReporter`: the event becomes a call, which the reporter is given.
+//! 1. `command_line`: takes the next whole lines of the file.
+//! 2. `scene_text`: reads the line into an event of `scene_events`, field by field with `scene_fields`.
+//! 3. `scenes`, in `report`: asks the decider about each event, once all lines are read. `follow` asks when the event's turn comes.
+//! 4. `scenes`, `SceneReporter`: turns the event into a call of the reporter.
 //!
-//! `follow` reports the lines that it has at hand before it reads more.
+//! `follow` reports all lines that have arrived before it reads more.
 #![tactic(auto)]
 
 pub mod error;

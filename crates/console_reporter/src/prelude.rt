@@ -1,4 +1,4 @@
-//! What most callers need, of this crate and of those below, under one roof.
+//! What most callers need of this crate and of those below, in one module.
 //!
 //! ```
 //! use console_reporter::prelude::*;

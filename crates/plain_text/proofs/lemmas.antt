@@ -4,7 +4,6 @@ pub mod Chunked
 pub mod Closed
 pub mod Cuts
 pub mod Decimals
-pub mod Decoded
 pub mod Deliveries
 pub mod TrailingNewlines
 pub mod Feeds
@@ -18,5 +17,4 @@ pub mod LineSequences
 pub mod Marks
 pub mod Pieces
 pub mod Steps
-pub mod StrippedTexts
 pub mod Widths

@@ -11,13 +11,11 @@ pub mod Highlights
 pub mod Indent
 pub mod Indentation
 pub mod Lines
-pub mod Lossy
 pub mod Numbers
 pub mod OnFormatter
 pub mod Piece
 pub mod Scanner
 pub mod StringWriter
-pub mod Stripped
 pub mod Style
 pub mod TextBuffer
 pub mod Texts

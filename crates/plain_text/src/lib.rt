@@ -10,7 +10,6 @@ pub mod escapes;
 pub mod fitting;
 pub mod indenter;
 pub mod lines;
-pub mod lossy;
 pub mod numbers;
 pub mod repeated;
 pub mod reporter_helpers;

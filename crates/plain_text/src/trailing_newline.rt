@@ -60,8 +60,12 @@ fn write_held<W: WriteStr>(w: &mut W, is_held: bool) -> Result<(), WriteFault>
     Ok(())
 }
 
-// A text without one line feed that closes it, and whether one does.
-fn split_trailing_newline(text: &str) -> (&str, bool)
+/// A text without one line feed that closes it, and whether one does.
+///
+/// ```
+/// assert_eq!(split_trailing_newline("a\n\n"), ("a\n", true));
+/// ```
+pub fn split_trailing_newline(text: &str) -> (&str, bool)
     ensures front { result.0.now ≡ without_trailing_newline text.now }
     ensures held { result.1 ≡ ends_in_line_feed text.now }
 {

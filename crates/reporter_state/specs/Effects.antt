@@ -1,4 +1,4 @@
--- What an event does beside its text: one equation for each kind that does something.
+-- What an event does besides its text: one equation for each kind that does something.
 use Rattle.std.specs.Prelude.{◌≡◌, ℕ, nat_le, Bool, Option, None, Some, if◌then◌else◌}
 use Rattle.std.specs.Borrow.{Bor}
 use Rattle.std.specs.Option.{is_some, option_and_then, option_map}
@@ -17,12 +17,12 @@ use Rattle.reporter_state.specs.declared.final_output.FinalOutput.{FinalOutput}
 use Rattle.reporter_state.specs.declared.final_output.FinalOutput.TheVariants as output
 use Rattle.reporter_state.specs.declared.final_output.FinalOutputEntry.{FinalOutputEntry}
 
--- how a test ended: it finished, or it was not to run
+-- how a test ended: it finished, or it was skipped
 pub data TestEnd : Type 0 where
   Finished : FinishReport → TestEnd
   Skipped : CountedInstance → TestEnd
 
--- what the summary shows of a finished test: its line, and the output of its last attempt where that is shown at the end
+-- what the summary shows of a finished test: its line, and the output of its last attempt if that is shown at the end
 unfoldable pub final_output : FinishReport → FinalOutput
 final_output f = if timed_at_end f.row f.display then output.ExecutedWithOutput f.summary f.last.output else output.Executed f.summary
 
@@ -37,16 +37,16 @@ skipped_entry test = record { test = kept_test test; output = output.Skipped }
 abbrev pub is_kept : Settings → FinishReport → Bool
 is_kept s f = timed_listed f.row (is_final_wanted s f.display f.summary)
 
--- the summary lists skipped tests: from their final level upwards
+-- the summary lists skipped tests: from their final level up
 abbrev pub is_skip_kept : Settings → Bool
 is_skip_kept s = nat_le (final_rank final.Skip) (final_rank s.status_levels.final_status_level)
 
--- what is kept of a test
+-- the entry that is kept of a test
 abbrev pub kept_entry : Settings → TestEnd → Option FinalOutputEntry
 kept_entry s (Finished f) = if is_kept s f then Some (finished_entry f) else None
 kept_entry s (Skipped test) = if is_skip_kept s then Some (skipped_entry test) else None
 
--- what an event does: the rank of the reason that it cancels the run for, 0 where it does not; and the test that it ends under
+-- what an event does: the rank of the reason for which it cancels the run, 0 if it does not; and the test that it ends under
 -- the reason before
 pub record Effect : Type 0 where
   pub reason : ℕ
@@ -68,14 +68,14 @@ abbrev pub finish_by : Settings → ℕ → TestEventKind → Option FinishRepor
 finish_by s reason (TestFinished stress instance success failure statuses stats) = Some (test_finish s reason stress instance success failure statuses stats)
 finish_by s reason other = None
 
--- that test is handed on with the event
+-- that test is passed with the event
 abbrev pub IsFinishOf : Settings → ℕ → TestEventKind → Option (Bor FinishedAttempts) → Type 0
 IsFinishOf s reason e handed = option_map (λ f. finish_of f.now.finished) handed ≡ finish_by s reason e
 
--- what is kept of an event under a reason
+-- the entry that is kept of an event under a reason
 abbrev pub entry_of : Settings → ℕ → TestEventKind → Option FinalOutputEntry
 entry_of s reason e = option_and_then (kept_entry s) ((effect_of e).ended s reason)
 
--- the reporter may take memory of its own for the event: to keep an entry with copies of its texts
+-- the reporter may allocate for the event: to keep an entry with copies of its texts
 abbrev pub may_grow_for : Settings → ℕ → TestEventKind → Bool
 may_grow_for s reason e = is_some (entry_of s reason e)

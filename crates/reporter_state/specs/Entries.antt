@@ -1,4 +1,4 @@
--- What is kept of the calls for the summary, and how the summary lists it.
+-- The entries that are kept of the calls, and how the summary lists them.
 use Rattle.std.specs.Prelude.{ℕ, ◌-◌, Bool, false, List, [], ◌∷◌, ◌++◌, Option, Some, None, max}
 use Rattle.std.specs.Option.{option_to_list}
 use Rattle.std.specs.declared.cmp.Ordering.{Ordering}
@@ -40,18 +40,18 @@ cancel (Event e ∷ past) = max (effect_of e.kind).reason (cancel past)
 cancel (Header h ∷ past) = cancel past
 cancel (Prefix p ∷ past) = cancel past
 
--- the unique prefix of the run's id that the last such call of a past gave
+-- the last unique prefix of the run's id that a past gave
 unfoldable pub prefix : List ReportCall → Option UniquePrefix
 prefix [] = None
 prefix (Event e ∷ past) = prefix past
 prefix (Header h ∷ past) = prefix past
 prefix (Prefix p ∷ past) = Some p
 
--- the rank from which on a reason hides tests and their entries: an interrupt
+-- the rank from which a reason hides tests and their entries: an interrupt
 abbrev pub hiding_rank : ℕ
 hiding_rank = reason_rank (Some cause.Interrupt)
 
--- the entries of a past, each by the reason that stood before it, in the order of the calls
+-- the entries of a past, each under the reason before it, in the order of the calls
 unfoldable pub kept : Settings → List ReportCall → List FinalOutputEntry
 kept s [] = []
 kept s (Event e ∷ past) = kept s past ++ option_to_list (entry_of s (cancel past) e.kind)
@@ -63,7 +63,7 @@ abbrev pub iteration_key : Option StressIndex → List ℕ
 iteration_key None = []
 iteration_key (Some i) = stress_key i
 
--- a counter's part of a key: numbers by both of them, and padding after these
+-- a counter's part of a key: numbers by both of them, then padding
 abbrev pub counter_key : Option DisplayCounterIndex → List ℕ
 counter_key None = []
 counter_key (Some (Counter current total)) = 0 ∷ current ∷ total ∷ []
@@ -75,7 +75,7 @@ final_level_of_output (Executed summary) = final_level_of summary
 final_level_of_output (ExecutedWithOutput summary output) = final_level_of summary
 final_level_of_output Skipped = final.Skip
 
--- how far it stands below all
+-- how many levels below all
 abbrev pub level_key : FinalOutput → ℕ
 level_key o = 7 - final_rank (final_level_of_output o)
 
@@ -83,7 +83,7 @@ level_key o = 7 - final_rank (final_level_of_output o)
 abbrev pub instance_key : OwnedTestInstanceId → List (List ℕ)
 instance_key i = i.binary_id ∷ i.test_name ∷ []
 
--- a test's part of a key: the iteration, then the counter where one is shown, then the names
+-- a test's part of a key: the iteration, then the counter if one is shown, then the names
 abbrev pub test_key : KeptTest → List (List ℕ)
 test_key t = iteration_key t.stress_index ∷ counter_key t.counter ∷ instance_key t.instance
 
@@ -98,7 +98,7 @@ entry_cmp a b = key_cmp (entry_key a) (entry_key b)
 abbrev pub is_before : FinalOutputEntry → FinalOutputEntry → Bool
 is_before a b = is_lt (entry_cmp a b)
 
--- the order is by key, and entries of one key stand as they were kept
+-- the order is by key, and entries of one key are in the order in which they were kept
 abbrev pub IsFinalOrder : List FinalOutputEntry → List FinalOutputEntry → Type 0
 IsFinalOrder entries order = IsSorted entry_cmp order × IsStable entry_cmp entries order
 
@@ -106,7 +106,7 @@ IsFinalOrder entries order = IsSorted entry_cmp order × IsStable entry_cmp entr
 abbrev pub final_order : List FinalOutputEntry → List FinalOutputEntry
 final_order entries = ordered_by is_before entries
 
--- how the summary shows a test: its line, and then what its last attempt wrote where that is kept; or that it was skipped
+-- how the summary shows a test: its line, and then the output of its last attempt if that is kept; or that it was skipped
 unfoldable pub final_text : Settings → CountedInstance → FinalOutput → Parts false Line
 final_text s test (Executed summary) = status_line Final test summary
 final_text s test (ExecutedWithOutput summary output) = status_line Final test summary ⧺ attempt_output s false summary.result output
@@ -119,7 +119,7 @@ entry_text s e = final_text s (borrowed_test e.test) e.output
 abbrev pub shown_entry : Settings → FinalOutputEntry → Text
 shown_entry s e = paint s.styles (entry_text s e)
 
--- the entries as they stand, one after another
+-- the entries one after another
 abbrev pub entries_text : Settings → List FinalOutputEntry → Parts false Lines
 entries_text s es = each (entry_text s) es
 

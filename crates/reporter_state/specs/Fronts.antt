@@ -12,7 +12,7 @@ eight text i =
 abbrev pub word_of : List ℕ → ℕ → ℕ
 word_of text i = from_le_bytes w64 (eight text i)
 
--- the numbers are those of the text's first bytes, and its bytes are bytes
+-- the numbers are those of the text's first bytes, which are bytes
 pub record IsFront (front : Front) (text : List ℕ) : Type 0 where
   pub first : front.first ≡ word_of text 0
   pub second : front.second ≡ word_of text 8

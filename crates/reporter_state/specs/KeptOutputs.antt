@@ -13,11 +13,11 @@ use Rattle.reporter_state.specs.declared.kept_output.OutputForm.{OutputForm}
 use Rattle.reporter_state.specs.declared.kept_output.OutputForm.TheVariants.{Skipped, Line, LineWithOutput, Whole}
 use Rattle.reporter_state.specs.declared.kept_output.ShortSummary.{ShortSummary}
 
--- how an attempt ended, by the code of its process, or 0 where it passed
+-- how an attempt ended, from the exit code of its process, or 0 if it passed
 abbrev pub ended_by : ℤ → ExecutionResultDescription
 ended_by code = if int_eq code (pos 0) then outcome.Pass else outcome.Fail (failure.ExitCode code) false
 
--- what the attempts came to
+-- the outcome of the attempts
 abbrev pub summary_of_line : ShortSummary → StatusSummary
 summary_of_line l = record { case = l.case; retry_data = l.retry_data; result = ended_by l.exit_code; time_taken = record { 0 = l.nanos }; is_slow = l.is_slow }
 

@@ -1,4 +1,4 @@
--- Tests that are kept, with names of their own.
+-- Kept tests, with their own names.
 use Rattle.std.specs.Borrow.{Bor}
 use Rattle.std.specs.Prelude.{ℕ, List}
 use Rattle.text_parts.specs.declared.instance.CountedInstance.{CountedInstance}
@@ -12,7 +12,7 @@ kept_test t = record {
   instance = record { binary_id = t.instance.binary_id.now; test_name = t.instance.test_name.now };
 }
 
--- a name that is borrowed: where it lies makes no difference to a text
+-- a borrowed name: its address makes no difference to a text
 abbrev pub lent : List ℕ → Bor (List ℕ)
 lent t = record { ref_ptr = (0, 0); now = t }
 

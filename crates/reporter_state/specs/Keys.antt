@@ -1,4 +1,4 @@
--- The keys at which entries are kept, and what a map of them shows.
+-- The keys of kept entries, and what a map of them shows.
 use Rattle.std.specs.Prelude.{◌≡◌, ℕ, ◌<◌, None, List, [], ◌∷◌, map, reverse}
 use Rattle.std.specs.declared.cmp.Ordering.{Ordering}
 use Rattle.std.specs.declared.cmp.Reverse.{Reverse}
@@ -12,7 +12,7 @@ use Rattle.reporter_state.specs.declared.final_output.FinalOutput.{FinalOutput}
 use Rattle.reporter_state.specs.declared.final_output.FinalOutputEntry.{FinalOutputEntry}
 use Rattle.reporter_state.specs.declared.kept_test.KeptTest.{KeptTest}
 
--- how far an entry's level is below all, its test, and how many entries were kept before it
+-- how many levels below all an entry is, its test, and the number of entries kept before it
 pub record Placed : Type 0 where
   pub below : ℕ
   pub test : KeptTest
@@ -33,14 +33,14 @@ placed_total = then_total (on_total placed_key (lists_total nat_list_cmp_total))
 abbrev pub IsPlain : KeptTest → Type 0
 IsPlain t = (t.stress_index ≡ None) × (t.counter ≡ None)
 
--- a map holds its keys greatest first, and at each the output of its entry
+-- a map holds its keys greatest first, each with the output of its entry
 abbrev pub Held : Type 0
 Held = Reverse Placed × FinalOutput
 
 abbrev pub held_cmp : Reverse Placed → Reverse Placed → Ordering
 held_cmp k l = placed_cmp l.0 k.0
 
--- the key of an entry, where `place` entries were kept before
+-- the key of an entry, after `place` other entries
 abbrev pub key_at : FinalOutputEntry → ℕ → Reverse Placed
 key_at e place = record { 0 = record { below = level_key e.output; test = e.test; place = place } }
 
@@ -50,7 +50,7 @@ entry_held p = record { test = p.0.0.test; output = p.1 }
 abbrev pub entries_of : List Held → List FinalOutputEntry
 entries_of ps = map entry_held ps
 
--- it shows them from the last one on
+-- it shows them from the last one to the first
 abbrev pub shown_of : List Held → List FinalOutputEntry
 shown_of ps = reverse (entries_of ps)
 

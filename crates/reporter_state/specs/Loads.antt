@@ -1,4 +1,4 @@
--- Which captured outputs a report shows or a store keeps, judged by results, display settings and levels: no output is looked at.
+-- Which captured outputs a report shows or a store keeps, from results, display settings and levels: no output is looked at.
 use Rattle.std.specs.Prelude.{Bool, false, not, ◌&&◌, ◌||◌, nat_le, Option, None, Some, unwrap_or, if◌then◌else◌}
 use Rattle.std.specs.Option.{option_map_or}
 use Rattle.run_names.specs.Displays.{is_immediate}
@@ -27,17 +27,17 @@ use Rattle.store_text.specs.StoredOutput.{is_switched_on}
 use Rattle.store_text.specs.declared.config.StoreConfig.{StoreConfig}
 use Rattle.reporter_state.specs.declared.decider.OutputLoadDecider.{OutputLoadDecider}
 
--- of a setup script: unless it succeeded
+-- a setup script's, unless it succeeded
 abbrev pub loads_script : ExecutionResultDescription → Bool
 loads_script result = not (is_success result)
 
--- of an attempt that failed where another one follows: where such attempts are told and the setting of failures shows output at
--- once, also where the test could not be started
+-- that of a failed attempt that is retried: if such attempts are shown and the setting for failures shows output
+-- immediately, also if the test could not be started
 abbrev pub loads_attempt : OutputLoadDecider → TestOutputDisplay → Bool
 loads_attempt d failure =
     nat_le (status_rank level.Retry) (status_rank d.status_level) && is_immediate (unwrap_or d.overrides.force_failure_output failure)
 
--- of a finished test: where its setting shows output, at once or at the end of the run, or a store is asked to keep it
+-- that of a finished test: if its setting shows output, immediately or at the end of the run, or a store keeps it
 abbrev pub is_asked_of : Option StoreConfig → Bool → Bool
 is_asked_of None is_success = false
 is_asked_of (Some store) is_success = is_switched_on store is_success
@@ -48,25 +48,25 @@ is_stored_by store case = is_asked_of store (is_success_case case)
 abbrev pub loads_finish : OutputLoadDecider → TestOutputDisplay → TestOutputDisplay → StatusSummary → Bool
 loads_finish d success failure x = is_ever_shown (display_for d.overrides success failure x) || is_stored_by d.store x.case
 
--- of a decided event, wherever its output is held
+-- that of a decided event, wherever its output is held
 abbrev pub loads : {S O : Type 0} → OutputLoadDecider → OutputEventKind S O → Bool
 loads d (decided.SetupScriptFinished stress status) = loads_script status.result
 loads d (decided.TestAttemptFailedWillRetry stress status delay failure) = loads_attempt d failure
 loads d (decided.TestFinished stress success failure statuses stats) = loads_finish d success failure (summary_of statuses)
 
--- the answer of the decider
+-- the decision as the decider returns it
 abbrev pub load_if : Bool → LoadOutput
 load_if b = if b then Load else Skip
 
--- the same of an event of a run that is going on; none of the kinds that are not decided
+-- the decision for a live event; none for kinds that are not decided
 abbrev pub decision : OutputLoadDecider → TestEventKind → Option LoadOutput
 decision d (SetupScriptFinished stress script program args status) = Some (load_if (loads_script status.result))
 decision d (TestAttemptFailedWillRetry stress test status delay failure) = Some (load_if (loads_attempt d failure))
 decision d (TestFinished stress test success failure statuses stats) = Some (load_if (loads_finish d success failure (summary_of statuses)))
 decision d _ = None
 
--- the output that an event needs: that of a decided one if the decider loads it, of a finished test that of the last attempt; and
--- the output of a unit that answers, unless it is that of the attempt before
+-- The output that an event needs: that of a decided event if the decider loads it, for a finished test that of the last attempt; and
+-- the output of a responding unit, unless it is that of the previous attempt.
 abbrev pub answered_output : UnitState → Written → Option Written
 answered_output state output = if has_valid_output state then Some output else None
 
@@ -82,6 +82,6 @@ needed_output d (TestFinished stress test success failure statuses stats) =
 needed_output d (InfoResponse index total response) = needed_answer response
 needed_output d _ = None
 
--- output that is needed was left unread
+-- needed output is not loaded
 abbrev pub lacks_output : OutputLoadDecider → TestEventKind → Bool
 lacks_output d e = option_map_or (λ (output : Written). not (has_loaded_output output)) (needed_output d e) false

@@ -1,4 +1,4 @@
--- The decision about an output by what its event says beside it.
+-- The decision about an output from the metadata of its event.
 use Rattle.std.specs.Prelude.{◌≡◌, Bool, ◌||◌}
 use Rattle.run_model.specs.Statuses.{is_success}
 use Rattle.run_model.specs.declared.output_event.OutputEventKind.{OutputEventKind}
@@ -12,17 +12,17 @@ use Rattle.reporter_state.specs.declared.decider.OutputLoadDecider.{OutputLoadDe
 use Rattle.reporter_state.specs.declared.decider.OutputMetadata.{OutputMetadata}
 use Rattle.reporter_state.specs.declared.decider.OutputMetadata.TheVariants.{SetupScriptFinished, TestAttemptFailedWillRetry, TestFinished}
 
--- of a test whose last attempt ended so: where its setting shows output, at once or at the end of the run, or a store is asked to keep it
+-- for a test with this last result: if its setting shows output, immediately or at the end of the run, or a store keeps it
 abbrev pub loads_last : OutputLoadDecider → TestOutputDisplay → TestOutputDisplay → ExecutionResultDescription → Bool
 loads_last d success failure result = is_ever_shown (display_when d.overrides (is_success result) success failure result) || is_asked_of d.store (is_success result)
 
--- of an event with this metadata
+-- for an event with this metadata
 abbrev pub loads_by_metadata : OutputLoadDecider → OutputMetadata → Bool
 loads_by_metadata d (SetupScriptFinished result) = loads_script result.now
 loads_by_metadata d (TestAttemptFailedWillRetry failure) = loads_attempt d failure
 loads_by_metadata d (TestFinished success failure last) = loads_last d success failure last.now
 
--- an event says this beside its output
+-- this is the event's metadata
 abbrev pub HasMetadata : {S O : Type 0} → OutputEventKind S O → OutputMetadata → Type 0
 HasMetadata (decided.SetupScriptFinished stress status) (SetupScriptFinished result) = status.result ≡ result.now
 HasMetadata (decided.TestAttemptFailedWillRetry stress status delay failure) (TestAttemptFailedWillRetry display) = failure ≡ display

@@ -1,4 +1,4 @@
--- The final order of entries: by their keys, and those of one key as they came.
+-- The final order of entries: by key, and those of one key in their order of arrival.
 use Rattle.std.specs.Prelude.{ℕ, List, [], ◌∷◌, Bool, if◌then◌else◌}
 use Rattle.std.specs.declared.cmp.Ordering.{Ordering}
 use Rattle.std.specs.Ordering.{nat_cmp}
@@ -8,12 +8,12 @@ use Rattle.std.specs.Cmp.Lexicographic.{slice_cmp}
 abbrev pub key_cmp : List (List ℕ) → List (List ℕ) → Ordering
 key_cmp = slice_cmp (slice_cmp nat_cmp)
 
--- an element before the first one that is not less
+-- an element before the first that is not less
 unfoldable pub put_in : {X : Type 0} → (X → X → Bool) → X → List X → List X
 put_in lt e [] = e ∷ []
 put_in lt e (f ∷ fs) = if lt f e then f ∷ put_in lt e fs else e ∷ f ∷ fs
 
--- the one list in order (the law of the final order says that it is one, and that there is no other)
+-- the one list in order (the law of the final order says that it is in order, and that there is no other)
 unfoldable pub ordered_by : {X : Type 0} → (X → X → Bool) → List X → List X
 ordered_by lt [] = []
 ordered_by lt (e ∷ es) = put_in lt e (ordered_by lt es)

@@ -1,4 +1,4 @@
--- Which calls a decider refuses: judged by the call alone, whatever stood before.
+-- Which calls a decider refuses: from the call alone, whatever came before.
 use Rattle.std.specs.Prelude.{◌≡◌, ℕ, List, Bool, false, if◌then◌else◌, Option, None, Some, slice_get}
 use Rattle.std.specs.List.{AllByRecursion, position}
 use Rattle.std.specs.Option.{is_some, option_and_then}
@@ -14,21 +14,21 @@ use Rattle.reporter_state.specs.declared.faults.WriteEventError.{WriteEventError
 use Rattle.reporter_state.specs.declared.faults.WriteEventError.TheVariants.{RetriedSuccess, OutputNotLoaded, Io, Memory, Failed, StoreIo}
 use Rattle.text_parts.specs.declared.settings.Settings.{Settings}
 
--- what decides by settings, and by what a store is asked to keep
+-- the decider for settings, and for what a store keeps
 abbrev pub decider_by : Settings → Option StoreConfig → OutputLoadDecider
 decider_by s store = record { status_level = s.status_levels.status_level; overrides = s.unit_output.overrides; store = store }
 
--- another attempt is said to follow one that succeeded
+-- a successful attempt is followed by another one
 abbrev pub is_retried_success : TestEventKind → Bool
 is_retried_success (TestAttemptFailedWillRetry stress test status delay display) = is_success status.result
 is_retried_success _ = false
 
--- why an event is refused: output that it needs counts also where a reason for cancelling would hide it
+-- why an event is refused: needed output counts also if a cancel reason would hide it
 abbrev pub event_refusal : OutputLoadDecider → TestEventKind → Option WriteEventError
 event_refusal decider e =
     if is_retried_success e then Some RetriedSuccess else (if lacks_output decider e then Some OutputNotLoaded else None)
 
--- the refusal that an error is
+-- the refusal that an error is, if it is one
 abbrev pub refusal_in : WriteEventError → Option WriteEventError
 refusal_in RetriedSuccess = Some RetriedSuccess
 refusal_in OutputNotLoaded = Some OutputNotLoaded
@@ -43,7 +43,7 @@ refusal_by decider (Event e) = event_refusal decider e.kind
 refusal_by decider (Header h) = None
 refusal_by decider (Prefix p) = None
 
--- the same of the call at a place; past the end there is none
+-- why the call at an index is refused; past the end none is
 abbrev pub refusal_at_by : OutputLoadDecider → List ReportCall → ℕ → Option WriteEventError
 refusal_at_by decider calls i = option_and_then (refusal_by decider) (slice_get calls i)
 
@@ -54,6 +54,6 @@ IsAcceptedBy decider call = refusal_by decider call ≡ None
 abbrev pub AreAcceptedBy : OutputLoadDecider → List ReportCall → Type 0
 AreAcceptedBy decider calls = AllByRecursion (IsAcceptedBy decider) calls
 
--- the place of the first call that is refused
+-- the index of the first call that is refused
 abbrev pub first_refused : OutputLoadDecider → List ReportCall → Option ℕ
 first_refused decider calls = position (λ call. is_some (refusal_by decider call)) calls

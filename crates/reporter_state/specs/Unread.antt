@@ -1,4 +1,4 @@
--- A list of calls with the outputs left unread that the decider skips.
+-- A list of calls without the outputs that the decider skips.
 use Rattle.std.specs.Prelude.{Bool, true, false, List, map, Option, None, Some, if◌then◌else◌}
 use Rattle.run_model.specs.Unloaded.{unloaded_event}
 use Rattle.run_model.specs.declared.event.TestEventKind.{TestEventKind}
@@ -9,7 +9,7 @@ use Rattle.run_model.specs.declared.call.ReportCall.{ReportCall}
 use Rattle.run_model.specs.declared.call.ReportCall.TheVariants.{Event, Header, Prefix}
 use Rattle.reporter_state.specs.declared.decider.OutputLoadDecider.{OutputLoadDecider}
 
--- the decider answers so
+-- the decision is to skip
 abbrev pub is_skip : Option LoadOutput → Bool
 is_skip None = false
 is_skip (Some Load) = false
@@ -19,7 +19,7 @@ is_skip (Some Skip) = true
 abbrev pub is_skipped : OutputLoadDecider → TestEventKind → Bool
 is_skipped d e = is_skip (decision d e)
 
--- a call whose output, of every attempt, is left unread if the decider skips it
+-- a call, with the output of every attempt unloaded if the decider skips it
 abbrev pub unread_call : OutputLoadDecider → ReportCall → ReportCall
 unread_call d (Event e) = if is_skipped d e.kind then Event (unloaded_event e) else Event e
 unread_call d (Header h) = Header h

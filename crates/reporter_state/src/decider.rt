@@ -1,4 +1,4 @@
-//! What a reporter decides of an event by its metadata alone.
+//! What a reporter decides about an event from its metadata alone.
 
 ghost use Rattle.run_model.specs.declared.output.RecordedOutput.{RecordedOutput};
 ghost use Rattle.run_model.specs.declared.output.RecordingSpec.{RecordingSpec};
@@ -27,9 +27,9 @@ use store_text::config::StoreConfig;
 use text_parts::settings::Settings;
 use unit_report::unit_output::OutputDisplayOverrides;
 
-/// Decides by an event's metadata what a reporter of one configuration does with it: no call before it matters.
+/// Decides from an event's metadata what a reporter of one configuration does with it, independent of the calls before.
 ///
-/// A replay asks it before it loads what was recorded. A reporter has one, and so has a builder
+/// A replay asks it before it loads recorded output. A reporter has one, and so has a builder
 /// before there is a reporter.
 #[derive(Clone, Copy, Debug)]
 pub struct OutputLoadDecider {
@@ -38,32 +38,32 @@ pub struct OutputLoadDecider {
     store: Option<StoreConfig>,
 }
 
-/// What an event that may have captured output says of it beside the output itself.
+/// The metadata of an event that may have captured output.
 #[derive(Clone, Copy)]
 pub enum OutputMetadata<'a> {
     /// A setup script has finished.
     SetupScriptFinished {
-        /// How it ended.
+        /// Its result.
         result: &'a ExecutionResultDescription,
     },
     /// An attempt of a test has failed, and another one follows.
     TestAttemptFailedWillRetry {
-        /// When the output of a failure is to be shown.
+        /// When the output of a failure should be shown.
         failure_output: TestOutputDisplay,
     },
     /// A test has finished.
     TestFinished {
-        /// When its output is to be shown if it succeeded.
+        /// When its output should be shown if it succeeded.
         success_output: TestOutputDisplay,
-        /// When its output is to be shown if it failed.
+        /// When its output should be shown if it failed.
         failure_output: TestOutputDisplay,
-        /// How its last attempt ended.
+        /// The result of its last attempt.
         last_result: &'a ExecutionResultDescription,
     },
 }
 
 impl OutputLoadDecider {
-    /// What decides at this status level by these overrides, and by what a store is asked to keep.
+    /// A decider for this status level, these overrides, and what a store keeps.
     pub fn new(
         status_level: StatusLevel,
         overrides: OutputDisplayOverrides,
@@ -78,7 +78,7 @@ impl OutputLoadDecider {
         }
     }
 
-    /// What decides by these settings, and by what a store is asked to keep.
+    /// A decider for these settings, and what a store keeps.
     pub fn of_settings(settings: &Settings, store: Option<StoreConfig>) -> OutputLoadDecider
         ensures { result ≡ decider_by settings.now store }
     {
@@ -86,10 +86,10 @@ impl OutputLoadDecider {
         OutputLoadDecider::new(settings.status_levels.status_level, overrides, store)
     }
 
-    /// Whether a replay has to load the captured output of a recorded event: where a report shows it, at once or at the end of
-    /// the run, unless a reason for cancelling hides it, or where a store is asked to keep it. It allocates nothing.
+    /// Whether a replay has to load the captured output of a recorded event: a report shows it, immediately or at the end of
+    /// the run, unless a cancel reason hides it, or a store keeps it. It allocates nothing.
     ///
-    /// An event of a run that is going on has the answer of its recorded form.
+    /// A live event has the same decision as its recorded form.
     ///
     /// ```
     /// if let Some(recorded) = event.recorded(alloc)? {
@@ -116,8 +116,8 @@ impl OutputLoadDecider {
         })
     }
 
-    /// Whether the captured output of an event with this metadata has to be loaded: what `should_load_output` returns of such an event,
-    /// which need not be there. It allocates nothing.
+    /// Whether the captured output of an event with this metadata has to be loaded: what `should_load_output` returns for such an event,
+    /// without the event. It allocates nothing.
     ///
     /// ```
     /// let failed = ExecutionResultDescription::ExecFail;
@@ -142,7 +142,7 @@ impl OutputLoadDecider {
         })
     }
 
-    // The decision for a live event; `None` for kinds without captured output.
+    // `None` for kinds without captured output.
     fn decision(&self, kind: &TestEventKind<'_>) -> Option<LoadOutput>
         ensures { result ≡ decision self.now kind.now }
     {
@@ -163,7 +163,6 @@ impl OutputLoadDecider {
         }))
     }
 
-    // Whether the output of an attempt that failed where another one follows is shown.
     fn loads_attempt(&self, failure_output: TestOutputDisplay) -> bool
         ensures { result ≡ loads_attempt self.now failure_output }
     {
@@ -171,7 +170,7 @@ impl OutputLoadDecider {
             && self.overrides.failure_output(failure_output).is_immediate()
     }
 
-    // Whether the output of a finished test is shown, at once or at the end of the run, or is kept.
+    // Whether the output of a finished test is shown, immediately or at the end of the run, or stored.
     fn loads_finish<S: OutputSpec>(
         &self,
         success_output: TestOutputDisplay,
@@ -189,7 +188,6 @@ impl OutputLoadDecider {
             || self.stores_output(describe.is_success_for_output())
     }
 
-    // The same by how its last attempt ended.
     fn loads_last(
         &self,
         success_output: TestOutputDisplay,
@@ -205,7 +203,6 @@ impl OutputLoadDecider {
         display.is_immediate() || display.is_final() || self.stores_output(is_success)
     }
 
-    // Whether a store is asked to keep the output of such a test.
     fn stores_output(&self, is_success: bool) -> bool
         ensures { result ≡ is_asked_of self.now.store is_success }
     {
@@ -215,7 +212,6 @@ impl OutputLoadDecider {
         }
     }
 
-    // The output that the event needs.
     fn needed_output<'e>(
         &self,
         kind: &'e TestEventKind<'_>,
@@ -246,7 +242,6 @@ impl OutputLoadDecider {
         }
     }
 
-    // Whether output that the event needs was left unread.
     fn lacks_output(&self, kind: &TestEventKind<'_>) -> bool
         ensures { result ≡ lacks_output self.now kind.now }
     {
@@ -271,7 +266,7 @@ impl OutputLoadDecider {
         }
     }
 
-    /// Why a reporter of the decider's configuration refuses a call, `RetriedSuccess` or `OutputNotLoaded`, or None where it accepts it.
+    /// Why a reporter of this configuration refuses a call, `RetriedSuccess` or `OutputNotLoaded`, or `None` if it accepts it.
     /// It allocates nothing.
     ///
     /// ```
@@ -290,7 +285,7 @@ impl OutputLoadDecider {
         }
     }
 
-    /// Leaves the output of a call unread if it is not needed.
+    /// Unloads the output of a call if it is not needed.
     pub fn unload(&self, call: &mut ReportCall<'_>)
         ensures { call.new ≡ unread_call self.now call.old }
     {
@@ -302,7 +297,7 @@ impl OutputLoadDecider {
     }
 }
 
-/// The place of the first call that a reporter of the decider's configuration refuses, or None where it accepts each.
+/// The index of the first call that a reporter of this configuration refuses, or `None` if it accepts all.
 /// [`OutputLoadDecider::refusal`] says why. It allocates nothing.
 ///
 /// ```
@@ -316,7 +311,6 @@ pub fn first_refused(decider: &OutputLoadDecider, calls: &[ReportCall<'_>]) -> O
         .position(|call| decider.refusal(call).is_some())
 }
 
-// What the decider answers.
 fn load_if(is_shown: bool) -> LoadOutput
     ensures { result ≡ load_if is_shown }
 {
@@ -327,14 +321,12 @@ fn load_if(is_shown: bool) -> LoadOutput
     }
 }
 
-// Whether the output of a setup script that ended so is shown.
 fn loads_script(outcome: &ExecutionResultDescription) -> bool
     ensures { result ≡ loads_script outcome.now }
 {
     !outcome.is_success()
 }
 
-// The output that the answer of a unit needs.
 fn needed_answer<'e>(
     response: &'e InfoResponse<'_>,
 ) -> Option<&'e ChildExecutionOutputDescription<LiveSpec>>
@@ -347,7 +339,7 @@ fn needed_answer<'e>(
     state.has_valid_output().then_some(output)
 }
 
-// Whether another attempt is said to follow one that succeeded.
+// A failed attempt is followed by another one, so a success with one to follow is an error.
 fn is_retried_success(event: &TestEventKind<'_>) -> bool
     ensures { result ≡ is_retried_success event.now }
 {

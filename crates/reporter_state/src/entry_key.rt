@@ -1,4 +1,4 @@
-//! The keys at which the entries of the summary are kept.
+//! The keys of summary entries.
 
 ghost use Rattle.std.specs.Prelude.{◌≡◌, refl, Some, IfOk};
 ghost use Rattle.std.specs.Ordering.{as_partial_cmp, eq_by_cmp, nat_cmp};
@@ -18,21 +18,21 @@ use std::alloc::Global;
 use std::cmp::Ordering;
 use std::marker::Model;
 
-/// The key of an entry. It is ordered by the entry's final level, the greatest first, then by the iteration, then by the counter where one
-/// is shown, then by the bytes of the binary's id and of the test's name, and then by how many entries were kept before.
+/// The key of an entry. It is ordered by the entry's final level, the greatest first, then by the iteration, then by the counter if one
+/// is shown, then by the bytes of the binary's id and of the test's name, and then by the number of entries kept before.
 #[derive(Drop)]
 pub struct EntryKey {
-    // They stand apart, so that a move is cheap.
+    // Boxed, so that a move is cheap.
     parts: Boxed<KeyParts>,
 }
 
 #[derive(Drop)]
 struct KeyParts {
-    // How far the level is below all. Most entries that are compared are of one level.
+    // How many levels below all. Most entries that are compared have the same level.
     below: u8,
-    // Whether the test has neither an iteration nor a counter, as most have.
+    // Whether the test has neither an iteration nor a counter, like most.
     is_plain: bool,
-    // How many entries were kept before, so that no two are equal.
+    // The number of entries kept before, so that no two keys are equal.
     place: usize,
     test: KeptTest,
 }
@@ -57,7 +57,7 @@ impl Model for EntryKey {
 }
 
 impl EntryKey {
-    /// The key of a test of which this is shown, where `place` entries were kept before. It allocates for the test.
+    /// The key of a test with this output, after `place` other entries. It allocates for the test.
     pub fn new(
         alloc: Global,
         test: KeptTest,
@@ -124,7 +124,7 @@ impl Ord for EntryKey {
     }
 }
 
-// Compares as the final order does, which does not look at places.
+// Compares as the final order does, which ignores places.
 fn compare_order(left: &KeyParts, right: &KeyParts) -> Ordering
     ensures { result ≡ key_cmp (placed_key left.now) (placed_key right.now) }
 {
@@ -137,7 +137,6 @@ fn compare_order(left: &KeyParts, right: &KeyParts) -> Ordering
     compare_tests(&left.test, &right.test)
 }
 
-// Compares the iterations, then the counters, then the bytes of the binaries' ids and of the tests' names.
 fn compare_tests(left: &KeptTest, right: &KeptTest) -> Ordering
     ensures { result ≡ key_cmp (test_key left.now) (test_key right.now) }
 {
@@ -146,7 +145,7 @@ fn compare_tests(left: &KeptTest, right: &KeptTest) -> Ordering
         .then_with(|| left.instance.compare(&right.instance))
 }
 
-// Compares iterations: none first.
+// None comes first.
 fn compare_iterations(left: Option<StressIndex>, right: Option<StressIndex>) -> Ordering
     ensures { result ≡ slice_cmp nat_cmp (iteration_key left) (iteration_key right) }
 {
@@ -158,7 +157,7 @@ fn compare_iterations(left: Option<StressIndex>, right: Option<StressIndex>) -> 
     }
 }
 
-// Compares counters: none first, then by their numbers, then padding.
+// None comes first, then numbers, then padding.
 fn compare_counters(
     left: Option<DisplayCounterIndex>,
     right: Option<DisplayCounterIndex>,

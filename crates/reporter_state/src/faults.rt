@@ -2,9 +2,9 @@
 
 use thiserror::Error;
 
-/// Why a call of a reporter failed. What went out before is a beginning of the report.
+/// Why a call of a reporter failed. The output so far is a prefix of the report.
 ///
-/// A call that is refused leaves reporter and writer as they were, and the reporter goes on; after a fault of the writer or
+/// A call that is refused leaves reporter and writer unchanged, and the reporter goes on. After a fault of the writer or
 /// of memory it has failed.
 ///
 /// ```
@@ -15,22 +15,22 @@ use thiserror::Error;
 /// ```
 #[derive(Clone, Copy, Debug, PartialEq, Eq, Error)]
 pub enum WriteEventError {
-    /// The event is refused: another attempt is said to follow one that succeeded. Nothing was written.
+    /// The event is refused: a successful attempt is followed by another one. Nothing was written.
     #[error("a retried attempt succeeded")]
     RetriedSuccess,
-    /// The event is refused: output that it needs was left unread. Nothing was written.
+    /// The event is refused: output that it needs is not loaded. Nothing was written.
     #[error("output not loaded")]
     OutputNotLoaded,
-    /// The writer's device failed in this call. A beginning of the call's text was accepted.
+    /// The writer's device failed in this call. A prefix of the call's text was accepted.
     #[error("the report could not be written")]
     Io,
-    /// Memory was refused in this call. A beginning of the call's text was accepted.
+    /// Memory was refused in this call. A prefix of the call's text was accepted.
     #[error("out of memory")]
     Memory,
-    /// The store's device failed in this call. The call's whole text was accepted, and a beginning of its record.
+    /// The store's device failed in this call. The call's whole text was accepted, and a prefix of its record.
     #[error("the store could not be written")]
     StoreIo,
-    /// An earlier call failed by its device or for want of memory. Nothing was written.
+    /// An earlier call failed by its device or for lack of memory. Nothing was written.
     #[error("the report has failed before")]
     Failed,
 }
@@ -47,7 +47,7 @@ pub enum WriteEventError {
 #[derive(Clone, Copy, Debug, PartialEq, Eq, Error)]
 #[error("call {position}: {fault}")]
 pub struct RunFault {
-    /// The place of the call from 0, or the number of calls where the end of the report failed.
+    /// The index of the call, or the number of calls if the end of the report failed.
     pub position: usize,
     /// Why it stopped.
     pub fault: WriteEventError,

@@ -1,4 +1,4 @@
-//! What is kept of a test for the summary.
+//! What the summary keeps of a test.
 
 ghost use Rattle.std.specs.Prelude.{◌≡◌, IfOk, IsOk, false};
 ghost use Rattle.run_model.specs.Statuses.{is_aborted};
@@ -29,24 +29,24 @@ pub struct FinalOutputEntry {
 /// What the summary shows of a test.
 #[derive(Debug, Drop)]
 pub enum FinalOutput {
-    /// It was run, and its line is shown alone.
+    /// It ran, and only its line is shown.
     Executed {
-        /// What its attempts came to.
+        /// The outcome of its attempts.
         summary: StatusSummary,
     },
-    /// It was run, and its line is shown with what its last attempt wrote.
+    /// It ran, and its line is shown with the output of its last attempt.
     ExecutedWithOutput {
-        /// What its attempts came to.
+        /// The outcome of its attempts.
         summary: StatusSummary,
-        /// What its last attempt wrote.
+        /// The output of its last attempt.
         output: LoadedOutput,
     },
-    /// It was not to run, and its line is shown.
+    /// It was skipped, and its line is shown.
     Skipped,
 }
 
 impl FinalOutput {
-    /// The level from which on the summary lists the test.
+    /// The level from which the summary lists the test.
     pub fn final_status_level(&self) -> FinalStatusLevel
         ensures { result ≡ final_level_of_output self.now }
     {
@@ -57,7 +57,6 @@ impl FinalOutput {
         }
     }
 
-    // What the summary shows of a finished test.
     #[tactic(auto, unfolding(crate::specs::Effects::final_output))]
     fn of_test(
         alloc: Global,
@@ -83,7 +82,7 @@ impl FinalOutput {
 
 impl FinalOutputEntry {
     /// What the summary shows of a finished test. It allocates for the test's names and the texts of the last attempt; the bytes of
-    /// its output are shared. Output that is shown must not have been left unread.
+    /// its output are shared. Output that is shown must be loaded.
     pub fn of_test(
         alloc: Global,
         ids: &mut BinaryIds,

@@ -1,4 +1,4 @@
-//! A finished test with the attempts that it is made of.
+//! A finished test with its attempts.
 
 ghost use Rattle.std.specs.Prelude.{◌≡◌};
 ghost use Rattle.run_model.specs.Statuses.{described_summary, summary_of};
@@ -18,7 +18,7 @@ pub struct FinishedAttempts<'e, 'a> {
 }
 
 impl<'e, 'a> FinishedAttempts<'e, 'a> {
-    /// The test, which came to what these attempts come to.
+    /// The test, whose outcome is that of these attempts.
     #[inline(always)]
     pub fn new(
         finished: FinishedTest<'e, 'a>,

@@ -1,4 +1,4 @@
-//! What is kept for the summary, and how it is listed.
+//! The entries of a summary, and their order.
 
 ghost use Rattle.std.specs.Prelude.{◌≡◌, List, [], ◌∷◌, ◌++◌, OnOk, OnErr};
 ghost use Rattle.plain_text.specs.Writer.{Puts};
@@ -27,10 +27,10 @@ use test_text::test_skipped::write_skip_line;
 use text_parts::attempt_output::write_test_execute_status;
 use text_parts::settings::Settings;
 
-/// The entries that a summary lists. Contracts see them as the list in which it shows them.
+/// The entries of a summary. Contracts see them in the order in which they are listed.
 #[derive(Drop)]
 pub struct KeptEntries {
-    // Greatest first: a search of a map looks at the first keys first, and most runs keep entries in their order.
+    // Greatest first: a search of the map compares with the first keys first, and most runs keep entries in order.
     by_key: BTreeMap<Reverse<EntryKey>, KeptOutput>,
 }
 
@@ -58,7 +58,7 @@ impl KeptEntries {
         }
     }
 
-    /// Keeps an entry: in the final order it comes after those of its key that were kept before.
+    /// Keeps an entry: in the final order it comes after earlier ones with the same key.
     pub fn keep(&mut self, alloc: Global, entry: FinalOutputEntry) -> Result<(), OutOfMemory>
         ensures ok { OnOk result ((kept : List FinalOutputEntry) → self.old ≡ final_order kept → self.new ≡ final_order (kept ++ entry ∷ [])) }
         ensures err { OnErr result (self.new ≡ self.old) }
@@ -81,15 +81,14 @@ impl KeptEntries {
     }
 }
 
-/// Whatever was kept, it has exactly one final order: by key, and entries of one key as they were kept.
+/// The kept entries have exactly one final order: by key, and entries of one key in the order in which they were kept.
 ///
-/// A summary is defined by that list, so however a reporter orders what it keeps, there is one text that is right.
+/// A summary is defined by that list, so there is one right text however a reporter sorts its entries.
 pub fn one_final_order()
     ensures exists { (kept : List FinalOutputEntry) → IsFinalOrder kept (final_order kept) }
     ensures only { (kept order : List FinalOutputEntry) → IsFinalOrder kept order → order ≡ final_order kept }
 {}
 
-// Writes an entry.
 #[tactic(auto, unfolding(crate::specs::Entries::final_text), using(crate::proofs::lemmas::KeptTests::skip_of_kept))]
 fn write_kept<W: WriteStr>(
     w: &mut W,
@@ -138,7 +137,6 @@ fn write_kept<W: WriteStr>(
     }
 }
 
-// Writes what is shown of a test: its line, and what the last attempt wrote where that is kept; or that the test was skipped.
 #[tactic(auto, unfolding(crate::specs::Entries::final_text), using(crate::proofs::lemmas::KeptTests::skip_of_kept))]
 fn write_entry<W: WriteStr>(
     w: &mut W,
@@ -157,7 +155,6 @@ fn write_entry<W: WriteStr>(
     }
 }
 
-// Writes the line of a test that was run, and what its last attempt wrote.
 #[tactic(auto, unfolding(crate::specs::Entries::final_text))]
 fn write_line_with_output<W: WriteStr>(
     w: &mut W,
@@ -172,7 +169,6 @@ fn write_line_with_output<W: WriteStr>(
     write_test_execute_status(w, settings, false, &summary.result, output.get())
 }
 
-// Writes the line of a test that was run.
 #[tactic(auto, using(crate::proofs::lemmas::KeptTests::line_of_kept))]
 fn write_line<W: WriteStr>(
     w: &mut W,

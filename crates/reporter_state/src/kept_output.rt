@@ -1,4 +1,4 @@
-//! A short form of what the summary shows of a test: an ordered map moves its values, and most lines take few bytes.
+//! A short form of what the summary shows of a test: an ordered map moves its values, and most lines fit in few bytes.
 
 ghost use Rattle.std.specs.Prelude.{◌≡◌, IfOk, IfSome};
 ghost use Rattle.reporter_state.specs.KeptOutputs.{ended_by, final_output_of, summary_of_line};
@@ -21,12 +21,12 @@ pub struct KeptOutput {
     pub form: OutputForm,
 }
 
-/// The forms. A line has the fields of a `ShortSummary`: within a form they take fewer bytes than that does.
+/// The forms. `Line` repeats the fields of a `ShortSummary`: in a variant they take fewer bytes than that struct does.
 #[derive(Drop)]
 pub enum OutputForm {
-    /// The test was not to run.
+    /// The test was skipped.
     Skipped,
-    /// It was run, and its line is shown alone.
+    /// It ran, and only its line is shown.
     Line {
         case: StatusCase,
         is_slow: bool,
@@ -34,7 +34,7 @@ pub enum OutputForm {
         retry_data: RetryData,
         nanos: u64,
     },
-    /// Its line is shown with what its last attempt wrote.
+    /// Its line is shown with the output of its last attempt.
     LineWithOutput {
         case: StatusCase,
         is_slow: bool,
@@ -43,22 +43,22 @@ pub enum OutputForm {
         nanos: u64,
         output: LoadedOutput,
     },
-    /// Its line takes more bytes.
+    /// Its line needs more bytes.
     Whole(Boxed<FinalOutput>),
 }
 
-/// What the attempts of a test came to, where the last one passed or its process ended with a code.
+/// The outcome of a test whose last attempt passed or exited with a code.
 #[derive(Clone, Copy)]
 pub struct ShortSummary {
-    /// How many nanoseconds the last attempt ran.
+    /// How long the last attempt ran, in nanoseconds.
     pub nanos: u64,
-    /// Which one it was.
+    /// Which attempt it was.
     pub retry_data: RetryData,
-    /// The code with which its process ended, or 0 where it passed.
+    /// The exit code of its process, or 0 if it passed.
     pub exit_code: i32,
-    /// What the attempts came to.
+    /// The outcome of the attempts.
     pub case: StatusCase,
-    /// Whether the last one was marked as slow.
+    /// Whether the last attempt was marked as slow.
     pub is_slow: bool,
 }
 
@@ -72,7 +72,7 @@ impl Model for KeptOutput {
 }
 
 impl KeptOutput {
-    /// The short form of what is shown. It allocates where there is none.
+    /// The short form of what is shown. It allocates if there is none.
     pub fn new(alloc: Global, output: FinalOutput) -> Result<KeptOutput, OutOfMemory>
         ensures { IfOk result (λ k. k ≡ output) }
     {
@@ -87,7 +87,6 @@ impl KeptOutput {
     }
 }
 
-// A line that is shown alone.
 fn line_alone(alloc: Global, summary: StatusSummary) -> Result<OutputForm, OutOfMemory>
     ensures { IfOk result (λ form. final_output_of form ≡ Executed summary) }
 {
@@ -103,7 +102,6 @@ fn line_alone(alloc: Global, summary: StatusSummary) -> Result<OutputForm, OutOf
     }
 }
 
-// A line that is shown with output.
 fn line_with_output(
     alloc: Global,
     summary: StatusSummary,
@@ -128,7 +126,7 @@ fn line_with_output(
 }
 
 impl ShortSummary {
-    // The short form of what the attempts came to, where there is one.
+    // None if the last result has no short form.
     fn of(summary: &StatusSummary) -> Option<ShortSummary>
         ensures { IfSome result (λ line. summary_of_line line ≡ summary.now) }
     {
@@ -143,7 +141,7 @@ impl ShortSummary {
         })
     }
 
-    /// What the attempts came to.
+    /// The outcome of the attempts.
     pub fn summary(&self) -> StatusSummary
         ensures { result ≡ summary_of_line self.now }
     {
@@ -157,7 +155,6 @@ impl ShortSummary {
     }
 }
 
-// How an attempt ended, by the code of its process, or 0 where it passed.
 fn ended_by(exit_code: i32) -> ExecutionResultDescription
     ensures { result ≡ ended_by exit_code }
 {
@@ -170,7 +167,6 @@ fn ended_by(exit_code: i32) -> ExecutionResultDescription
     }
 }
 
-// The code that tells how an attempt ended, where there is one.
 fn exit_code_of(outcome: &ExecutionResultDescription) -> Option<i32>
     ensures { IfSome result (λ code. ended_by code ≡ outcome.now) }
 {

@@ -1,4 +1,4 @@
-//! A test that is kept: it has names of its own, so that the event that named it need not last.
+//! A kept test: it has its own names, so that the event that named it need not live on.
 
 ghost use Rattle.std.specs.Prelude.{◌≡◌, IfOk};
 ghost use Rattle.reporter_state.specs.Entries.{instance_key};
@@ -15,12 +15,12 @@ use std::cmp::Ordering;
 use std::marker::Model;
 use text_parts::instance::CountedInstance;
 
-/// A test as its lines name it, with names of its own.
+/// A test as its lines name it, with its own names.
 #[derive(Drop)]
 pub struct KeptTest {
     /// Which iteration of a stress run it belongs to.
     pub stress_index: Option<StressIndex>,
-    /// Its counter, where counters are shown.
+    /// Its counter, if counters are shown.
     pub counter: Option<DisplayCounterIndex>,
     /// The test.
     pub instance: KeptInstance,
@@ -42,7 +42,7 @@ impl Model for KeptInstance {
 }
 
 impl KeptTest {
-    /// Copies the test's name, and its binary's id if it is a new one.
+    /// Copies the test's name, and its binary's id if that is new.
     pub fn copy_of(
         alloc: Global,
         ids: &mut BinaryIds,
@@ -64,7 +64,7 @@ impl KeptTest {
         })
     }
 
-    /// The test, its names borrowed.
+    /// The test, with borrowed names.
     pub fn as_counted(&self) -> CountedInstance<'_>
         ensures { kept_test result ≡ self.now }
     {

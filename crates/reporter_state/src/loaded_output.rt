@@ -1,4 +1,4 @@
-//! Output that was not left unread.
+//! Output that is loaded.
 
 ghost use Rattle.std.specs.Prelude.{◌≡◌, IfOk, true};
 ghost use Rattle.run_model.specs.Outputs.{has_loaded_output};
@@ -9,7 +9,7 @@ use run_model::output::{ChildExecutionOutputDescription, LiveSpec};
 use std::alloc::Global;
 use std::marker::Model;
 
-/// Output that was loaded: an entry that shows output holds no other. Contracts see the output.
+/// Output that is loaded: an entry that shows output holds no other. Contracts see the output.
 #[derive(Debug, Drop)]
 pub struct LoadedOutput {
     output: Boxed<ChildExecutionOutputDescription<LiveSpec>>,
@@ -28,7 +28,7 @@ impl Model for LoadedOutput {
 }
 
 impl LoadedOutput {
-    /// Copies output that was loaded: it allocates for the texts and shares the captured bytes.
+    /// Copies loaded output: it allocates for the texts and shares the captured bytes.
     pub fn copy_of(
         alloc: Global,
         output: &ChildExecutionOutputDescription<LiveSpec>,

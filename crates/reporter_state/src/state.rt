@@ -1,4 +1,4 @@
-//! What a reporter knows of the calls before, and what an event makes of that.
+//! What a reporter knows of the calls before, and how an event changes it.
 
 ghost use Rattle.std.specs.Prelude.{◌≡◌, ◌++◌, ◌∷◌, List, [], OnOk, OnErr, None, max, true, false};
 ghost use Rattle.std.specs.Option.{is_some, option_to_list};
@@ -27,22 +27,22 @@ use text_parts::settings::Settings;
 pub struct ReporterState {
     /// Where memory comes from.
     pub alloc: Global,
-    /// What is kept for the summary.
+    /// The entries for the summary.
     pub kept: KeptEntries,
-    /// The ids of binaries that kept tests share.
+    /// The binary ids that kept tests share.
     pub ids: BinaryIds,
-    /// The unique prefix of the run's id that was given last.
+    /// The last unique prefix of the run's id.
     pub unique_prefix: Option<ShortestRunIdPrefix>,
-    /// The greatest reason that the run was cancelled for.
+    /// The greatest reason for which the run was cancelled.
     pub cancel_status: Option<CancelReason>,
-    /// What the reporter goes by.
+    /// The reporter's settings.
     pub settings: Settings,
-    /// Whether a call failed by its device or for want of memory.
+    /// Whether a call failed by its device or for lack of memory.
     pub has_failed: bool,
 }
 
 impl ReporterState {
-    /// What a reporter that goes by these settings knows before its first call.
+    /// The state of a reporter with these settings before its first call.
     pub fn new(alloc: Global, settings: Settings) -> ReporterState
         ensures settings { result.settings ≡ settings }
         ensures prefix { result.unique_prefix ≡ None }
@@ -61,8 +61,8 @@ impl ReporterState {
         }
     }
 
-    /// Does what an event does beside its text: it may cancel the run, and end a test. A test that it finishes is handed on with it, whose
-    /// output was not left unread where it is shown.
+    /// Applies an event: it may cancel the run, and it may end a test. A test that it finishes is passed with it, with its output loaded
+    /// if that is shown.
     #[inline(always)]
     pub fn apply(
         &mut self,
@@ -102,7 +102,6 @@ impl ReporterState {
         }
     }
 
-    // Keeps a finished test where the summary lists it.
     #[inline(always)]
     fn keep_finished(&mut self, attempts: &FinishedAttempts<'_, '_>) -> Result<(), OutOfMemory>
         requires { HasShownOutput (finish_of attempts.now.finished) }
@@ -124,7 +123,7 @@ impl ReporterState {
         self.keep_listed(attempts)
     }
 
-    // Keeps a finished test that the summary lists. Not inlined: the compiler zeroes all locals of a function at its entry, and most tests are
+    // Not inlined: the compiler zeroes all locals of a function at its entry, and most tests are
     // not listed.
     #[inline(never)]
     fn keep_listed(&mut self, attempts: &FinishedAttempts<'_, '_>) -> Result<(), OutOfMemory>
@@ -141,7 +140,6 @@ impl ReporterState {
         Ok(())
     }
 
-    // Keeps a skipped test where the summary lists it.
     fn keep_skipped(&mut self, test: CountedInstance<'_>) -> Result<(), OutOfMemory>
         ensures settings { self.new.settings ≡ self.old.settings }
         ensures prefix { self.new.unique_prefix ≡ self.old.unique_prefix }
@@ -161,7 +159,6 @@ impl ReporterState {
     }
 }
 
-// The greater of two reasons, where there is one.
 fn greater_reason(old: Option<CancelReason>, new: Option<CancelReason>) -> Option<CancelReason>
     ensures { reason_rank result ≡ max (reason_rank new) (reason_rank old) }
 {

@@ -39,16 +39,16 @@ only_attempt = record { attempt = 1; total_attempts = 1 }
 abbrev pub silent_output : ChildOutputDescription
 silent_output = Split (Some []) (Some [])
 
--- a process that ended so, whose streams were captured and are empty
+-- a process that ended with this result, whose streams were captured and are empty
 abbrev pub silent_execution : ExecutionResultDescription → ChildExecutionOutputDescription LiveSpec ChildOutputDescription
 silent_execution outcome = Output (Some outcome) silent_output None None
 
--- the same where the process wrote this; one that could not be started wrote nothing
+-- the execution with this output; one that could not be started wrote nothing
 abbrev pub execution_with_output : ChildExecutionOutputDescription LiveSpec ChildOutputDescription → ChildOutputDescription → ChildExecutionOutputDescription LiveSpec ChildOutputDescription
 execution_with_output (Output result output errors highlight) captured = Output result captured errors highlight
 execution_with_output (StartError chain) captured = StartError chain
 
--- the only attempt of a test, which ended so after this time, was not slow and wrote nothing
+-- the only attempt of a test, which ended with this result after this time, was not slow and wrote nothing
 abbrev pub silent_attempt : ExecutionResultDescription → Nanos → ExecuteStatus LiveSpec ChildOutputDescription
 silent_attempt outcome time = record {
   time_taken = time;

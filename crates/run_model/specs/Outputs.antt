@@ -17,14 +17,14 @@ pub record Part : Type 0 where
   pub start : ℕ
   pub bytes : List ℕ
 
--- what the reference points to
+-- its start, and the bytes that it points to
 abbrev pub subslice_value : Option ByteSubslice → Option Part
 subslice_value o = option_map (λ (s : ByteSubslice). record { start = s.start; bytes = s.slice.now }) o
 
 abbrev pub highlighted_part : Highlight → Part
 highlighted_part h = record { start = h.start; bytes = h.slice }
 
--- the part, where the highlight stands in the stream
+-- the part, if the highlight is in the stream
 abbrev pub stdout_in : HighlightStream → Highlight → Option Part
 stdout_in Stdout h = Some (highlighted_part h)
 stdout_in Stderr h = None

@@ -1,4 +1,4 @@
--- Decided events as a record has them: the same metadata, and in the place of captured output the names of its members.
+-- Decided events as a record has them: the same metadata, and the names of archive members in place of output.
 use Rattle.std.specs.Prelude.{ℕ, List, [], map, Option, None, Some}
 use Rattle.std.specs.Option.{option_map}
 use Rattle.run_model.specs.Attempts.{Attempts}
@@ -17,7 +17,7 @@ use Rattle.run_model.specs.declared.output_event.OutputEventKind.TheVariants as 
 use Rattle.run_model.specs.declared.status.ExecuteStatus.{ExecuteStatus}
 use Rattle.run_model.specs.declared.status.SetupScriptExecuteStatus.{SetupScriptExecuteStatus}
 
--- the name of the member of a stream, where it was captured: it is empty
+-- the member name of a stream that was captured: it is empty
 abbrev pub recorded_member : Option (List ℕ) → Option (List ℕ)
 recorded_member stream = option_map (λ (bytes : List ℕ). []) stream
 

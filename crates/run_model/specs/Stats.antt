@@ -1,4 +1,4 @@
--- What the statistics of a run come to.
+-- The outcome that statistics lead to.
 use Rattle.std.specs.Prelude.{ℕ, ◌-◌, Bool, Option, None, Some, ◌||◌, ◌==◌, nat_lt, if◌then◌else◌}
 use Rattle.run_names.specs.declared.level.CancelReason.{CancelReason}
 use Rattle.run_model.specs.declared.stats.RunStats.{RunStats}
@@ -12,7 +12,7 @@ use Rattle.run_model.specs.declared.stats.StressFinalRunStats.{StressFinalRunSta
 use Rattle.run_model.specs.declared.stats.StressFinalRunStats.TheVariants as stress
 use Rattle.run_model.specs.declared.stats.StressRunStats.{StressRunStats}
 
--- so many tests are to run, and nothing has happened
+-- this many tests are planned, and nothing has happened
 abbrev pub planned_stats : ℕ → RunStats
 planned_stats n = record {
   initial_run_count = n;
@@ -37,11 +37,11 @@ abbrev pub has_setup_failures : RunStats → Bool
 has_setup_failures s =
     nat_lt 0 s.setup_scripts_failed || (nat_lt 0 s.setup_scripts_exec_failed || nat_lt 0 s.setup_scripts_timed_out)
 
--- the same of a test or a setup script
+-- a test or a setup script failed, could not be started or timed out
 abbrev pub has_failures : RunStats → Bool
 has_failures s = nat_lt 0 s.failed || (nat_lt 0 s.exec_failed || (nat_lt 0 s.timed_out || has_setup_failures s))
 
--- whether a setup script stands behind a failure, else how many tests did not run
+-- whether a setup script failed, else how many tests did not run
 abbrev pub failure_kind : RunStats → RunStatsFailureKind
 failure_kind s =
     if has_setup_failures s then SetupScript
@@ -58,11 +58,11 @@ abbrev pub stats_under : Option CancelReason → RunStats → FinalRunStats
 stats_under None s = uncancelled_stats_of s
 stats_under (Some reason) s = Cancelled (Some reason) (failure_kind s)
 
--- what the run came to: a reason stands above all else
+-- the outcome of the run: a cancel reason comes before everything else
 abbrev pub final_stats_of : RunStats → FinalRunStats
 final_stats_of s = stats_under s.cancel_reason s
 
--- what a stress run came to: that the last iteration was cancelled stands above a failure of any, and that above all else
+-- the outcome of a stress run: a cancelled last iteration comes before a failure of any, and that before everything else
 abbrev pub stress_stats_by : FinalRunStats → ℕ → StressFinalRunStats
 stress_stats_by (Cancelled reason kind) failed = stress.Cancelled
 stress_stats_by (Failed kind) failed = if nat_lt 0 failed then stress.Failed else stress.Success
@@ -72,7 +72,7 @@ stress_stats_by Success failed = if nat_lt 0 failed then stress.Failed else stre
 abbrev pub stress_stats_of : StressRunStats → StressFinalRunStats
 stress_stats_of s = stress_stats_by s.last_final_stats s.failed_count
 
--- what the statistics that end a run come to; those of a stress run what its last iteration came to
+-- the outcome of the statistics that end a run; for a stress run, that of its last iteration
 abbrev pub final_stats_of_run : RunFinishedStats → FinalRunStats
 final_stats_of_run (Single s) = final_stats_of s
 final_stats_of_run (Stress s) = s.last_final_stats

@@ -1,4 +1,4 @@
--- What the attempts of a test come to, and the levels of that.
+-- The outcome of a test's attempts, and its levels.
 use Rattle.std.specs.Prelude.{Bool, true, false, List, [], length, ◌==◌, if◌then◌else◌}
 use Rattle.run_model.specs.Attempts.{Attempts}
 use Rattle.run_names.specs.declared.level.StatusLevel.{StatusLevel}
@@ -38,7 +38,7 @@ is_leaky_success (outcome.Fail failure leaked) = false
 is_leaky_success outcome.ExecFail = false
 is_leaky_success (outcome.Timeout result) = false
 
--- the process was ended from outside, of which a copy takes memory
+-- the process was aborted, so a copy allocates
 abbrev pub is_abort : FailureDescription → Bool
 is_abort (failure.ExitCode code) = false
 is_abort (failure.Abort a) = true
@@ -56,7 +56,7 @@ case_of a =
     if is_success a.last.result then (if length a.earlier == 0 then Success else Flaky a.flaky_result)
     else Failure
 
--- a case, and the last attempt without what it wrote
+-- an outcome, and the last attempt without its output
 abbrev pub summary_by : {S O : Type 0} → StatusCase → ExecuteStatus S O → StatusSummary
 summary_by case last = record {
   case = case;
@@ -66,7 +66,7 @@ summary_by case last = record {
   is_slow = last.is_slow;
 }
 
--- what the attempts came to
+-- the outcome of the attempts
 abbrev pub summary_of : {S O : Type 0} → Attempts S O → StatusSummary
 summary_of a = summary_by (case_of a) a.last
 
@@ -90,7 +90,7 @@ described_prior (described.Failure prior last) = prior.now
 abbrev pub described_summary : {S O : Type 0} → ExecutionDescription S O → StatusSummary
 described_summary d = summary_by (described_case d) (described_last d)
 
--- the test counts as passed where it is asked whose output is shown: also where it is flaky and counts as failed
+-- the test counts as passed when its output setting is chosen, also if it is flaky and counts as failed
 abbrev pub is_success_case : StatusCase → Bool
 is_success_case Success = true
 is_success_case (Flaky result) = true

@@ -26,7 +26,7 @@ unloaded_script status = record status { output = unloaded_output status.output 
 abbrev pub unloaded_attempts : {S : Type 0} → Attempts S ChildOutputDescription → Attempts S ChildOutputDescription
 unloaded_attempts a = record a { earlier = map unloaded_attempt a.earlier; last = unloaded_attempt a.last }
 
--- of the three kinds that hold captured output and are decided by their metadata; others stay
+-- the three kinds that hold captured output and are decided by their metadata; others stay
 abbrev pub unloaded_kind : TestEventKind → TestEventKind
 unloaded_kind (SetupScriptFinished stress script program args status) = SetupScriptFinished stress script program args (unloaded_script status)
 unloaded_kind (TestAttemptFailedWillRetry stress test status delay display) = TestAttemptFailedWillRetry stress test (unloaded_attempt status) delay display

@@ -106,8 +106,8 @@ impl<'a> TestEvent<'a> {
         }
     }
 
-    /// A test has finished, so long after the run began. What it wrote is shown as nextest shows it where nothing is configured: at
-    /// once where the test failed, and never where it passed.
+    /// A test has finished, this long after the run began. Its output is shown by nextest's defaults: immediately if the test
+    /// failed, and never if it passed.
     ///
     /// ```
     /// let statuses = ExecutionStatuses::single(alloc, ExecuteStatus::passed(time));
@@ -135,7 +135,7 @@ impl<'a> TestEvent<'a> {
         }
     }
 
-    /// The run has finished after this time, and came to this.
+    /// The run has finished after this time, with these statistics.
     ///
     /// ```
     /// let event = TestEvent::run_finished(time, stats);
@@ -285,7 +285,7 @@ pub enum TestEventKind<'a> {
         program: ProgramName,
         /// The program's arguments.
         args: CommandLine,
-        /// How it ended, and what it wrote.
+        /// How it ended, and its output.
         run_status: SetupScriptExecuteStatus<LiveSpec>,
     },
     /// A test has started.
@@ -390,25 +390,25 @@ pub enum TestEventKind<'a> {
         /// How many tests run.
         running: usize,
     },
-    /// All units were asked what they are doing.
+    /// All units were asked for their state.
     InfoStarted {
         /// How many units were asked.
         total: usize,
         /// The counts of the run.
         run_stats: RunStats,
     },
-    /// A unit says what it is doing.
+    /// A unit reports its state.
     InfoResponse {
-        /// The place of its answer, from 0.
+        /// The index of this response, from 0.
         index: usize,
         /// How many units were asked.
         total: usize,
         /// What it says.
         response: InfoResponse<'a>,
     },
-    /// No further answers are waited for.
+    /// The reporter waits for no further responses.
     InfoFinished {
-        /// How many units have not answered.
+        /// How many units have not responded.
         missing: usize,
     },
     /// The state of the run was asked for, by a key.
@@ -431,9 +431,9 @@ pub enum TestEventKind<'a> {
     RunFinished {
         /// How long it took.
         elapsed: Nanos,
-        /// What it came to.
+        /// The final statistics.
         run_stats: RunFinishedStats,
-        /// The tests that a rerun was to see and has not.
+        /// The outstanding tests that a rerun has not seen.
         outstanding_not_seen: Option<NotSeen>,
     },
 }

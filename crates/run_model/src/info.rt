@@ -1,4 +1,4 @@
-//! What each unit of a run answers when it is asked what it is doing.
+//! What each unit responds when it is asked for its state.
 
 ghost use Rattle.std.specs.Prelude.{◌≡◌, IfOk, Some};
 ghost use Rattle.run_model.specs.Infos.{has_valid_output, terminate_reason_text};
@@ -16,18 +16,18 @@ use std::alloc::Global;
 use std::fmt;
 use std::fmt::Formatter;
 
-/// What a unit answers.
+/// The response of a unit.
 ///
-/// Its state and its output have memory of their own, since answers are rare and events are to stay small.
+/// Its state and output are boxed, since responses are rare and events should stay small.
 #[derive(Debug, Drop)]
 pub enum InfoResponse<'a> {
-    /// A setup script does.
+    /// The response of a setup script.
     SetupScript(SetupScriptInfoResponse),
-    /// A test does.
+    /// The response of a test.
     Test(TestInfoResponse<'a>),
 }
 
-/// What a setup script answers.
+/// The response of a setup script.
 #[derive(Debug, Drop)]
 pub struct SetupScriptInfoResponse {
     /// Which iteration of a stress run it belongs to.
@@ -44,7 +44,7 @@ pub struct SetupScriptInfoResponse {
     pub output: Boxed<ChildExecutionOutputDescription<LiveSpec>>,
 }
 
-/// What a test answers.
+/// The response of a test.
 ///
 /// ```
 /// use run_model::{boxed::Boxed, output::ChildExecutionOutputDescription};
@@ -82,7 +82,7 @@ pub enum UnitState {
         pid: u32,
         /// How long it has run.
         time_taken: Nanos,
-        /// When it was marked as slow, where it was.
+        /// When it was marked as slow, if it was.
         slow_after: Option<Nanos>,
     },
     /// Its process has ended, and handles that it left open are waited for.
@@ -91,9 +91,9 @@ pub enum UnitState {
         pid: u32,
         /// How long it ran.
         time_taken: Nanos,
-        /// When it was marked as slow, where it was.
+        /// When it was marked as slow, if it was.
         slow_after: Option<Nanos>,
-        /// How it ended as far as that is known.
+        /// How it ended, as far as known.
         tentative_result: Option<ExecutionResultDescription>,
         /// How long its handles have been waited for.
         waiting_duration: Nanos,
@@ -108,7 +108,7 @@ pub enum UnitState {
         result: ExecutionResultDescription,
         /// How long it ran.
         time_taken: Nanos,
-        /// When it was marked as slow, where it was.
+        /// When it was marked as slow, if it was.
         slow_after: Option<Nanos>,
     },
     /// The next attempt waits.
@@ -182,7 +182,7 @@ impl UnitState {
         })
     }
 
-    /// Whether the output that stands beside the state is that of the unit: between two attempts there is none.
+    /// Whether the response's output is the unit's own: between two attempts it is not.
     pub fn has_valid_output(&self) -> bool
         ensures { result ≡ has_valid_output self.now }
     {

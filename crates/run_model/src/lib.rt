@@ -1,7 +1,7 @@
 //! The values of a test run: names, results, statistics, levels and events.
 //!
-//! These are the lower layers of nextest-runner as far as a console report reads them, under nextest's names. They
-//! hold no text of a report and write nothing: a reporter is handed a [`event::TestEvent`] and decides what to show.
+//! These are the lower layers of nextest-runner as far as a console report needs them, under nextest's names. They
+//! hold no text of a report and write nothing: a reporter gets a [`event::TestEvent`] and decides what to show.
 #![tactic(auto)]
 
 pub mod call;

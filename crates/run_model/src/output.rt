@@ -3,16 +3,17 @@
 ghost use Rattle.std.specs.Prelude.{◌≡◌, [], length, ◌==◌, is_ok, true, IfOk, IsOk, IsTrue};
 ghost use Rattle.std.specs.Option.{unwrap_or};
 ghost use Rattle.std.specs.Cow.{cow_str_bytes, IsOwnedStr};
-ghost use Rattle.std.specs.Str.{encode_utf8_all, IsUtf8};
+ghost use Rattle.std.specs.Str.{encode_utf8_all};
 ghost use Rattle.bstr.specs.Utf8.{lossy_chars};
 ghost use Rattle.run_model.specs.Attempts.{execution_with_output, silent_execution, silent_output};
+ghost use Rattle.run_model.specs.Decoded.{decoded_text};
 ghost use Rattle.run_model.specs.Outputs.{subslice_value, stdout_part, stderr_part, combined_part, has_errors, has_loaded_output, is_loaded};
 ghost use Rattle.run_model.specs.Recorded.{recorded_execution, recorded_member, recorded_output};
 ghost use Rattle.run_model.specs.Unloaded.{unloaded_output};
 
 use crate::status::ExecutionResultDescription;
 use bstr::ByteSlice;
-use bytes::Bytes;
+use bytes::{ByteStr, Bytes};
 use run_names::abort::DescriptionText;
 use run_names::boxed::Boxed;
 use run_names::memory::{OutOfMemory, TooManyOwners};
@@ -46,15 +47,78 @@ impl OutputSpec for RecordingSpec {
 
 /// The bytes of one stream, or of several that were captured together. Contracts see the bytes.
 ///
-/// Most streams are empty: those hold nothing. Others share their bytes with their copies.
+/// Most streams are empty: those hold nothing. Others are decoded once, here, and share what they hold with their copies.
 ///
 /// ```
 /// let output = ChildSingleOutput::new(alloc, Bytes::from_static(b"a\xffb"))?;
-/// assert_eq!(output.as_str_lossy(alloc)?.as_str(), "a\u{fffd}b");
+/// assert_eq!(output.as_str(), "a\u{fffd}b");
+/// assert_eq!(output.as_bytes(), b"a\xffb");
 /// ```
 #[derive(Debug, Drop)]
 pub struct ChildSingleOutput {
-    bytes: Option<Arc<Bytes>>,
+    captured: Option<Arc<CapturedText>>,
+}
+
+// The text, and the bytes where they are not UTF-8. Most are.
+#[derive(Debug, Drop)]
+struct CapturedText {
+    text: ByteStr,
+    other_bytes: Option<Box<Bytes>>,
+}
+
+impl Model for CapturedText {
+    ghost use Rattle.std.specs.Prelude.{List, ℕ, ◌≡◌};
+    ghost use Rattle.std.specs.Option.{option_map_or};
+    ghost use Rattle.run_model.specs.Decoded.{decoded_text};
+
+    ghost Value = { List ℕ };
+
+    ghost view = { λ c. option_map_or (λ b. b.value) c.other_bytes c.text };
+
+    ghost invariant = { λ c. c.text ≡ decoded_text (option_map_or (λ b. b.value) c.other_bytes c.text) };
+}
+
+impl CapturedText {
+    #[tactic(auto, using(crate::proofs::lemmas::Decoded::decoded_laws))]
+    fn new(alloc: Global, bytes: Bytes) -> Result<CapturedText, OutOfMemory>
+        ensures { IfOk result (λ c. c ≡ bytes) }
+    {
+        match ByteStr::from_utf8(bytes) {
+            Ok(text) => Ok(CapturedText {
+                text,
+                other_bytes: None,
+            }),
+            Err(error) => CapturedText::decode(alloc, error.bytes),
+        }
+    }
+
+    // For bytes that are not UTF-8.
+    #[tactic(auto, unfolding(crate::specs::Decoded::decoded_text))]
+    fn decode(alloc: Global, bytes: Bytes) -> Result<CapturedText, OutOfMemory>
+        ensures { IfOk result (λ c. c ≡ bytes) }
+    {
+        let mut text = String::new(alloc);
+        bytes.as_slice().to_str_lossy_into(&mut text)?;
+        Ok(CapturedText {
+            text: ByteStr::from_string(text)?,
+            other_bytes: Some(Box::new(alloc, bytes)?),
+        })
+    }
+
+    fn as_bytes(&self) -> &[u8]
+        ensures { result.now ≡ self.now }
+    {
+        match &self.other_bytes {
+            Some(bytes) => bytes.as_slice(),
+            None => self.text.as_str().as_bytes(),
+        }
+    }
+
+    fn as_str(&self) -> &str
+        ensures { result.now ≡ decoded_text self.now }
+    {
+        self.text.as_str()
+    }
 }
 
 impl Model for ChildSingleOutput {
@@ -63,7 +127,7 @@ impl Model for ChildSingleOutput {
 
     ghost Value = { List ℕ };
 
-    ghost view = { λ output. option_map_or (λ b. b.value) output.bytes [] };
+    ghost view = { λ output. option_map_or (λ c. c.value) output.captured [] };
 }
 
 impl ChildSingleOutput {
@@ -75,8 +139,9 @@ impl ChildSingleOutput {
         if bytes.is_empty() {
             return Ok(ChildSingleOutput::empty());
         }
+        let text = CapturedText::new(alloc, bytes)?;
         Ok(ChildSingleOutput {
-            bytes: Some(Arc::new(alloc, bytes)?),
+            captured: Some(Arc::new(alloc, text)?),
         })
     }
 
@@ -84,7 +149,7 @@ impl ChildSingleOutput {
     pub fn empty() -> Self
         ensures { result ≡ [] }
     {
-        ChildSingleOutput { bytes: None }
+        ChildSingleOutput { captured: None }
     }
 
     // Whether it owns no memory. It has no bytes then.
@@ -92,15 +157,15 @@ impl ChildSingleOutput {
     fn owns_nothing(&self) -> bool
         ensures { IsTrue result → self.now ≡ [] }
     {
-        self.bytes.is_none()
+        self.captured.is_none()
     }
 
     /// The bytes.
     pub fn as_bytes(&self) -> &[u8]
         ensures { result.now ≡ self.now }
     {
-        match &self.bytes {
-            Some(bytes) => bytes.as_slice(),
+        match &self.captured {
+            Some(captured) => captured.as_bytes(),
             None => &[],
         }
     }
@@ -112,23 +177,35 @@ impl ChildSingleOutput {
         self.as_bytes().is_empty()
     }
 
-    /// The text of the bytes, with U+FFFD in place of what is not UTF-8. It allocates only where there is such.
-    pub fn as_str_lossy(&self, alloc: Global) -> Result<CowStr<'_, Global>, OutOfMemory>
-        ensures text { IfOk result (λ t. cow_str_bytes t ≡ encode_utf8_all (lossy_chars self.now)) }
-        ensures borrowed { IsUtf8 self.now → (is_ok result ≡ true) × IfOk result (λ t. IsOwnedStr t → ⊥) }
+    /// The text of the bytes, with U+FFFD in place of what is not UTF-8.
+    #[tactic(auto, using(crate::proofs::lemmas::Decoded::decoded_laws))]
+    pub fn as_str(&self) -> &str
+        ensures { result.now ≡ decoded_text self.now }
     {
-        Ok(self.as_bytes().to_str_lossy(alloc)?)
+        match &self.captured {
+            Some(captured) => captured.as_str(),
+            None => "",
+        }
+    }
+
+    /// [`as_str`](Self::as_str) in the form of nextest, whose text is decoded at each call. This one is borrowed.
+    #[tactic(auto, unfolding(crate::specs::Decoded::decoded_text))]
+    pub fn as_str_lossy(&self, _alloc: Global) -> Result<CowStr<'_, Global>, OutOfMemory>
+        ensures text { IfOk result (λ t. cow_str_bytes t ≡ encode_utf8_all (lossy_chars self.now)) }
+        ensures borrowed { (is_ok result ≡ true) × IfOk result (λ t. IsOwnedStr t → ⊥) }
+    {
+        Ok(CowStr::Borrowed(self.as_str()))
     }
 
     /// A copy that shares the same bytes. It allocates nothing.
     pub fn copy(&self) -> Result<Self, TooManyOwners>
         ensures { IfOk result (λ output. output ≡ self.now) }
     {
-        let bytes = match &self.bytes {
-            Some(bytes) => Some(Arc::try_clone(bytes)?),
+        let captured = match &self.captured {
+            Some(captured) => Some(Arc::try_clone(captured)?),
             None => None,
         };
-        Ok(ChildSingleOutput { bytes })
+        Ok(ChildSingleOutput { captured })
     }
 }
 
@@ -251,7 +328,7 @@ impl ChildOutputDescription {
     }
 }
 
-// The name of the member of a stream, where it was captured.
+// The member name of a stream that was captured.
 fn recorded_member(
     alloc: Global,
     stream: &Option<ChildSingleOutput>,
@@ -264,7 +341,7 @@ fn recorded_member(
     }
 }
 
-// Another stream of the same bytes, where it was captured.
+// Another stream with the same bytes.
 fn copy_stream(
     stream: &Option<ChildSingleOutput>,
 ) -> Result<Option<ChildSingleOutput>, TooManyOwners>
@@ -281,9 +358,9 @@ fn copy_stream(
 pub enum RecordedOutput {
     /// Each stream by itself.
     Split {
-        /// The name of the member with standard output, if it was captured.
+        /// The member name of standard output, if it was captured.
         stdout: Option<DescriptionText>,
-        /// The name of the member with standard error, if it was captured.
+        /// The member name of standard error, if it was captured.
         stderr: Option<DescriptionText>,
     },
     /// Both streams together.
@@ -332,7 +409,7 @@ impl<S: OutputSpec> ChildExecutionOutputDescription<S> {
 }
 
 impl ChildExecutionOutputDescription<LiveSpec> {
-    /// A process that ended so and wrote nothing on either stream.
+    /// A process that ended with this result and wrote nothing on either stream.
     ///
     /// ```
     /// let output = ChildExecutionOutputDescription::silent(ExecutionResultDescription::Pass);
@@ -352,9 +429,9 @@ impl ChildExecutionOutputDescription<LiveSpec> {
         }
     }
 
-    /// Makes it that of a process that ended so and wrote this, or nothing, and returns true. It allocates nothing, so that is done only where it is that of
-    /// a process without errors, and the result is a pass or a failure with an exit code; else it returns false, and what it holds then is
-    /// not said.
+    /// Turns it into a process that ended with this result and wrote `captured` or nothing, and returns true. It allocates nothing,
+    /// so this works only for a process without errors that passed or failed with an exit code. Otherwise it returns false, and its
+    /// value is unspecified.
     #[inline(always)]
     pub fn replace(
         &mut self,
@@ -497,7 +574,7 @@ fn copy_errors(
     }
 }
 
-// Another highlight of the same bytes, where there is one.
+// Another highlight of the same bytes.
 fn copy_highlight(
     alloc: Global,
     highlight: &Option<Boxed<Highlight>>,
@@ -597,7 +674,7 @@ fn copy_causes(
     Ok(copies)
 }
 
-/// The stream that a highlight stands in.
+/// The stream of a highlight.
 #[derive(Clone, Copy, Debug, PartialEq, Eq)]
 pub enum HighlightStream {
     /// Standard output.
@@ -617,7 +694,7 @@ pub enum HighlightStream {
 /// ```
 #[derive(Debug, Drop)]
 pub struct Highlight {
-    /// Where it stands.
+    /// Its stream.
     pub stream: HighlightStream,
     /// The place of its first byte in the stream.
     pub start: usize,
@@ -635,7 +712,7 @@ pub struct ByteSubslice<'a> {
 }
 
 impl Highlight {
-    /// The part, where it stands in standard output.
+    /// The part, if it is in standard output.
     pub fn stdout_subslice(&self) -> Option<ByteSubslice<'_>>
         ensures { subslice_value result ≡ stdout_part self.now }
     {
@@ -645,7 +722,7 @@ impl Highlight {
         }
     }
 
-    /// The part, where it stands in standard error.
+    /// The part, if it is in standard error.
     pub fn stderr_subslice(&self) -> Option<ByteSubslice<'_>>
         ensures { subslice_value result ≡ stderr_part self.now }
     {
@@ -655,7 +732,7 @@ impl Highlight {
         }
     }
 
-    /// The part, where it stands in streams that were captured together.
+    /// The part, if it is in streams that were captured together.
     pub fn combined_subslice(&self) -> Option<ByteSubslice<'_>>
         ensures { subslice_value result ≡ combined_part self.now }
     {

@@ -7,14 +7,14 @@ use run_names::config::TestOutputDisplay;
 use run_names::stress::StressIndex;
 use run_names::time::Nanos;
 
-/// A decided event, without its names: what it came to, and its output where that is held.
+/// A decided event, without its names: its result, and its output if that is held.
 #[derive(Debug, Drop)]
 pub enum OutputEventKind<S: OutputSpec> {
     /// A setup script has finished.
     SetupScriptFinished {
         /// Which iteration of a stress run it belongs to.
         stress_index: Option<StressIndex>,
-        /// How it ended, and what it wrote.
+        /// How it ended, and its output.
         run_status: SetupScriptExecuteStatus<S>,
     },
     /// An attempt of a test has failed, and another one follows.

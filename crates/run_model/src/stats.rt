@@ -73,7 +73,7 @@ impl RunStats {
             || self.setup_scripts_timed_out > 0
     }
 
-    /// What the run came to: cancelled for a reason, failed, without tests, cut short or a success, the first that holds.
+    /// The outcome of the run: cancelled for a reason, failed, without tests, cut short or a success, whichever applies first.
     ///
     /// ```
     /// assert_eq!(RunStats::new(0).summarize_final(), FinalRunStats::NoTestsRun);
@@ -102,7 +102,7 @@ impl RunStats {
         }
     }
 
-    // Whether a setup script stands behind a failure, else how many tests did not run.
+    // Whether a setup script failed, else how many tests did not run.
     fn failure_kind(&self) -> RunStatsFailureKind
         ensures { result ≡ failure_kind self.now }
     {
@@ -120,7 +120,7 @@ impl RunStats {
     }
 }
 
-/// What a run came to.
+/// The outcome of a run.
 #[derive(Clone, Copy, Debug, PartialEq, Eq)]
 pub enum FinalRunStats {
     /// All tests ran, and none failed.
@@ -171,12 +171,12 @@ pub struct StressRunStats {
     pub success_count: u32,
     /// Iterations that failed.
     pub failed_count: u32,
-    /// What the last iteration came to.
+    /// The outcome of the last iteration.
     pub last_final_stats: FinalRunStats,
 }
 
 impl StressRunStats {
-    /// What the stress run came to: cancelled, failed, without tests or a success, the first that holds.
+    /// The outcome of the stress run: cancelled, failed, without tests or a success, whichever applies first.
     pub fn summarize_final(&self) -> StressFinalRunStats
         ensures { result ≡ stress_stats_of self.now }
     {
@@ -189,7 +189,7 @@ impl StressRunStats {
     }
 }
 
-/// What a stress run came to.
+/// The outcome of a stress run.
 #[derive(Clone, Copy, Debug, PartialEq, Eq)]
 pub enum StressFinalRunStats {
     /// No iteration failed.
@@ -209,14 +209,14 @@ pub enum StressFinalRunStats {
 /// ```
 #[derive(Clone, Copy, Debug, PartialEq, Eq)]
 pub enum RunFinishedStats {
-    /// Of a single run.
+    /// A single run.
     Single(RunStats),
-    /// Of a stress run.
+    /// A stress run.
     Stress(StressRunStats),
 }
 
 impl RunFinishedStats {
-    /// What the run came to; of a stress run what its last iteration came to.
+    /// The outcome of the run; for a stress run, that of its last iteration.
     pub fn final_stats(&self) -> FinalRunStats
         ensures { result ≡ final_stats_of_run self.now }
     {

@@ -217,8 +217,8 @@ pub struct ExecuteStatus<S: OutputSpec> {
 }
 
 impl ExecuteStatus<LiveSpec> {
-    /// The only attempt of a test, which ended so after this time, was not slow and wrote nothing. It allocates where the result
-    /// holds text.
+    /// The only attempt of a test, which ended with this result after this time, was not slow and wrote nothing. It allocates if the
+    /// result holds text.
     ///
     /// ```
     /// let timeout = ExecutionResultDescription::Timeout { result: SlowTimeoutResult::Fail };
@@ -395,10 +395,10 @@ pub enum FlakyResult {
     Fail,
 }
 
-/// What a test came to, without what it wrote.
+/// The outcome of a test, without its output.
 #[derive(Debug, Drop, PartialEq, Eq)]
 pub struct StatusSummary {
-    /// What the attempts came to.
+    /// The outcome of the attempts.
     pub case: StatusCase,
     /// Which attempt was the last.
     pub retry_data: RetryData,
@@ -410,7 +410,7 @@ pub struct StatusSummary {
     pub is_slow: bool,
 }
 
-/// What the attempts of a test came to.
+/// The outcome of a test's attempts.
 #[derive(Clone, Copy, Debug, PartialEq, Eq)]
 pub enum StatusCase {
     /// One attempt, which succeeded.
@@ -492,7 +492,7 @@ impl StatusSummary {
     }
 }
 
-/// What the attempts of a test came to, with the attempts.
+/// The outcome of a test's attempts, with the attempts.
 #[derive(Clone, Copy, Debug)]
 pub enum ExecutionDescription<'a, S: OutputSpec> {
     /// One attempt, which succeeded.
@@ -720,7 +720,7 @@ impl<S: OutputSpec> ExecutionStatuses<S> {
         &self.last
     }
 
-    /// What the attempts came to, with the attempts.
+    /// The outcome of the attempts, with the attempts.
     pub fn describe(&self) -> ExecutionDescription<'_, S>
         ensures case { described_case result ≡ case_of self.now }
         ensures last { described_last result ≡ self.now.last }
@@ -744,7 +744,7 @@ impl<S: OutputSpec> ExecutionStatuses<S> {
         }
     }
 
-    /// What the attempts came to, without what they wrote. It allocates only where the last result holds a text.
+    /// The outcome of the attempts, without their output. It allocates only if the last result holds text.
     pub fn summary(&self, alloc: Global) -> Result<StatusSummary, OutOfMemory>
         ensures summary { IfOk result (λ s. s ≡ summary_of self.now) }
         ensures free { is_aborted self.now.last.result ≡ false → IsOk result }

@@ -1,4 +1,4 @@
--- How high the levels stand, and the words of the reasons.
+-- The numbers of the levels, and the words of the reasons.
 use Rattle.std.specs.Prelude.{ℕ, List, Option, None, Some, codes}
 use Rattle.run_names.specs.declared.level.StatusLevel.{StatusLevel}
 use Rattle.run_names.specs.declared.level.StatusLevel.TheVariants as status

@@ -20,11 +20,11 @@ unfoldable pub last_colons : List ℕ → Option ℕ
 last_colons [] = None
 last_colons (c ∷ t) = place_after (begins_with_colons (c ∷ t)) (last_colons t)
 
--- what stands before the last `::`
+-- the part before the last `::`
 abbrev pub module_path_of : List ℕ → Option (List ℕ)
 module_path_of t = option_map (λ i. take i t) (last_colons t)
 
--- what stands after the last `::`, all where there is none
+-- the part after the last `::`, or all of the name
 abbrev pub last_name_of : List ℕ → List ℕ
 last_name_of t = option_map_or (λ i. drop (i + 2) t) (last_colons t) t
 

@@ -15,7 +15,7 @@ abbrev pub total_key : Option NonZeroU32 → List ℕ
 total_key None = []
 total_key (Some total) = non_zero_u32_get total ∷ []
 
--- the iteration and then the total: a missing total stands before each other
+-- the iteration and then the total: a missing total comes first
 abbrev pub stress_key : StressIndex → List ℕ
 stress_key i = i.current ∷ total_key i.total
 

@@ -91,7 +91,7 @@ impl TestOutputDisplay {
     }
 }
 
-/// Where a profile's default filter stands.
+/// Which profile a default filter comes from.
 #[derive(Debug, Drop)]
 pub struct CompiledDefaultFilter {
     /// The profile.
@@ -122,6 +122,6 @@ impl CompiledDefaultFilter {
 pub enum CompiledDefaultFilterSection {
     /// The profile's own.
     Profile,
-    /// That of an override, by its place.
+    /// An override's own, by its index.
     Override(usize),
 }

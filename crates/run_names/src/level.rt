@@ -72,7 +72,7 @@ impl FinalStatusLevel {
         self <= shown
     }
 
-    /// How far the level stands below `All`, from 0 for `All` to 7 for `None`. A summary lists by this number, so that
+    /// How many levels below `All` this one is, from 0 for `All` to 7 for `None`. A summary lists by this number, so that
     /// failures come last, next to the prompt.
     pub fn below_all(self) -> u8
         ensures { result ≡ 7 - final_rank self }

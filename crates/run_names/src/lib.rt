@@ -1,6 +1,6 @@
-//! What a run's values are called and counted by: names, levels, times, iterations, and what went wrong.
+//! Names, levels, times, iterations, and what went wrong: the small values that a run is made of.
 //!
-//! [`run_model`](../run_model) stands on it and gives it to its callers under its own name.
+//! [`run_model`](../run_model) depends on it and passes it on under its own name.
 #![tactic(auto)]
 
 pub mod abort;

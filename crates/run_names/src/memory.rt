@@ -1,12 +1,12 @@
-//! Want of memory, and what sharing answers in its place.
+//! Memory that was refused, and sharing that reached its limit.
 
 pub use out_of_memory::OutOfMemory;
 use std::alloc::AllocError;
 use std::error::Error;
 use std::fmt;
 
-/// What is shared has as many owners as can be counted, and cannot have one more. Sharing allocates nothing, so this is not
-/// [`OutOfMemory`]; it turns into that by `?` where a caller tells the two not apart.
+/// A shared value has as many owners as its counter can hold. Sharing allocates nothing, so this is not
+/// [`OutOfMemory`]; `?` converts it where a caller does not need the difference.
 #[derive(Clone, Copy, Debug, PartialEq, Eq)]
 pub struct TooManyOwners;
 
@@ -18,7 +18,7 @@ impl fmt::Display for TooManyOwners {
 
 impl Error for TooManyOwners {}
 
-// What the kit's counter answers where it is full.
+// The kit's counter reports that it is full as a failed allocation.
 impl From<AllocError> for TooManyOwners {
     fn from(_full: AllocError) -> TooManyOwners {
         TooManyOwners

@@ -12,34 +12,36 @@ ghost use Rattle.run_names.specs.Names.{module_path_of, last_name_of, optional_t
 use crate::memory::OutOfMemory;
 use std::alloc::Global;
 use std::cmp::Ordering;
-use std::marker::Model;
+use std::marker::{Model, PhantomData};
 
-/// The id of a test binary, as `alpha` or `alpha::bin/beta`.
+/// A name of one kind, in memory of its own. Names have an order, by the bytes of their texts.
 ///
 /// ```
-/// let id = RustBinaryId::new(alloc, "alpha::bin/beta")?;
-/// assert_eq!(id.as_str(), "alpha::bin/beta");
+/// let (ci, other) = (ProfileName::new(alloc, "ci")?, ProfileName::new(alloc, "default")?);
+/// assert!(ci < other);
 /// ```
 #[derive(Debug, Drop)]
-pub struct RustBinaryId {
+pub struct Name<K> {
     text: String,
+    kind: PhantomData<K>,
 }
 
-impl Model for RustBinaryId {
+impl<K> Model for Name<K> {
     ghost use Rattle.std.specs.Prelude.{List, ℕ, string_bytes};
 
     ghost Value = { List ℕ };
 
-    ghost view = { λ id. string_bytes id.text };
+    ghost view = { λ name. string_bytes name.text };
 }
 
-impl RustBinaryId {
+impl<K> Name<K> {
     /// Copies the text.
     pub fn new(alloc: Global, text: &str) -> Result<Self, OutOfMemory>
-        ensures { IfOk result (λ id. id ≡ text.now) }
+        ensures { IfOk result (λ name. name ≡ text.now) }
     {
-        Ok(RustBinaryId {
+        Ok(Name {
             text: String::from_str(alloc, text)?,
+            kind: PhantomData,
         })
     }
 
@@ -51,21 +53,21 @@ impl RustBinaryId {
     }
 }
 
-impl PartialEq for RustBinaryId {
+impl<K> PartialEq for Name<K> {
     ghost eq = { pointwise ◌==◌ };
 
     ghost laws = { Prim.search (comparing, rules) };
 
-    fn eq(&self, other: &RustBinaryId) -> bool {
+    fn eq(&self, other: &Name<K>) -> bool {
         self.as_str() == other.as_str()
     }
 }
 
-impl Eq for RustBinaryId {
+impl<K> Eq for Name<K> {
     ghost laws = { Prim.search (comparing, rules) };
 }
 
-impl Ord for RustBinaryId {
+impl<K> Ord for Name<K> {
     ghost cmp = { slice_cmp nat_cmp };
 
     ghost total = { Prim.search (comparing, rules) };
@@ -74,53 +76,45 @@ impl Ord for RustBinaryId {
 
     ghost matches_eq = { Prim.search (comparing, rules) };
 
-    // By the bytes of the texts.
-    fn cmp(&self, other: &RustBinaryId) -> Ordering {
+    fn cmp(&self, other: &Name<K>) -> Ordering {
         self.as_str().cmp(&other.as_str())
     }
 }
 
-impl PartialOrd for RustBinaryId {
+impl<K> PartialOrd for Name<K> {
     ghost partial_cmp = { as_partial_cmp (slice_cmp nat_cmp) };
 
     ghost laws = { partial_order_from_own_ties (Prim.search (comparing, rules)) (Prim.search (comparing, rules)) };
 
-    fn partial_cmp(&self, other: &RustBinaryId) -> Option<Ordering> {
+    fn partial_cmp(&self, other: &Name<K>) -> Option<Ordering> {
         Some(self.cmp(other))
     }
 }
 
+/// The kind of a [`RustBinaryId`].
+#[derive(Debug)]
+pub struct Binary;
+
+/// The id of a test binary, as `alpha` or `alpha::bin/beta`.
+///
+/// ```
+/// let id = RustBinaryId::new(alloc, "alpha::bin/beta")?;
+/// assert_eq!(id.as_str(), "alpha::bin/beta");
+/// ```
+pub type RustBinaryId = Name<Binary>;
+
+/// The kind of a [`TestCaseName`].
+#[derive(Debug)]
+pub struct TestCase;
+
 /// The name of a test within its binary, as `module::name`.
-#[derive(Debug, Drop)]
-pub struct TestCaseName {
-    text: String,
-}
+///
+/// ```
+/// assert_eq!(TestCaseName::new(alloc, "parser::empty")?.as_str(), "parser::empty");
+/// ```
+pub type TestCaseName = Name<TestCase>;
 
-impl Model for TestCaseName {
-    ghost use Rattle.std.specs.Prelude.{List, ℕ, string_bytes};
-
-    ghost Value = { List ℕ };
-
-    ghost view = { λ name. string_bytes name.text };
-}
-
-impl TestCaseName {
-    /// Copies the text.
-    pub fn new(alloc: Global, text: &str) -> Result<Self, OutOfMemory>
-        ensures { IfOk result (λ name. name ≡ text.now) }
-    {
-        Ok(TestCaseName {
-            text: String::from_str(alloc, text)?,
-        })
-    }
-
-    /// The text.
-    pub fn as_str(&self) -> &str
-        ensures { result.now ≡ self.now }
-    {
-        self.text.as_str()
-    }
-
+impl Name<TestCase> {
     /// The text cut at its last `::`: the module path, if there is one, and the name in it.
     ///
     /// ```
@@ -135,45 +129,6 @@ impl TestCaseName {
     }
 }
 
-impl PartialEq for TestCaseName {
-    ghost eq = { pointwise ◌==◌ };
-
-    ghost laws = { Prim.search (comparing, rules) };
-
-    fn eq(&self, other: &TestCaseName) -> bool {
-        self.as_str() == other.as_str()
-    }
-}
-
-impl Eq for TestCaseName {
-    ghost laws = { Prim.search (comparing, rules) };
-}
-
-impl Ord for TestCaseName {
-    ghost cmp = { slice_cmp nat_cmp };
-
-    ghost total = { Prim.search (comparing, rules) };
-
-    ghost matches_partial_cmp = { Prim.search (comparing, rules) };
-
-    ghost matches_eq = { Prim.search (comparing, rules) };
-
-    // By the bytes of the texts.
-    fn cmp(&self, other: &TestCaseName) -> Ordering {
-        self.as_str().cmp(&other.as_str())
-    }
-}
-
-impl PartialOrd for TestCaseName {
-    ghost partial_cmp = { as_partial_cmp (slice_cmp nat_cmp) };
-
-    ghost laws = { partial_order_from_own_ties (Prim.search (comparing, rules)) (Prim.search (comparing, rules)) };
-
-    fn partial_cmp(&self, other: &TestCaseName) -> Option<Ordering> {
-        Some(self.cmp(other))
-    }
-}
-
 // The text cut at its last `::`.
 fn cut_at_last_colons(text: &str) -> (Option<&str>, &str)
     ensures path { optional_text result.0 ≡ module_path_of text.now }
@@ -185,113 +140,38 @@ fn cut_at_last_colons(text: &str) -> (Option<&str>, &str)
     }
 }
 
+/// The kind of a [`ProfileName`].
+#[derive(Debug)]
+pub struct Profile;
+
 /// The name of a profile.
 ///
 /// ```
 /// assert_eq!(ProfileName::new(alloc, "ci")?.as_str(), "ci");
 /// ```
-#[derive(Debug, Drop)]
-pub struct ProfileName {
-    text: String,
-}
+pub type ProfileName = Name<Profile>;
 
-impl Model for ProfileName {
-    ghost use Rattle.std.specs.Prelude.{List, ℕ, string_bytes};
-
-    ghost Value = { List ℕ };
-
-    ghost view = { λ name. string_bytes name.text };
-}
-
-impl ProfileName {
-    /// Copies the text.
-    pub fn new(alloc: Global, text: &str) -> Result<Self, OutOfMemory>
-        ensures { IfOk result (λ name. name ≡ text.now) }
-    {
-        Ok(ProfileName {
-            text: String::from_str(alloc, text)?,
-        })
-    }
-
-    /// The text.
-    pub fn as_str(&self) -> &str
-        ensures { result.now ≡ self.now }
-    {
-        self.text.as_str()
-    }
-}
+/// The kind of a [`ScriptId`].
+#[derive(Debug)]
+pub struct Script;
 
 /// The id of a setup script.
 ///
 /// ```
 /// assert_eq!(ScriptId::new(alloc, "set-up-database")?.as_str(), "set-up-database");
 /// ```
-#[derive(Debug, Drop)]
-pub struct ScriptId {
-    text: String,
-}
+pub type ScriptId = Name<Script>;
 
-impl Model for ScriptId {
-    ghost use Rattle.std.specs.Prelude.{List, ℕ, string_bytes};
-
-    ghost Value = { List ℕ };
-
-    ghost view = { λ id. string_bytes id.text };
-}
-
-impl ScriptId {
-    /// Copies the text.
-    pub fn new(alloc: Global, text: &str) -> Result<Self, OutOfMemory>
-        ensures { IfOk result (λ id. id ≡ text.now) }
-    {
-        Ok(ScriptId {
-            text: String::from_str(alloc, text)?,
-        })
-    }
-
-    /// The text.
-    pub fn as_str(&self) -> &str
-        ensures { result.now ≡ self.now }
-    {
-        self.text.as_str()
-    }
-}
+/// The kind of a [`ProgramName`].
+#[derive(Debug)]
+pub struct Program;
 
 /// The program that a setup script runs, as it was given.
 ///
 /// ```
 /// assert_eq!(ProgramName::new(alloc, "./set-up.sh")?.as_str(), "./set-up.sh");
 /// ```
-#[derive(Debug, Drop)]
-pub struct ProgramName {
-    text: String,
-}
-
-impl Model for ProgramName {
-    ghost use Rattle.std.specs.Prelude.{List, ℕ, string_bytes};
-
-    ghost Value = { List ℕ };
-
-    ghost view = { λ program. string_bytes program.text };
-}
-
-impl ProgramName {
-    /// Copies the text.
-    pub fn new(alloc: Global, text: &str) -> Result<Self, OutOfMemory>
-        ensures { IfOk result (λ program. program ≡ text.now) }
-    {
-        Ok(ProgramName {
-            text: String::from_str(alloc, text)?,
-        })
-    }
-
-    /// The text.
-    pub fn as_str(&self) -> &str
-        ensures { result.now ≡ self.now }
-    {
-        self.text.as_str()
-    }
-}
+pub type ProgramName = Name<Program>;
 
 /// A test: its binary's id and its name in it.
 ///

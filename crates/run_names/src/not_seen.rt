@@ -1,11 +1,11 @@
-//! Tests that a run was to see and has not.
+//! Tests that a rerun was expected to run and has not.
 
 ghost use Rattle.std.specs.Prelude.{◌≡◌};
 
 use crate::name::OwnedTestInstanceId;
 use std::marker::Model;
 
-/// The tests that are outstanding from the run before and that a rerun has not seen.
+/// The outstanding tests of the previous run that a rerun has not seen.
 ///
 /// ```
 /// let list = TestInstanceList::new(vec![in alloc; test]?);
@@ -13,7 +13,7 @@ use std::marker::Model;
 /// ```
 #[derive(Debug, Drop)]
 pub struct NotSeen {
-    /// Those that are listed. There may be more.
+    /// The tests that are listed. There may be more.
     pub not_seen: TestInstanceList,
     /// How many there are.
     pub total_not_seen: usize,

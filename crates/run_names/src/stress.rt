@@ -37,7 +37,7 @@ impl StressIndex {
     }
 }
 
-/// How often a stress run is to run its tests.
+/// How often a stress run repeats its tests.
 #[derive(Clone, Copy, Debug, PartialEq, Eq)]
 pub enum StressCount {
     /// This many times.
@@ -57,18 +57,18 @@ pub enum StressCount {
 /// ```
 #[derive(Clone, Copy, Debug, PartialEq, Eq)]
 pub enum StressProgress {
-    /// Of a run of this many iterations.
+    /// A run of this many iterations.
     Count {
-        /// How many there are to be.
+        /// How many iterations are planned.
         total: StressCount,
         /// How long the run has taken.
         elapsed: Nanos,
         /// How many iterations have finished.
         completed: u32,
     },
-    /// Of a run of so much time.
+    /// A run of this duration.
     Time {
-        /// How long the run is to take.
+        /// How long the run should take.
         total: Nanos,
         /// How long it has taken.
         elapsed: Nanos,
@@ -98,7 +98,7 @@ impl StressProgress {
         }
     }
 
-    /// What remains, unless the run has come to its end.
+    /// What remains, unless the run is complete.
     ///
     /// ```
     /// let progress = StressProgress::Time { total: Nanos(5), elapsed: Nanos(3), completed: 1 };
@@ -148,6 +148,6 @@ pub enum StressRemaining {
     Count(NonZeroU32),
     /// Iterations without end.
     Infinite,
-    /// So much time.
+    /// This much time.
     Time(Nanos),
 }

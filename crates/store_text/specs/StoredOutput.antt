@@ -1,4 +1,4 @@
--- What a store keeps of captured output.
+-- The output that a store keeps.
 use Rattle.std.specs.Prelude.{Bool, [], ◌++◌, Option, None, Some, if◌then◌else◌}
 use Rattle.run_model.specs.Attempts.{Attempts, Written}
 use Rattle.run_model.specs.Statuses.{case_of, is_success_case}
@@ -7,7 +7,7 @@ use Rattle.run_model.specs.declared.output.ChildOutputDescription.{ChildOutputDe
 use Rattle.run_model.specs.declared.output.ChildOutputDescription.TheVariants.{Split, Combined, NotLoaded}
 use Rattle.run_model.specs.declared.output.LiveSpec.{LiveSpec}
 use Rattle.run_model.specs.declared.status.StatusCase.{StatusCase}
-use Rattle.plain_text.specs.Lossy.{decoded_text}
+use Rattle.run_model.specs.Decoded.{decoded_text}
 use Rattle.plain_text.specs.Texts.{Text}
 use Rattle.store_text.specs.declared.config.StoreConfig.{StoreConfig}
 
@@ -22,19 +22,19 @@ captured_text (Split stdout stderr) = stored_stream stdout ++ stored_stream stde
 captured_text (Combined output) = decoded_text output
 captured_text NotLoaded = []
 
--- what an attempt wrote: one that could not be started wrote nothing
+-- the output of an attempt: a process that could not be started wrote nothing
 abbrev pub written_text : Written → Text
 written_text (Output result output errors highlight) = captured_text output
 written_text (StartError chain) = []
 
--- the switch for tests that count as successes where it is asked whose output is shown, or for the others
+-- the switch for tests that count as successes for their output setting, or for the others
 abbrev pub is_switched_on : StoreConfig → Bool → Bool
 is_switched_on store is_success = if is_success then store.store_success_output else store.store_failure_output
 
--- what the attempts came to decides which
+-- the outcome of the attempts decides
 abbrev pub is_stored : StoreConfig → StatusCase → Bool
 is_stored store case = is_switched_on store (is_success_case case)
 
--- the output of the last attempt, if it is asked for
+-- the output of the last attempt, if the store keeps it
 unfoldable pub stored_output : StoreConfig → Attempts LiveSpec ChildOutputDescription → Text
 stored_output store statuses = if is_stored store (case_of statuses) then written_text statuses.last.output else []

@@ -1,9 +1,9 @@
-//! What a store is asked to keep.
+//! What a store keeps.
 
 ghost use Rattle.std.specs.Prelude.{◌≡◌};
 ghost use Rattle.store_text.specs.StoredOutput.{is_switched_on};
 
-/// What a store is asked to keep of finished tests beside their names and how they ended.
+/// What a store keeps of finished tests besides their names and results.
 ///
 /// ```
 /// // The output of tests that fail, and of no others.
@@ -12,14 +12,14 @@ ghost use Rattle.store_text.specs.StoredOutput.{is_switched_on};
 /// ```
 #[derive(Clone, Copy, Debug, PartialEq, Eq)]
 pub struct StoreConfig {
-    /// Whether it keeps the output of tests whose last attempt passed, also where that came after others and counts as a failure.
+    /// Whether it keeps the output of tests whose last attempt passed, also if the test is flaky and counts as failed.
     pub store_success_output: bool,
     /// Whether it keeps the output of all others.
     pub store_failure_output: bool,
 }
 
 impl StoreConfig {
-    /// Whether it asks for the output of a test, by whether that counts as a success where it is asked whose output is shown.
+    /// Whether it keeps the output of a test, given whether the test counts as a success for its output setting.
     ///
     /// ```
     /// let is_success = statuses.describe().is_success_for_output();

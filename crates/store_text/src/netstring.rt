@@ -1,7 +1,8 @@
 //! Netstrings: a text after the number of its bytes, so that it may hold any byte.
 
+ghost use Rattle.std.specs.Prelude.{◌++◌};
 ghost use Rattle.plain_text.specs.Writer.{Puts};
-ghost use Rattle.store_text.specs.Netstring.{joined_netstring, netstring, netstring_head};
+ghost use Rattle.store_text.specs.Netstring.{netstring};
 
 use itoa::Buffer;
 use plain_text::write_str::{WriteFault, WriteStr, write_strs};
@@ -27,23 +28,15 @@ pub fn write_netstring<W: WriteStr>(w: &mut W, text: &str) -> Result<(), WriteFa
 /// write_joined_netstring(&mut out, "SIG ", "6")?;
 /// assert_eq!(out.as_str(), "5:SIG 6,");
 /// ```
-#[tactic(auto, unfolding(crate::specs::Netstring::joined_netstring))]
+#[tactic(auto, unfolding(crate::specs::Netstring::netstring, crate::specs::Netstring::netstring_head))]
 pub fn write_joined_netstring<W: WriteStr>(
     w: &mut W,
     front: &str,
     back: &str,
 ) -> Result<(), WriteFault>
-    ensures { Puts W.meaning w.old (joined_netstring front.now back.now) result w.new }
+    ensures { Puts W.meaning w.old (netstring (front.now ++ back.now)) result w.new }
 {
-    write_netstring_head(w, front.len() as u128 + back.len() as u128)?;
-    write_strs(w, &[front, back, ","])
-}
-
-/// Writes what stands before a text of the given number of bytes in a netstring. The text and a comma are to follow.
-#[tactic(auto, unfolding(crate::specs::Netstring::netstring_head))]
-pub(super) fn write_netstring_head<W: WriteStr>(w: &mut W, length: u128) -> Result<(), WriteFault>
-    ensures { Puts W.meaning w.old (netstring_head length) result w.new }
-{
-    let mut number = Buffer::new();
-    write_strs(w, &[number.format(length), ":"])
+    let mut length = Buffer::new();
+    let total = front.len() as u128 + back.len() as u128;
+    write_strs(w, &[length.format(total), ":", front, back, ","])
 }

@@ -15,10 +15,10 @@ use run_model::output::LiveSpec;
 use run_model::status::{ExecutionResultDescription, ExecutionStatuses};
 use text_parts::result_words::short_status_str;
 
-/// Writes the record of a finished test: its binary's id, its name, how its last attempt ended in a short word, and its output
-/// if the store is asked to keep it, each as a netstring, and a line feed. It allocates nothing.
+/// Writes the record of a finished test: its binary's id, its name, the short word of its last result, and its output
+/// if the store keeps it, each as a netstring, and a line feed. It allocates nothing.
 ///
-/// On a fault of the writer a beginning of the record was accepted.
+/// On a fault the writer has accepted a prefix of the record.
 ///
 /// ```
 /// write_record(&mut out, store, test.as_ref(), &statuses)?;
@@ -40,7 +40,6 @@ pub fn write_record<W: WriteStr>(
     w.write_str("\n")
 }
 
-// Writes how an attempt ended, as a netstring.
 fn write_outcome<W: WriteStr>(
     w: &mut W,
     outcome: &ExecutionResultDescription,

@@ -1,95 +1,20 @@
-//! What is kept of captured output: its text, as it was decoded, with the escape sequences that it has.
+//! The output that a store keeps: the decoded text, with its escape sequences.
 
-ghost use Rattle.std.specs.Prelude.{◌≡◌, ◌++◌, []};
+ghost use Rattle.std.specs.Prelude.{◌≡◌, ◌++◌};
 ghost use Rattle.plain_text.specs.Writer.{Puts};
-ghost use Rattle.store_text.specs.Netstring.{joined_netstring, netstring};
+ghost use Rattle.store_text.specs.Netstring.{netstring};
 ghost use Rattle.store_text.specs.StoredOutput.{captured_text, stored_output, stored_stream, written_text};
 
 use crate::config::StoreConfig;
-use crate::netstring::write_netstring_head;
-use plain_text::lossy::LossyText;
+use crate::netstring::write_joined_netstring;
 use plain_text::write_str::{WriteFault, WriteStr};
 use run_model::output::{
     ChildExecutionOutputDescription, ChildOutputDescription, ChildSingleOutput, LiveSpec,
 };
 use run_model::status::ExecutionStatuses;
 
-// The text of captured output in two parts, the second of which may be empty. It allocates nothing: it is a view of the bytes.
-#[derive(Drop)]
-struct OutputTexts<'o> {
-    front: LossyText<'o>,
-    back: LossyText<'o>,
-}
-
-impl<'o> OutputTexts<'o> {
-    // What is kept of what the attempts of a test wrote: of the last one, if it is asked for.
-    #[tactic(auto, unfolding(crate::specs::StoredOutput::stored_output))]
-    fn of_test(store: StoreConfig, statuses: &'o ExecutionStatuses<LiveSpec>) -> OutputTexts<'o>
-        ensures { result.front ++ result.back ≡ stored_output store statuses.now }
-    {
-        if store.stores_output(statuses.describe().is_success_for_output()) {
-            OutputTexts::of_attempt(&statuses.last_status().output)
-        } else {
-            OutputTexts::none()
-        }
-    }
-
-    // What an attempt wrote: a start error wrote nothing.
-    fn of_attempt(output: &'o ChildExecutionOutputDescription<LiveSpec>) -> OutputTexts<'o>
-        ensures { result.front ++ result.back ≡ written_text output.now }
-    {
-        match output {
-            ChildExecutionOutputDescription::Output { output, .. } => OutputTexts::of_captured(
-                output,
-            ),
-            ChildExecutionOutputDescription::StartError(_) => OutputTexts::none(),
-        }
-    }
-
-    // What was captured: standard output and then standard error, or both as they came.
-    #[tactic(auto, using(crate::proofs::lemmas::Netstrings::decoded_nothing))]
-    fn of_captured(output: &'o ChildOutputDescription) -> OutputTexts<'o>
-        ensures { result.front ++ result.back ≡ captured_text output.now }
-    {
-        match output {
-            ChildOutputDescription::Split { stdout, stderr } => OutputTexts {
-                front: text_of(stdout),
-                back: text_of(stderr),
-            },
-            ChildOutputDescription::Combined { output } => OutputTexts {
-                front: LossyText::new(output.as_bytes()),
-                back: LossyText::new(&[]),
-            },
-            ChildOutputDescription::NotLoaded => OutputTexts::none(),
-        }
-    }
-
-    // No text.
-    #[tactic(auto, using(crate::proofs::lemmas::Netstrings::decoded_nothing))]
-    fn none() -> OutputTexts<'o>
-        ensures { result.front ++ result.back ≡ [] }
-    {
-        OutputTexts {
-            front: LossyText::new(&[]),
-            back: LossyText::new(&[]),
-        }
-    }
-
-    // Writes both as one netstring.
-    #[tactic(auto, unfolding(crate::specs::Netstring::joined_netstring))]
-    fn write_netstring<W: WriteStr>(&self, w: &mut W) -> Result<(), WriteFault>
-        ensures { Puts W.meaning w.old (joined_netstring self.now.front self.now.back) result w.new }
-    {
-        write_netstring_head(w, self.front.byte_count() + self.back.byte_count())?;
-        self.front.write(w)?;
-        self.back.write(w)?;
-        w.write_str(",")
-    }
-}
-
-/// Writes the output that is kept of a test's attempts, as a netstring: of the last one, if the store is asked for it, standard
-/// output and then standard error, or both as they came. It allocates nothing: bytes that are not UTF-8 are gone through twice,
-/// first to count what they are decoded to.
+/// Writes the output that the store keeps of a test as a netstring: that of the last attempt, if the store keeps it, standard
+/// output and then standard error, or both streams as they came. It allocates nothing.
 ///
 /// ```
 /// let (stdout, stderr) = (Bytes::from_static("é\n".as_bytes()), Bytes::from_static(b"x"));
@@ -105,16 +30,47 @@ pub fn write_stored_output<W: WriteStr>(
 ) -> Result<(), WriteFault>
     ensures { Puts W.meaning w.old (netstring (stored_output store statuses.now)) result w.new }
 {
-    OutputTexts::of_test(store, statuses).write_netstring(w)
+    let (front, back) = stored_texts(store, statuses);
+    write_joined_netstring(w, front, back)
 }
 
-// The text of a stream, if it was captured.
-#[tactic(auto, using(crate::proofs::lemmas::Netstrings::decoded_nothing))]
-fn text_of(stream: &Option<ChildSingleOutput>) -> LossyText<'_>
-    ensures { result ≡ stored_stream stream.now }
+// The output that the store keeps, in two parts.
+#[tactic(auto, unfolding(crate::specs::StoredOutput::stored_output))]
+fn stored_texts(store: StoreConfig, statuses: &ExecutionStatuses<LiveSpec>) -> (&str, &str)
+    ensures { result.0.now ++ result.1.now ≡ stored_output store statuses.now }
+{
+    if store.stores_output(statuses.describe().is_success_for_output()) {
+        written_texts(&statuses.last_status().output)
+    } else {
+        ("", "")
+    }
+}
+
+// A process that could not be started wrote nothing.
+fn written_texts(output: &ChildExecutionOutputDescription<LiveSpec>) -> (&str, &str)
+    ensures { result.0.now ++ result.1.now ≡ written_text output.now }
+{
+    match output {
+        ChildExecutionOutputDescription::Output { output, .. } => captured_texts(output),
+        ChildExecutionOutputDescription::StartError(_) => ("", ""),
+    }
+}
+
+fn captured_texts(output: &ChildOutputDescription) -> (&str, &str)
+    ensures { result.0.now ++ result.1.now ≡ captured_text output.now }
+{
+    match output {
+        ChildOutputDescription::Split { stdout, stderr } => (text_of(stdout), text_of(stderr)),
+        ChildOutputDescription::Combined { output } => (output.as_str(), ""),
+        ChildOutputDescription::NotLoaded => ("", ""),
+    }
+}
+
+fn text_of(stream: &Option<ChildSingleOutput>) -> &str
+    ensures { result.now ≡ stored_stream stream.now }
 {
     match stream {
-        Some(stream) => LossyText::new(stream.as_bytes()),
-        None => LossyText::new(&[]),
+        Some(stream) => stream.as_str(),
+        None => "",
     }
 }

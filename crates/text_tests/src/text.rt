@@ -4,7 +4,6 @@ mod escapes;
 mod fitting;
 mod helpers;
 mod indenter;
-mod lossy;
 mod reporter_helpers;
 mod stripped;
 mod text_buffer;

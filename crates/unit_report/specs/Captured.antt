@@ -1,11 +1,10 @@
 -- Captured output as a report shows it.
-use Rattle.std.specs.Prelude.{ℕ, ◌+◌, Bool, true, false, ◌&&◌, ◌==◌, List, [], ◌∷◌, ◌++◌, Option, None, Some, take, drop, if◌then◌else◌}
+use Rattle.std.specs.Prelude.{ℕ, ◌+◌, Bool, true, false, ◌&&◌, ◌||◌, ◌==◌, List, [], ◌∷◌, ◌++◌, Option, None, Some, length, slice_index, nat_le, nat_lt, take, drop, if◌then◌else◌}
 use Rattle.run_model.specs.Outputs.{Part}
 use Rattle.run_model.specs.declared.output.ByteSubslice.{ByteSubslice}
 use Rattle.plain_text.specs.TrailingNewline.{without_trailing_newline}
 use Rattle.plain_text.specs.Escapes.{visible}
 use Rattle.plain_text.specs.Highlights.{highlight_end}
-use Rattle.plain_text.specs.Lossy.{ends_character}
 use Rattle.plain_text.specs.Style.{plain, reset_color}
 use Rattle.plain_text.specs.Texts.{Text}
 use Rattle.plain_text.specs.declared.style.Style.{Style}
@@ -16,17 +15,21 @@ use Rattle.unit_report.specs.HighlightedLines.{highlighted_lines}
 unfoldable pub plain_output : Text → Text
 plain_output t = without_trailing_newline (visible t) ++ 10 ∷ []
 
--- with colour: as it is, but that no colour goes on after the end
+-- with colour: unchanged, and a reset at the end
 unfoldable pub reset_output : Text → Text
 reset_output t = without_trailing_newline t ++ (reset_color ++ 10 ∷ [])
 
--- a highlight between what stands before it and what follows it
+-- a highlight between the text before and after it
 unfoldable pub highlighted_output : Style → Text → Text → Text → Text
 highlighted_output s front lit back = front ++ (plain reset_color ++ (highlighted_lines s lit ++ reset_output back))
 
 -- its bytes, without their address
 abbrev pub part_value : ByteSubslice → Part
 part_value s = record { start = s.start; bytes = s.slice.now }
+
+-- the first n bytes of the text end a character: no byte of one follows
+abbrev pub ends_character : ℕ → Text → Bool
+ends_character n t = nat_le n (length t) && (nat_le (length t) n || (nat_lt (slice_index t n) 128 || nat_le 192 (slice_index t n)))
 
 -- the text begins with these bytes
 abbrev pub begins_with : List ℕ → Text → Bool
@@ -38,7 +41,7 @@ begins_with (b ∷ bs) (c ∷ t) = (b == c) && begins_with bs t
 abbrev pub highlight_stop : Part → ℕ
 highlight_stop h = h.start + highlight_end h.bytes
 
--- a highlight is valid where both its ends are ends of characters, and the text holds its bytes there
+-- a highlight is valid if both its ends are ends of characters, and the text holds its bytes there
 abbrev pub is_valid : Text → Part → Bool
 is_valid t h = ends_character h.start t && (begins_with h.bytes (drop h.start t) && ends_character (highlight_stop h) t)
 
@@ -46,7 +49,7 @@ is_valid t h = ends_character h.start t && (begins_with h.bytes (drop h.start t)
 abbrev pub highlighted_by : Style → Text → Part → Text
 highlighted_by s t h = highlighted_output s (take h.start t) (take (highlight_end h.bytes) (drop h.start t)) (drop (highlight_stop h) t)
 
--- with colour, where a highlight may be given: one that is not valid is left out
+-- with colour: a highlight that is not valid is left out
 unfoldable pub coloured_output : Style → Text → Option Part → Text
 coloured_output s t None = reset_output t
 coloured_output s t (Some h) = if is_valid t h then highlighted_by s t h else reset_output t

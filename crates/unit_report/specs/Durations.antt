@@ -17,7 +17,7 @@ bracketed_duration n = codes "[" ++ (right_in 8 (seconds 3 n) ++ codes "s] ")
 unfoldable pub bracketed_clock : ℕ → Text
 bracketed_clock n = codes "[" ++ (right_in 9 (clock_text (n / 1_000_000_000)) ++ codes "] ")
 
--- nanoseconds as seconds after which something comes, right in seven columns
+-- nanoseconds as the seconds until something happens, right in seven columns
 unfoldable pub duration_by : ℕ → Text
 duration_by n = codes "by " ++ (right_in 7 (seconds 3 n) ++ codes "s ")
 
@@ -25,7 +25,7 @@ duration_by n = codes "by " ++ (right_in 7 (seconds 3 n) ++ codes "s ")
 unfoldable pub slow_duration : ℕ → Text
 slow_duration n = codes "[>" ++ (right_in 7 (seconds 3 n) ++ codes "s] ")
 
--- the same as parts of a line
+-- parts of a line
 free-between : (left t right : Text) → HasNoEscape left → HasNoEscape t → HasNoEscape right → HasNoEscape (left ++ (t ++ right))
 free-between left t right h j k = free_both left (t ++ right) h (free_both t right j k)
 

@@ -6,7 +6,7 @@ use Rattle.plain_text.specs.Indent.{indent}
 use Rattle.plain_text.specs.Style.{plain}
 use Rattle.plain_text.specs.Texts.{Text}
 
--- a cause on a line of its own; its later lines stand under its first
+-- a cause on a line of its own; its later lines are aligned below its first
 unfoldable pub cause_text : Text → Text
 cause_text cause = plain (codes "\n  - ") ++ indent (codes "    ") false cause
 

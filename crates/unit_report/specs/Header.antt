@@ -17,7 +17,7 @@ output_name_text Output = codes "output"
 output_name_text ExecFail = codes "execfail"
 output_name_text Errors = codes "errors"
 
--- a bar of so many characters, or a space
+-- a bar of n characters, or a space
 abbrev pub bar_text : ThemeCharacters → Option ℕ → Text
 bar_text theme None = codes " "
 bar_text theme (Some width) = hbar_text theme.is_unicode width

@@ -13,7 +13,7 @@ use Rattle.unit_report.specs.declared.config.StatusLevels.{StatusLevels}
 use Rattle.unit_report.specs.declared.config.ResolvedDisplay.{ResolvedDisplay}
 use Rattle.unit_report.specs.declared.config.DisplayConfig.{DisplayConfig}
 
--- each level is asked for, and is the profile's too
+-- each level is asked for, and is the profile's as well
 abbrev pub overridden : ShowProgress → Bool → StatusLevel → FinalStatusLevel → DisplayConfig
 overridden show_progress no_capture status_level final_status_level = record {
   show_progress = show_progress;
@@ -28,7 +28,7 @@ overridden show_progress no_capture status_level final_status_level = record {
 abbrev pub can_show_bar : DisplayConfig → Bool → Bool → Bool
 can_show_bar c is_terminal is_ci = not c.no_capture && (is_terminal && not is_ci)
 
--- how progress is shown, where there can be a bar and where there can be none
+-- how progress is shown, by whether a bar can be drawn
 abbrev pub progress_display_of : ShowProgress → Bool → ProgressDisplay
 progress_display_of (asked.Auto suppress_success) true = shown.Bar
 progress_display_of (asked.Auto suppress_success) false = shown.Counter
@@ -37,7 +37,7 @@ progress_display_of asked.Running false = shown.None
 progress_display_of asked.Counter can_bar = shown.Counter
 progress_display_of asked.None can_bar = shown.None
 
--- whether a bar stands in the place of the lines of tests that passed
+-- whether a bar replaces the lines of tests that passed
 abbrev pub suppresses : ShowProgress → Bool → Bool
 suppresses (asked.Auto suppress_success) can_bar = can_bar && suppress_success
 suppresses asked.Running can_bar = false
@@ -48,7 +48,7 @@ suppresses asked.None can_bar = false
 abbrev pub raised : Bool → StatusLevel → StatusLevel
 raised no_capture level = if no_capture && nat_lt (status_rank level) (status_rank status.Pass) then status.Pass else level
 
--- the levels: those asked for, else Slow and None where successes are suppressed, else the profile's
+-- the levels: those asked for, else Slow and None if successes are suppressed, else the profile's
 abbrev pub resolved_levels : DisplayConfig → Bool → StatusLevels
 resolved_levels c suppressed = record {
   status_level = raised c.no_capture (unwrap_or c.status_level (if suppressed then status.Slow else c.profile_status_level));
@@ -61,6 +61,6 @@ display_where c can_bar = record {
   status_levels = resolved_levels c (suppresses c.show_progress can_bar);
 }
 
--- what the report has
+-- what the report resolves to
 unfoldable pub resolved_display : DisplayConfig → Bool → Bool → ResolvedDisplay
 resolved_display c is_terminal is_ci = display_where c (can_show_bar c is_terminal is_ci)

@@ -10,7 +10,7 @@ use Rattle.run_model.specs.declared.output.Highlight.{Highlight}
 use Rattle.run_model.specs.declared.output.LiveSpec.{LiveSpec}
 use Rattle.plain_text.specs.TrailingNewline.{ends_in_line_feed}
 use Rattle.plain_text.specs.Escapes.{HasNoEscape}
-use Rattle.plain_text.specs.Lossy.{decoded_text}
+use Rattle.run_model.specs.Decoded.{decoded_text}
 use Rattle.report_words.specs.PlainTexts.{HoldsIf, IsPlainChain}
 use Rattle.plain_text.specs.Texts.{Text}
 use Rattle.unit_report.specs.Captured.{is_valid, highlight_stop}
@@ -19,20 +19,20 @@ use Rattle.unit_report.specs.Captured.{is_valid, highlight_stop}
 abbrev pub IsInside : Text → Part → Type 0
 IsInside t h = IsTrue (is_valid t h) → IsTrue (ends_in_line_feed t) → highlight_stop h < length t
 
--- what is asked of a stream. Where the flag says that texts are in colour: as it is decoded it holds no escape character, and its
--- highlight is inside it. Else nothing
+-- What the width and colour laws need of a stream. In colour (the flag): its decoded text holds no escape character, and its
+-- highlight is inside it. Otherwise nothing.
 abbrev pub IsPlainStream : Bool → Option Part → Text → Type 0
 IsPlainStream true highlight bytes = HasNoEscape (decoded_text bytes) × HoldsIf (IsInside (decoded_text bytes)) highlight
 IsPlainStream false highlight bytes = Unit {0}
 
--- the same of what a process wrote
+-- both streams of a process
 abbrev pub IsPlainOutput : Bool → ChildOutputDescription → Option Highlight → Type 0
 IsPlainOutput k (Split stdout stderr) h =
     HoldsIf (IsPlainStream k (option_and_then stdout_part h)) stdout × HoldsIf (IsPlainStream k (option_and_then stderr_part h)) stderr
 IsPlainOutput k (Combined output) h = IsPlainStream k (option_and_then combined_part h) output
 IsPlainOutput k NotLoaded h = Unit {0}
 
--- the same of all that is shown of an attempt; in colour or not, its errors hold no escape character
+-- all that is shown of an attempt; its errors hold no escape character, with or without colour
 abbrev pub IsPlainWritten : Bool → ChildExecutionOutputDescription LiveSpec ChildOutputDescription → Type 0
 IsPlainWritten k (Output result output errors highlight) = HoldsIf IsPlainChain errors × IsPlainOutput k output highlight
 IsPlainWritten k (StartError chain) = IsPlainChain chain

@@ -16,24 +16,24 @@ abbrev pub skipped_tests_in : NextestRunMode → SkipCounts → ℕ
 skipped_tests_in Test c = c.skipped_tests
 skipped_tests_in Benchmark c = c.skipped_tests - c.skipped_tests_non_benchmark
 
--- so many tests, unless there are none
+-- n tests, unless there are none
 unfoldable pub tests_text : NextestRunMode → ℕ → Fixed Open
 tests_text mode n = choice (n == 0) none (number Count n ⧺ words (codes " ") ⧺ Word (tests_word mode n) (free-tests_word_if mode _))
 
--- so many binaries, unless there are none
+-- n binaries, unless there are none
 unfoldable pub binaries_text : ℕ → Fixed Open
 binaries_text n = choice (n == 0) none (number Count n ⧺ words (codes " ") ⧺ Word (binaries_word n) (free-binaries_word n))
 
--- what stands between two numbers, where neither is 0
+-- the words between two numbers, if neither is 0
 abbrev pub between : Fixed Open → Bool → Bool → Fixed Open
 between t left right = choice (left || right) none t
 
--- so many tests and binaries
+-- n tests and k binaries
 unfoldable pub tests_and_binaries : NextestRunMode → ℕ → ℕ → Fixed Open
 tests_and_binaries mode tests binaries =
     tests_text mode tests ⧺ between (words (codes " and ")) (tests == 0) (binaries == 0) ⧺ binaries_text binaries
 
--- the name of a default filter that overrides have
+-- the name of the overrides' default filter
 unfoldable pub override_name : Text → Parts false Open
 override_name profile = toned Count (codes "default-filter") ⧺ words (codes " in ") ⧺ given_toned Count (codes "profile." ++ (profile ++ codes ".overrides"))
 
@@ -53,12 +53,12 @@ rerun_text mode n = choice (n == 0) none (tests_text mode n ⧺ words (codes " t
 abbrev pub has_no_filtered : SkipCounts → Bool
 has_no_filtered c = (c.skipped_tests_default_filter == 0) && (c.skipped_binaries_default_filter == 0)
 
--- what the default filter leaves out, unless that is nothing
+-- what the default filter leaves out, unless it leaves out nothing
 unfoldable pub filtered_text : NextestRunMode → SkipCounts → CompiledDefaultFilter → Parts false Open
 filtered_text mode c f =
     choice (has_no_filtered c) none (tests_and_binaries mode c.skipped_tests_default_filter c.skipped_binaries_default_filter ⧺ via_filter f)
 
--- of what is skipped, what passed before and what the default filter leaves out
+-- of the skipped tests, those that passed before and those that the default filter leaves out
 unfoldable pub included_text : NextestRunMode → SkipCounts → CompiledDefaultFilter → Parts false Open
 included_text mode c f =
     choice ((c.skipped_tests_rerun == 0) && has_no_filtered c) none
@@ -67,14 +67,14 @@ included_text mode c f =
     ⧺ between (words (codes ", and ")) (c.skipped_tests_rerun == 0) (has_no_filtered c)
     ⧺ filtered_text mode c f)
 
--- why so many tests and the binaries are skipped: the one reason, or the parts that have one
+-- why n tests and the binaries are skipped: the one reason, or the parts that have one
 unfoldable pub skip_reason : NextestRunMode → ℕ → SkipCounts → CompiledDefaultFilter → Parts false Open
 skip_reason mode tests c f =
     choice ((tests == c.skipped_tests_rerun) && (c.skipped_binaries == 0)) (words (codes " that already passed"))
     (choice ((tests == c.skipped_tests_default_filter) && (c.skipped_binaries == c.skipped_binaries_default_filter)) (via_filter f)
     (included_text mode c f))
 
--- the note in parentheses, where so many tests and the binaries are not none
+-- the note in parentheses, unless nothing is skipped
 unfoldable pub skip_note : NextestRunMode → ℕ → SkipCounts → CompiledDefaultFilter → Parts false Open
 skip_note mode tests c f =
     choice ((tests == 0) && (c.skipped_binaries == 0)) none

@@ -11,7 +11,7 @@ use Rattle.run_model.specs.declared.output.Highlight.{Highlight}
 use Rattle.run_model.specs.declared.output.LiveSpec.{LiveSpec}
 use Rattle.run_names.specs.declared.unit.UnitKind.{UnitKind}
 use Rattle.plain_text.specs.Indent.{indent}
-use Rattle.plain_text.specs.Lossy.{decoded_text}
+use Rattle.run_model.specs.Decoded.{decoded_text}
 use Rattle.plain_text.specs.Style.{Plain, Styled, part_texts, plain}
 use Rattle.plain_text.specs.Texts.{Text}
 use Rattle.plain_text.specs.declared.style.Styles.{Styles}
@@ -26,7 +26,7 @@ use Rattle.unit_report.specs.declared.unit_output.header.OutputName.TheVariants 
 use Rattle.unit_report.specs.declared.unit_output.reporter.ChildOutputSpec.{ChildOutputSpec}
 use Rattle.unit_report.specs.declared.unit_output.reporter.UnitOutputReporter.{UnitOutputReporter}
 
--- how the output of a unit is laid out: the lines before its parts, and what stands before each line that is not empty
+-- how the output of a unit is laid out: the lines before its parts, and what precedes each line that is not empty
 pub record OutputLayout : Type 0 where
   pub kind : UnitKind
   pub stdout_header : OutputHeader
@@ -50,7 +50,7 @@ abbrev pub is_replay : DisplayerKind → Bool
 is_replay Live = false
 is_replay Replay = true
 
--- an output that was not captured. It has its four spaces whatever the indentation
+-- an output that was not captured. It has its four spaces whatever the indentation is
 unfoldable pub not_captured_text : Styles → OutputName → Text
 not_captured_text s name =
     part_texts (Plain (codes "    (") ∷ Plain (output_name_text name) ∷ Plain (codes " ") ∷ Styled s.skip (codes "not captured") ∷ Plain (codes ")\n") ∷ [])
@@ -60,12 +60,12 @@ unfoldable pub shown_stream : Styles → Text → OutputHeader → Text → Opti
 shown_stream s margin header bytes highlight =
     header_text header ++ (plain (codes "\n") ++ indent margin true (captured s (decoded_text bytes) highlight))
 
--- a stream that is there is shown unless it is empty; whether empty ones are too is the reporter's choice
+-- a captured stream is shown unless it is empty; the reporter chooses whether empty ones are shown too
 unfoldable pub present_stream : UnitOutputReporter → Styles → Text → OutputHeader → Text → Option Part → Text
 present_stream r s margin header bytes highlight =
     if r.display_empty_outputs || not (length bytes == 0) then shown_stream s margin header bytes highlight else []
 
--- one of two streams. A record says where it was not captured
+-- one of two streams. A replay says that it was not captured
 unfoldable pub stream_text : UnitOutputReporter → Styles → Text → OutputHeader → OutputName → Option Text → Option Part → Text
 stream_text r s margin header name None highlight = if is_replay r.displayer_kind then not_captured_text s name else []
 stream_text r s margin header name (Some bytes) highlight = present_stream r s margin header bytes highlight
@@ -76,14 +76,14 @@ both_streams r s layout stdout stderr highlight =
     stream_text r s layout.output_indent layout.stdout_header name.Stdout stdout (option_and_then stdout_part highlight)
     ++ stream_text r s layout.output_indent layout.stderr_header name.Stderr stderr (option_and_then stderr_part highlight)
 
--- two streams. A record says in one line that neither was captured
+-- two streams. A replay says in one line that neither was captured
 unfoldable pub split_text : UnitOutputReporter → Styles → OutputLayout → Option Text → Option Text → Option Highlight → Text
 split_text r s layout None None highlight =
     if is_replay r.displayer_kind then not_captured_text s name.Output else both_streams r s layout None None highlight
 split_text r s layout None (Some stderr) highlight = both_streams r s layout None (Some stderr) highlight
 split_text r s layout (Some stdout) stderr highlight = both_streams r s layout (Some stdout) stderr highlight
 
--- what a process wrote. Of what was left unread nothing is asked: no text has it
+-- the output of a process. An output that was not loaded has no text
 unfoldable pub child_output : UnitOutputReporter → Styles → OutputLayout → ChildOutputDescription → Option Highlight → Text
 child_output r s layout (Split stdout stderr) highlight = split_text r s layout stdout stderr highlight
 child_output r s layout (Combined output) highlight =
@@ -100,7 +100,7 @@ unfoldable pub errors_text : OutputLayout → Option MessageAndCauses → Text
 errors_text layout None = []
 errors_text layout (Some chain) = errors_block layout chain
 
--- all that is shown of an attempt: errors first, then what it wrote, then an empty line
+-- all that is shown of an attempt: errors first, then its output, then an empty line
 unfoldable pub execution_output : UnitOutputReporter → Styles → OutputLayout → ChildExecutionOutputDescription LiveSpec ChildOutputDescription → Text
 execution_output r s layout (Output result output errors highlight) =
     errors_text layout errors ++ (child_output r s layout output highlight ++ plain (codes "\n"))

@@ -1,4 +1,4 @@
--- What a run left undone.
+-- Warnings of tests that a run left out.
 use Rattle.std.specs.Prelude.{ℕ, not, ◌&&◌, ◌==◌, Option, None, Some, codes}
 use Rattle.run_names.specs.Levels.{reason_words}
 use Rattle.run_names.specs.declared.config.NextestRunMode.{NextestRunMode}
@@ -12,7 +12,7 @@ use Rattle.report_words.specs.Plural.{tests_word_if, were_word}
 use Rattle.report_words.specs.Parts.{Fixed, Open, Lines, Count, Skip, none, words, Word, toned, Toned, number, ◌⧺◌, choice, openly}
 use Rattle.report_words.proofs.lemmas.FreeWords.{free-tests_word_if, free-were_word, free-reason_words}
 
--- the reason, where it is known
+-- the reason, if it is known
 unfoldable pub due_to : Option CancelReason → Fixed Open
 due_to None = openly none
 due_to (Some r) = words (codes " due to ") ⧺ Toned Skip (reason_words r) (free-reason_words r)
@@ -26,13 +26,13 @@ options_hint =
     ⧺ toned Count (codes "--max-fail")
     ⧺ words (codes ")")
 
--- they are named where a test's failure ended the run
+-- the options are named if a test's failure ended the run
 unfoldable pub hint_after : Option CancelReason → Fixed Open
 hint_after (Some reason.TestFailure) = options_hint
 hint_after (Some reason.TestFailureImmediate) = options_hint
 hint_after other = openly none
 
--- how many of how many tests were not run
+-- how many tests of how many were not run
 unfoldable pub not_run_count : NextestRunMode → ℕ → ℕ → Fixed Open
 not_run_count mode initial not_run =
     number Count not_run
@@ -44,7 +44,7 @@ not_run_count mode initial not_run =
     ⧺ Word (were_word (not ((not_run == 1) && (initial == 1)))) (free-were_word _)
     ⧺ words (codes " not run")
 
--- the warning that tests were not run, where there are such
+-- the warning that tests were not run, if there are any
 unfoldable pub not_run_warning : NextestRunMode → Option CancelReason → ℕ → ℕ → Fixed Lines
 not_run_warning mode why initial not_run =
     choice (not_run == 0) none
@@ -55,7 +55,7 @@ not_run_warning mode why initial not_run =
     ⧺ hint_after why
     ⧺ words (codes "\n"))
 
--- nothing is said of a setup script
+-- a setup script has no warning
 abbrev pub warning_of : NextestRunMode → Option CancelReason → RunStatsFailureKind → Fixed Lines
 warning_of mode why SetupScript = none
 warning_of mode why (Test initial not_run) = not_run_warning mode why initial not_run

@@ -6,61 +6,61 @@ ghost use Rattle.unit_report.specs.Levels.{progress_display_of, suppresses, rais
 
 use run_model::level::{FinalStatusLevel, StatusLevel};
 
-/// How the progress of a run is asked to be shown.
+/// How a user asks for progress to be shown.
 #[derive(Clone, Copy, Debug, PartialEq, Eq)]
 pub enum ShowProgress {
-    /// A bar where there can be one, else a counter.
+    /// A bar where one can be drawn, else a counter.
     Auto {
-        /// Whether a bar stands in the place of the lines of tests that passed.
+        /// Whether a bar replaces the lines of tests that passed.
         suppress_success: bool,
     },
-    /// Not at all.
+    /// None.
     None,
-    /// By a counter on each line.
+    /// A counter on each line.
     Counter,
-    /// By a bar with the running tests, where there can be one.
+    /// A bar with the running tests, where one can be drawn.
     Running,
 }
 
 /// How the progress of a run is shown.
 #[derive(Clone, Copy, Debug, PartialEq, Eq)]
 pub enum ProgressDisplay {
-    /// By a bar. A report to a writer draws none.
+    /// A bar. A report to a writer draws none.
     Bar,
-    /// By a counter on each line.
+    /// A counter on each line.
     Counter,
-    /// Not at all.
+    /// None.
     None,
 }
 
-/// The levels that a report has.
+/// The levels of a report.
 #[derive(Clone, Copy, PartialEq, Eq)]
 pub struct StatusLevels {
-    /// While the run goes on.
+    /// The level during the run.
     pub status_level: StatusLevel,
-    /// At its end.
+    /// The level of the final summary.
     pub final_status_level: FinalStatusLevel,
 }
 
-/// The progress display and the levels that a report has.
+/// The progress display and the levels of a report.
 #[derive(Clone, Copy, PartialEq, Eq)]
 pub struct ResolvedDisplay {
     /// How progress is shown.
     pub progress_display: ProgressDisplay,
-    /// What is shown.
+    /// The levels.
     pub status_levels: StatusLevels,
 }
 
 /// What a user and a profile ask of a report.
 #[derive(Clone, Copy, Debug, PartialEq, Eq)]
 pub struct DisplayConfig {
-    /// How progress is asked to be shown.
+    /// How progress should be shown.
     pub show_progress: ShowProgress,
     /// Whether the tests' output is not captured.
     pub no_capture: bool,
-    /// The level that a user asks for. It wins.
+    /// The level that a user asks for. It overrides the profile's.
     pub status_level: Option<StatusLevel>,
-    /// The final level that a user asks for. It wins.
+    /// The final level that a user asks for. It overrides the profile's.
     pub final_status_level: Option<FinalStatusLevel>,
     /// The profile's level.
     pub profile_status_level: StatusLevel,
@@ -69,7 +69,7 @@ pub struct DisplayConfig {
 }
 
 impl DisplayConfig {
-    /// Asks for these levels, and has them as the profile's too.
+    /// Asks for these levels, and makes them the profile's as well.
     ///
     /// ```
     /// let config = DisplayConfig::with_overrides(ShowProgress::Counter, false, StatusLevel::Fail, FinalStatusLevel::Fail);
@@ -93,8 +93,8 @@ impl DisplayConfig {
         }
     }
 
-    /// What the report has. A bar needs captured output, a terminal and no CI; without capture the status level is at
-    /// least Pass, since the tests' own output then stands between the lines.
+    /// Resolves what the report has. A bar needs captured output, a terminal and no CI; without capture the status level is at
+    /// least Pass, since the tests' own output then comes between the lines.
     #[tactic(auto, unfolding(crate::specs::Levels::resolved_display))]
     pub fn resolve(&self, is_terminal: bool, is_ci: bool) -> ResolvedDisplay
         ensures table { result ≡ resolved_display self.now is_terminal is_ci }
@@ -108,7 +108,6 @@ impl DisplayConfig {
         }
     }
 
-    // The levels, where the lines of tests that passed are suppressed or not.
     fn levels(&self, is_suppressed: bool) -> StatusLevels
         ensures { result ≡ resolved_levels self.now is_suppressed }
     {
@@ -141,7 +140,6 @@ fn raised_level(no_capture: bool, level: StatusLevel) -> StatusLevel
 }
 
 impl ShowProgress {
-    // How progress is shown, where there can be a bar or none.
     fn display(self, can_bar: bool) -> ProgressDisplay
         ensures { result ≡ progress_display_of self can_bar }
     {
@@ -165,7 +163,6 @@ impl ShowProgress {
         }
     }
 
-    // Whether a bar stands in the place of the lines of tests that passed.
     fn suppresses(self, can_bar: bool) -> bool
         ensures { result ≡ suppresses self can_bar }
     {

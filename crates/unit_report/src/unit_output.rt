@@ -1,4 +1,4 @@
-//! What a test wrote, as a report shows it.
+//! The output of a test, as a report shows it.
 
 mod captured;
 mod error_chain;
@@ -15,11 +15,11 @@ pub use overrides::OutputDisplayOverrides;
 pub use reporter::{ChildOutputSpec, UnitOutputReporter};
 pub use run_model::config::TestOutputDisplay;
 
-/// Whether a report is made while the run goes on or from its record.
+/// Whether a report is made during the run or from its record.
 #[derive(Clone, Copy, Debug, PartialEq, Eq)]
 pub enum DisplayerKind {
-    /// While the run goes on.
+    /// During the run.
     Live,
-    /// From a record. Streams that were not captured are said to be so.
+    /// From a record. It says which streams were not captured.
     Replay,
 }

@@ -1,4 +1,4 @@
--- Calls in turn (for `DisplayReporter::make_calls`, `DisplayReporter::report_event`, `run_report`, `write_delivered`).
+-- Calls in sequence (for `DisplayReporter::make_calls`, `DisplayReporter::report_event`, `run_report`, `write_delivered`).
 use Rattle.std.proofs.Common.{◌≡◌, ℕ, ◌+◌, ◌<◌, ◌≤◌, List, [], ◌∷◌, ◌++◌, length, reverse, take, get_or, sym, ap, ◌∙◌, subst, Result, Ok, Err, IfErr, OnOk, Some, ◌⊎◌, inl, inr, refl, append-nil}
 use Rattle.std.specs.Result.{IsErrOf}
 use Rattle.std.proofs.lemmas.List.{take_more, take_all, reverse-append}
@@ -22,22 +22,22 @@ use Rattle.console_reporter.specs.Outcomes.Side.{Report, Records}
 use Rattle.console_reporter.specs.HeldState.{MayGrow, StandsAfter}
 use Rattle.console_reporter.specs.declared.imp.reporter.DisplayReporter.{DisplayReporter}
 
--- one call more is accepted
+-- one more call is accepted
 pub accepted_next : (config : Configuration) (calls : List ReportCall) (call : ReportCall) → AreAccepted config calls → IsAccepted config call → AreAccepted config (calls ++ call ∷ [])
 accepted_next config [] call all one = (one, tt)
 accepted_next config (first ∷ calls) call all one = (all.0, accepted_next config calls call all.1 one)
 
--- the same of the calls before a place and the one that is read there
+-- the calls up to the one at this index are accepted
 pub accepted_read : (config : Configuration) (calls : List ReportCall) (i : ℕ) (call : ReportCall) → call ≡ get_or calls i call → i < length calls →
     AreAccepted config (take i calls) → IsAccepted config call → AreAccepted config (take (i + 1) calls)
 accepted_read config calls i call is within all one =
     subst (AreAccepted config) (sym (take_more calls i call within ∙ ap (λ c. take i calls ++ c ∷ []) (sym is))) (accepted_next config (take i calls) call all one)
 
--- past the last place all calls are accepted
+-- past the last index all calls are accepted
 pub accepted_to_end : (config : Configuration) (calls : List ReportCall) (i : ℕ) → length calls ≤ i → AreAccepted config (take i calls) → AreAccepted config calls
 accepted_to_end config calls i h all = subst (AreAccepted config) (take_all i calls h) all
 
--- the past of the next position, by the call that is read at this one
+-- the past of the next position, from the call at this one
 pub past_read : (calls : List ReportCall) (i : ℕ) (call : ReportCall) → call ≡ get_or calls i call → i < length calls → past_at calls (i + 1) ≡ call ∷ past_at calls i
 past_read calls i call is within =
     ap reverse (take_more calls i call within) ∙ reverse-append (take i calls) (get_or calls i call ∷ []) ∙ ap (λ c. c ∷ past_at calls i) (sym is)
@@ -46,7 +46,7 @@ past_read calls i call is within =
 pub past_all : (calls : List ReportCall) (i : ℕ) → length calls ≤ i → past_at calls i ≡ reverse calls
 past_all calls i h = ap reverse (take_all i calls h)
 
--- what the causes of a stop say
+-- the causes of a stop
 stops_device : {S : Type 0} (side : Side) (m : Meaning S) (a b : S) (t : List ℕ) → Stops side m a t (error_for side Device) b → m.stops a t Device b
 stops_device Report m a b t h = h
 stops_device Records m a b t h = h
@@ -60,12 +60,12 @@ module _ (side : Side) {S : Type 0} {m : Meaning S} (laws : WriterLaws m) (a b c
   pub stopped_known : e ≡ Failed → ⊥
   stopped_known is = subst (λ x. Stops side m b u x c) is stopped
 
--- a fault of the writer, as the caller of a reporter sees it
+-- a fault of the writer, as the caller sees it
 pub stops_error : {S : Type 0} (m : Meaning S) (a b : S) (t : List ℕ) (fault : WriteFault) (e : WriteEventError) → e ≡ error_for Report fault → m.stops a t fault b → Stops Report m a t e b
 stops_error m a b t Device e is h = subst (λ x. Stops Report m a t x b) (sym is) h
 stops_error m a b t RefusedMemory e is h = subst (λ x. Stops Report m a t x b) (sym is) (inl h)
 
--- and what stands of the store then
+-- the store is then untouched
 pub record_untouched : {S : Type 0} {m : Meaning S} (laws : WriterLaws m) (a b : S) (t : List ℕ) (e : WriteEventError) → IsOfConsole e → b ≡ a → Stops Records m a t e b
 record_untouched laws a b t RetriedSuccess is same = absurd is
 record_untouched laws a b t OutputNotLoaded is same = absurd is
@@ -87,7 +87,7 @@ console_not_store Memory is h = cc
 console_not_store Failed is h = is
 console_not_store StoreIo is h = is
 
--- where the report of an event stops, the call breaks, and its record was not begun
+-- where the report of an event stops, the call fails, and its record was not begun
 module _ {W S : Type 0} (m : Meaning W) (n : Meaning S) (laws : WriterLaws (store_meaning n)) (old new : DisplayReporter W S) (event : TestEvent) where
   abbrev IsStopped : WriteEventError → Type 0
   IsStopped e = (config : Configuration) (past : List ReportCall) → StandsAfter config past old → Stops Report m old.writer.now (text config past (Event event)) e new.writer.now
@@ -106,7 +106,7 @@ module _ {W S : Type 0} (m : Meaning W) (n : Meaning S) (laws : WriterLaws (stor
     delivered = λ same. absurd (console_not_store error console (ap Err same));
   }
 
--- what holds after a run for each configuration after which its reporter stood holds for this one
+-- what holds after a run for each configuration of its reporter holds for this one
 module _ {W S : Type 0} (config : Configuration) (reporter : DisplayReporter W S) (stands : StandsAfter config [] reporter) where
   pub ok_here : (P : Configuration → Type 0) (r : Result (Unit {0}) RunFault) → OnOk r ((c : Configuration) → StandsAfter c [] reporter → P c) → OnOk r (P config)
   ok_here P (Ok done) h = h config stands

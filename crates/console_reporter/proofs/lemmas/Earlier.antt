@@ -1,4 +1,4 @@
--- No report and no record goes by what the attempts before the last one wrote (for `RecordedRun::replay`).
+-- No report and no record depends on the output of attempts before the last one (for `RecordedRun::replay`).
 use Rattle.std.proofs.Common.{◌≡◌, ℕ, Bool, false, Option, None, Some, List, [], ◌∷◌, ◌++◌, map, reverse, not, codes, if◌then◌else◌, refl, sym, ap, ap₂, subst, ◌∙◌}
 use Rattle.std.specs.List.{position_or_len, slice_get}
 use Rattle.std.specs.Option.{is_some, option_and_then, option_map, option_map_or}
@@ -72,7 +72,7 @@ same-last s elapsed (TestFinished stress test success failure statuses stats) = 
 }
 same-last s elapsed other = record { reason = refl; entry = λ before. refl; text = λ known. refl }
 
--- it is refused alike
+-- it is refused for the same reason
 pub refused-last : (d : OutputLoadDecider) (e : TestEventKind) → event_refusal d (kind_of_last e) ≡ event_refusal d e
 refused-last d (TestFinished stress test success failure statuses stats) =
     ap (λ (x : StatusSummary). if option_map_or (λ (o : Written). not (has_loaded_output o)) (if loads_finish d success failure x then Some statuses.last.output else None) false then Some OutputNotLoaded else None)
@@ -89,7 +89,7 @@ record-last (Some store) (TestFinished stress test success failure statuses stat
     (last-summary statuses)
 record-last (Some store) other = refl
 
--- the same of calls
+-- a call with the output of the last attempt alone
 abbrev pub call_of_last : ReportCall → ReportCall
 call_of_last (Event e) = Event (record e { kind = kind_of_last e.kind })
 call_of_last (Header h) = Header h

@@ -1,4 +1,4 @@
--- What is observed is loaded, and in a uninterrupted run what is loaded is observed (for `DisplayReporter::output_load_decider`).
+-- What is observed is loaded, and in an uninterrupted run what is loaded is observed (for `DisplayReporter::output_load_decider`).
 use Rattle.std.proofs.Common.{◌≢◌, ◌≡◌, ℕ, Bool, true, false, List, [], ◌∷◌, ◌++◌, Option, None, Some, refl, sym, ap, ◌∙◌, reverse, append_assoc, inl, inr, codes, arith, lit<, subst, ◌<◌, ◌||◌, get_or}
 use Rattle.std.specs.List.{flat_map}
 use Rattle.std.specs.Option.{option_to_list}
@@ -28,7 +28,7 @@ use Rattle.run_names.specs.declared.stress.StressIndex.{StressIndex}
 use Rattle.run_names.specs.declared.time.Nanos.{Nanos}
 use Rattle.run_names.specs.declared.unit.UnitKind.TheVariants as unit
 use Rattle.plain_text.specs.Texts.{Text}
-use Rattle.plain_text.proofs.lemmas.Decoded.{decoded-same}
+use Rattle.run_model.proofs.lemmas.Decoded.{decoded-same}
 use Rattle.store_text.specs.Netstring.{netstring, netstring_head}
 use Rattle.store_text.specs.Record.{record_text}
 use Rattle.store_text.specs.StoredOutput.{is_stored, stored_output}
@@ -86,7 +86,7 @@ same-decision d output (TestAttemptFailedWillRetry stress test status delay fail
 same-decision d output (TestFinished stress test success failure statuses stats) = refl
 same-decision d output other = refl
 
--- left unread, combined outputs are one
+-- unloaded, all combined outputs are one
 same-unread : (t u : Text) (e : TestEventKind) → unloaded_kind (with_output (combined t) e) ≡ unloaded_kind (with_output (combined u) e)
 same-unread t u (SetupScriptFinished stress id program args status) = refl
 same-unread t u (TestAttemptFailedWillRetry stress test status delay failure) = refl
@@ -100,7 +100,7 @@ undecided d t (TestAttemptFailedWillRetry stress test status delay failure) is =
 undecided d t (TestFinished stress test success failure statuses stats) is = cc
 undecided d t other is = refl
 
--- one record where one call stands
+-- records around one call
 one_record : (store : Option StoreConfig) (before after : List ReportCall) (x y : ReportCall) → stored_text store x ≡ stored_text store y → records store (before ++ x ∷ after) ≡ records store (before ++ y ∷ after)
 one_record store [] after x y is = ap (λ t. t ∷ records store after) is
 one_record store (call ∷ before) after x y is = ap (λ ts. stored_text store call ∷ ts) (one_record store before after x y is)
@@ -111,14 +111,14 @@ record_of_one store (call ∷ before) after x y is =
     let rest : records store (before ++ x ∷ after) ≡ records store (before ++ y ∷ after) = cc in record_of_one store before after x y rest
 
 module _ (config : Configuration) (before after : List ReportCall) (event : TestEvent) where
-  -- what the decider skips can be left unread
+  -- what the decider skips can be unloaded
   unread-report_texts : (t : Text) → decision (decider_of config) event.kind ≡ Some Skip →
       report_texts config (reverse (before ++ Event (unloaded_event (record event { kind = with_output (combined t) event.kind })) ∷ after)) ≡ report_texts config (reverse (before ++ writing t event ∷ after))
   unread-report_texts t skips =
       same-but-one config before after (record event { kind = with_output (combined t) event.kind }) _
       (same-unloaded (settings_of config) config.store event.elapsed (with_output (combined t) event.kind) (ap is_skip (same-decision (decider_of config) (combined t) event.kind ∙ skips)))
 
-  -- nor is its record another one
+  -- nor does its record differ
   unread-records : (t : Text) → decision (decider_of config) event.kind ≡ Some Skip →
       records config.store (before ++ Event (unloaded_event (record event { kind = with_output (combined t) event.kind })) ∷ after) ≡ records config.store (before ++ writing t event ∷ after)
   unread-records t skips =
@@ -140,13 +140,13 @@ module _ (config : Configuration) (before after : List ReportCall) (event : Test
   observed_is_loaded None is (inr kept) = absurd (kept (ap (λ kind. records config.store (before ++ Event (record event { kind = kind }) ∷ after))
       (undecided (decider_of config) (codes "a") event.kind is ∙ sym (undecided (decider_of config) (codes "b") event.kind is))))
 
--- one text where one call stands
+-- texts around one call
 text_of_one : (config : Configuration) (later past : List ReportCall) (x y : ReportCall) → report_texts config (later ++ x ∷ past) ≡ report_texts config (later ++ y ∷ past) → text config past x ≡ text config past y
 unfolding report_texts
 text_of_one config [] past x y is = (same_from_push _ _ _ _ is).1
 text_of_one config (call ∷ later) past x y is = text_of_one config later past x y (same_from_push _ _ _ _ is).0
 
--- so it is enough that the event's own text is another one
+-- so it suffices that the event's own text differs
 observed_at_once : (config : Configuration) (before after : List ReportCall) (event : TestEvent) →
     text config (reverse before) (writing (codes "a") event) ≢ text config (reverse before) (writing (codes "b") event) → IsSeen config before event after
 observed_at_once config before after event differ same =

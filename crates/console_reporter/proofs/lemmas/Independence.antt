@@ -1,4 +1,4 @@
--- An exchange of neighbours, and other statistics, leave texts as they are (for `run_report`).
+-- Swapping neighbours, and other statistics, do not change texts (for `run_report`).
 use Rattle.std.proofs.Common.{◌≡◌, ◌<◌, List, [], ◌∷◌, ◌++◌, Option, None, Some, refl, sym, ap, ◌∙◌, subst, reverse, Ordering, Less, Equal, Greater}
 use Rattle.std.specs.FinMap.{nat_cmp-IsAntisymmetric, slice_cmp-IsAntisymmetric}
 use Rattle.std.specs.List.{flat_map}
@@ -25,7 +25,7 @@ use Rattle.reporter_state.proofs.lemmas.Keys.{is_before-ranks}
 use Rattle.reporter_state.proofs.lemmas.Orders.{order-swap}
 use Rattle.console_reporter.proofs.lemmas.Same.{IsSameEvent, same-but-one}
 
--- entries of two keys may be exchanged
+-- entries of two keys may be swapped
 swapped : (front back : List FinalOutputEntry) (x y : FinalOutputEntry) (c : Ordering) → entry_cmp x y ≡ c → (entry_key x ≡ entry_key y → ⊥) →
     final_order (front ++ y ∷ x ∷ back) ≡ final_order (front ++ x ∷ y ∷ back)
 swapped front back x y Less is h = sym (order-swap is_before is_before-ranks front back x y (ap is_lt is))
@@ -40,13 +40,13 @@ apart front back None y h = refl
 apart front back (Some x) None h = refl
 apart front back (Some x) (Some y) h = swapped front back x y (entry_cmp x y) refl h
 
--- what is kept of a call is the same under each uninterrupted reason
+-- the entry of a call is the same under each uninterrupted reason
 uninterrupted_after : (config : Configuration) (past : List ReportCall) (call : ReportCall) → cancel past < 5 → uninterrupted_entries (settings_of config) call ≡ option_to_list (entry_after config past call)
 uninterrupted_after config past (Event e) h = ap option_to_list (sym (uninterrupted_entry (settings_of config) (cancel past) e.kind h))
 uninterrupted_after config past (Header k) h = refl
 uninterrupted_after config past (Prefix p) h = refl
 
--- the order of all that is kept
+-- the order of all kept entries
 exchanged : (s : Settings) (before after : List ReportCall) (first second : ReportCall) (x y : Option FinalOutputEntry) →
     uninterrupted_entries s first ≡ option_to_list x → uninterrupted_entries s second ≡ option_to_list y → (AreOfOneKey x y → ⊥) →
     final_order (flat_map (uninterrupted_entries s) (before ++ second ∷ first ∷ after)) ≡ final_order (flat_map (uninterrupted_entries s) (before ++ first ∷ second ∷ after))
@@ -72,7 +72,7 @@ order_independent config calls before after first second end is ends uninterrupt
     ∙ ap (λ entries. event_text s (listing entries) end.elapsed.0 end.kind) (exchanged s before after first second _ _ kept_first kept_second differ)
     ∙ sym (uninterrupted_end config (before ++ first ∷ second ∷ after) end one ends)
 
--- a finished test without a counter is the same event, whatever the statistics
+-- a finished test without a counter is the same event, whatever the statistics are
 same-finished : (s : Settings) (elapsed : Nanos) (e : TestEventKind) (stats : RunStats) → s.counter_width ≡ None →
     IsSameEvent s (record { elapsed = elapsed; kind = e }) (record { elapsed = elapsed; kind = with_stats stats e })
 unfolding event_text

@@ -56,7 +56,7 @@ use Rattle.reporter_state.specs.declared.decider.OutputLoadDecider.{OutputLoadDe
 use Rattle.reporter_state.specs.declared.faults.WriteEventError.TheVariants.{OutputNotLoaded, RetriedSuccess}
 use Rattle.console_reporter.proofs.lemmas.Same.{AreSame, IsSameEvent, same-call, same-event, same-itself, same-report}
 
--- an answer of Skip
+-- the decision is Skip
 not_loaded : (b : Bool) → is_skip (Some (load_if b)) ≡ true → b ≡ false
 not_loaded true h = absurd (false≢true h)
 not_loaded false h = refl
@@ -90,11 +90,11 @@ never-kept : (s : Settings) (f : FinishReport) (last : Attempt) → is_ever_show
 never-kept s f last h =
     ap (λ (o : FinalOutput). if is_kept s f then Some (record { test = kept_test f.test; output = o }) else None) (never-output f last h)
 
--- attempts come to the same, whatever they wrote
+-- the outcome of attempts does not depend on their output
 pub unloaded-summary : (a : Attempts LiveSpec ChildOutputDescription) → summary_of (unloaded_attempts a) ≡ summary_of a
 unloaded-summary a = rw (length-map a.earlier unloaded_attempt) refl
 
--- the same of its event
+-- nor does that of their event
 module _ (s : Settings) (stress : Option StressIndex) (test : TestInstanceId) (success failure : TestOutputDisplay) (statuses : Attempts LiveSpec ChildOutputDescription) (stats : RunStats)
     (never : is_ever_shown (display_for s.unit_output.overrides success failure (summary_of statuses)) ≡ false) where
   abbrev finish : ℕ → FinishReport
@@ -174,12 +174,12 @@ same-calls config (Event e ∷ calls) =
 same-calls config (Header h ∷ calls) = same-call config calls (unread (decider_of config) calls) (same-calls config calls) (Header h)
 same-calls config (Prefix p ∷ calls) = same-call config calls (unread (decider_of config) calls) (same-calls config calls) (Prefix p)
 
--- nothing is lacking of what is not needed
+-- what is not needed is not missing
 none-needed : (is_needed : Bool) (output : Written) → is_needed ≡ false →
     option_map_or (λ (o : Written). not (has_loaded_output o)) (if is_needed then Some output else None) false ≡ false
 none-needed is_needed output h = rw h refl
 
--- the refusal of an event does not go by what its skipped output is
+-- the refusal of an event does not depend on its skipped output
 same-refusal : (d : OutputLoadDecider) (e : TestEventKind) → is_skipped d e ≡ true → event_refusal d (unloaded_kind e) ≡ event_refusal d e
 same-refusal d (SetupScriptFinished stress id program args status) h =
     let never = not_loaded (loads_script status.result) h in
@@ -227,7 +227,7 @@ map_reverse f (x ∷ xs) =
     ap (map f) (reverse-append (x ∷ []) xs) ∙ map-append f (reverse xs) (x ∷ []) ∙ ap (λ ys. ys ++ f x ∷ []) (map_reverse f xs)
     ∙ sym (reverse-append (f x ∷ []) (map f xs))
 
--- the same from the latest call on, as a past has them
+-- from the latest call on, as in a past
 same-past : (config : Configuration) (d : OutputLoadDecider) (calls : List ReportCall) → decider_of config ≡ d → AreSame config (reverse calls) (reverse (unread d calls))
 same-past config d calls is =
     subst (AreSame config (reverse calls)) (map_reverse (unread_call d) calls)

@@ -12,7 +12,7 @@ use Rattle.plain_text.specs.Indent.{indent}
 use Rattle.plain_text.specs.Style.{plain}
 use Rattle.plain_text.specs.Texts.{Text}
 use Rattle.plain_text.specs.declared.style.Styles.{Styles}
-use Rattle.plain_text.proofs.lemmas.Decoded.{decoded-same}
+use Rattle.run_model.proofs.lemmas.Decoded.{decoded-same}
 use Rattle.unit_report.specs.Captured.{captured, coloured_output, plain_output, reset_output}
 use Rattle.unit_report.specs.Header.{header_text}
 use Rattle.unit_report.specs.UnitOutput.{child_output, errors_text, execution_output, present_stream, shown_stream}

@@ -1,4 +1,4 @@
--- What is kept of the calls, and handed in for the entries of a summary (for `free-event_parts`).
+-- The entries of the calls, and what is given for them (for `free-event_parts`).
 use Rattle.std.proofs.Common.{◌≡◌, ℕ, Bool, true, false, cond, refl, List, [], ◌∷◌, ◌++◌, Option, None, Some, ap₂}
 use Rattle.std.specs.List.{AllByRecursion}
 use Rattle.std.specs.Option.{option_to_list}
@@ -34,7 +34,7 @@ use Rattle.reporter_state.specs.declared.final_output.FinalOutput.{FinalOutput}
 use Rattle.reporter_state.specs.declared.final_output.FinalOutput.TheVariants.{Executed, ExecutedWithOutput, Skipped}
 use Rattle.reporter_state.specs.declared.final_output.FinalOutputEntry.{FinalOutputEntry}
 
--- what an entry shows of its test holds no escape character, but for the output where it need not
+-- an entry holds no escape character, except in an output that may
 abbrev IsPlainFinal : Bool → FinalOutput → Type 0
 IsPlainFinal k (Executed summary) = IsPlainResult summary.result
 IsPlainFinal k (ExecutedWithOutput summary output) = IsPlainResult summary.result × IsPlainWritten k output
@@ -62,7 +62,7 @@ All-append P (x ∷ xs) ys h j = (h.0, All-append P xs ys h.1 j)
 pub All-final_order : (P : FinalOutputEntry → Type 0) (es : List FinalOutputEntry) → AllByRecursion P es → AllByRecursion P (final_order es)
 All-final_order P es h = All-ordered_by is_before is_before-ranks P es h
 
--- what is kept of a test that finished
+-- the entry of a finished test
 plain-finished : (k : Bool) (f : FinishReport) → IsPlainFinish k f → IsPlainFinal k (final_output f)
 unfolding final_output
 plain-finished k f h = go (timed_at_end f.row f.display)
@@ -71,7 +71,7 @@ plain-finished k f h = go (timed_at_end f.row f.display)
     go true = (h.summary, h.output)
     go false = h.summary
 
--- an entry, where it is kept
+-- an entry, if it is kept
 abbrev entry_if : Bool → FinalOutputEntry → Option FinalOutputEntry
 entry_if b e = cond b (Some e) None
 
@@ -114,7 +114,7 @@ same-kept s (Event e ∷ past) = ap₂ (λ es o. es ++ option_to_list o) (same-k
 same-kept s (Header x ∷ past) = same-kept s past
 same-kept s (Prefix p ∷ past) = same-kept s past
 
--- entries are shown by nothing of the settings but what is theirs
+-- the entry's text depends on these settings only
 same-final : (b : Bool) (t : Styles) (s : Settings) (test : CountedInstance) (x : FinalOutput) → paint t (final_text (painted b s) test x) ≡ paint t (final_text s test x)
 unfolding final_text unit_output
 same-final b t s test (Executed summary) = refl
@@ -125,7 +125,7 @@ pub same-entries : (b : Bool) (t : Styles) (s : Settings) (es : List FinalOutput
 same-entries b t s [] = refl
 same-entries b t s (e ∷ es) = ap₂ (λ x y. x ++ y) (same-final b t s (borrowed_test e.test) e.output) (same-entries b t s es)
 
--- the prefix that stands
+-- the current prefix
 pub plain-prefix : (k : Bool) (past : List ReportCall) → AllByRecursion (IsPlainCall k) past → HoldsIf IsPlainPrefix (prefix past)
 unfolding prefix
 plain-prefix k [] h = tt

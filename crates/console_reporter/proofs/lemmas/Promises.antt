@@ -41,7 +41,7 @@ not_both b is_false is_true = cc
 none_not_some : (o : Option WriteEventError) → o ≡ None → is_some o ≡ true → ⊥
 none_not_some o none some = cc
 
--- a reporter that has failed stands after no past
+-- a reporter that has failed is after no past
 pub failed_stands : {W S : Type 0} (config : Configuration) (past : List ReportCall) (reporter : DisplayReporter W S) → HasFailed reporter → StandsAfter config past reporter → ⊥
 failed_stands config past reporter failed stands = not_both _ stands.works failed
 
@@ -49,7 +49,7 @@ pub same-reporter : {W S : Type 0} (a : DisplayReporter W S) → IsSameReporter 
 same-reporter a = record { writer = refl; store = same-store a.store; settings = refl }
 
 module _ {W S : Type 0} (m : Meaning W) (n : Meaning S) (old new : DisplayReporter W S) (call : Option ReportCall) where
-  -- nothing is owed of a reporter that has failed but that it says so and stays
+  -- a reporter that has failed only has to say so and not change
   pub promise_failed : HasFailed old → Promises m n old call (Err Failed) old
   promise_failed failed = record {
     same = same-reporter old;
@@ -90,7 +90,7 @@ module _ {W S : Type 0} (m : Meaning W) (n : Meaning S) (old new : DisplayReport
 
   module _ (works : old.state.has_failed ≡ false) (same : IsSameReporter old new)
       (accepted : (config : Configuration) (past : List ReportCall) → StandsAfter config past old → None ≡ refusal_for config call) where
-    -- the call was made
+    -- the call succeeded
     pub promise_told : Tells m n old call new → (IsDelivered call ⊎ AreDelivered m n old → AreDelivered m n new) → Promises m n old call (Ok tt) new
     promise_told told delivered = record {
       same = same;
@@ -120,7 +120,7 @@ module _ {W S : Type 0} (m : Meaning W) (n : Meaning S) (old new : DisplayReport
       failed = λ before. absurd (not_both _ works before);
     }
 
--- of a text that was not begun nothing was accepted
+-- nothing was accepted of a text that was not begun
 nothing_accepted : {S : Type 0} {m : Meaning S} → WriterLaws m → (a b : S) (t : Text) → b ≡ a → HasFront m a t b
 nothing_accepted {S} {m} laws a b t same = record { front = []; rest = t; whole = refl; accepted = subst (λ x. m.accepts a [] x) (sym same) (laws.nothing a) }
 
@@ -137,12 +137,12 @@ memory_broken {W} {S} {m} {n} laws store_laws old new call grows same same_store
   delivered = λ is. absurd (memory_not_store_io is);
 }
 
--- an event that a reporter accepts is refused by no configuration after which it stands
+-- an event that the reporter accepts is accepted by every configuration that it can have
 pub event_accepted : {W S : Type 0} (reporter : DisplayReporter W S) (event : TestEvent) → event_refusal (decider_by reporter.state.settings (config_of reporter.store)) event.kind ≡ None →
     (config : Configuration) (past : List ReportCall) → StandsAfter config past reporter → None ≡ refusal_for config (Some (Event event))
 event_accepted reporter event none config past stands = sym none ∙ ap (λ d. event_refusal d event.kind) (ap₂ decider_by stands.settings stands.store)
 
--- and one that it refuses changes nothing
+-- and an event that it refuses changes nothing
 pub event_refused : {W S : Type 0} (m : Meaning W) (n : Meaning S) (reporter : DisplayReporter W S) (event : TestEvent) (refusal : Option WriteEventError) →
     reporter.state.has_failed ≡ false → IfSome refusal (λ e. refusal_in e ≡ Some e) → refusal ≡ event_refusal (decider_by reporter.state.settings (config_of reporter.store)) event.kind →
     IfSome refusal (λ e. Promises m n reporter (Some (Event event)) (Err e) reporter)

@@ -12,7 +12,7 @@ use Rattle.console_reporter.specs.Outcomes.Side.{Report, Records}
 use Rattle.reporter_state.specs.declared.faults.WriteEventError.{WriteEventError}
 use Rattle.reporter_state.specs.declared.faults.WriteEventError.TheVariants.{RetriedSuccess, OutputNotLoaded, Io, Memory, Failed, StoreIo}
 
--- what is not there
+-- an absent value
 pub none_where_not_some : {X : Type 0} (o : Option X) → ((x : X) → o ≡ Some x → ⊥) → o ≡ None
 none_where_not_some None not_some = refl
 none_where_not_some (Some x) not_some = absurd (not_some x refl)
@@ -21,7 +21,7 @@ none_where_not_some (Some x) not_some = absurd (not_some x refl)
 pub not_refused : (e : WriteEventError) → refusal_in e ≡ None → is_some (refusal_in e) ≡ true → ⊥
 not_refused e none some = cc
 
--- a refusal leaves both writers as they were
+-- a refusal does not change either writer
 stops_refused : {S : Type 0} (side : Side) (m : Meaning S) (w : S) (t : List ℕ) (e : WriteEventError) → refusal_in e ≡ Some e → Stops side m w t e w
 stops_refused side m w t RetriedSuccess told = refl
 stops_refused side m w t OutputNotLoaded told = refl

@@ -48,7 +48,7 @@ record IsPlainKnown (k : Bool) (known : Known) : Type 0 where
   prefix : HoldsIf IsPlainPrefix known.prefix
   entries : AllByRecursion (IsPlainEntry k) known.entries
 
--- what is handed in for the parts of an event
+-- what is given for the parts of an event
 free-event_parts : (k : Bool) (s : Settings) (known : Known) (elapsed : ℕ) (e : TestEventKind) → HasNoEscape s.default_filter.profile → IsPlainKnown k known → IsPlainKind k e → AreFree k (event_parts s known elapsed e)
 unfolding listed_text
 free-event_parts k s known elapsed (RunStarted counts id profile) c p h = free-run_started_text k s known.prefix counts id profile c p.prefix h
@@ -67,7 +67,7 @@ free-event_parts k s known elapsed (RunFinished taken stats outstanding) c p h =
     (tt, ((free-entries_text k s known.entries p.entries, tt), (free-not_seen_text k s.mode outstanding h, tt)))
 free-event_parts k s known elapsed other c p h = tt
 
--- nothing but styles is read of the colour
+-- an event depends on the colour only through the styles
 same-event : (b : Bool) (t : Styles) (s : Settings) (known : Known) (elapsed : ℕ) (e : TestEventKind) → paint t (event_parts (painted b s) known elapsed e) ≡ paint t (event_parts s known elapsed e)
 unfolding run_started_text starting_line setup_script_slow_text setup_script_finished_text failed_script_output unit_output is_level_shown shows_starts display_of is_line_shown
     test_started_text test_retry_started_text start_line retry_start_line command_text test_slow_text slow_text terminating_text terminating_word has_number is_level_exceeded

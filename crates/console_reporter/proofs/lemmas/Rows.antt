@@ -1,4 +1,4 @@
--- Worked rows: what the definitions say of a run that is written out.
+-- Worked rows: what the definitions say of a short run.
 use Rattle.std.proofs.Common.{◌≡◌, ℕ, ℤ, Bool, false, List, [], ◌∷◌, codes, refl, pos, None, Some, Option}
 use Rattle.std.specs.Fmt.{digits}
 use Rattle.std.specs.Str.{chars}
@@ -106,7 +106,7 @@ unfolding run_finished_text summary_line run_counts_text initial_count_text hbar
     summary_text counted_front passed_notes passed_front failed_counts failed_count leaky_failed_note exec_failed_count timed_out_count
 summary = refl
 
--- a test that failed with a code at its one attempt, after so long
+-- a test whose only attempt failed with a code after this time
 abbrev failed : Written → ℤ → Nanos → Attempts LiveSpec ChildOutputDescription
 failed output code time = record {
   earlier = [];
@@ -128,7 +128,7 @@ named : test_text settings.styles.list_styles None None (codes "alpha") (codes "
 unfolding test_text stress_prefix counter_prefix test_name_text plain styled last_colons
 named = refl
 
--- its line, at once and in the summary
+-- its line, in the run and in the summary
 failed_line : (kind : StatusLineKind) (test : TestInstanceId) (output : Written) (code : ℤ) (time : Nanos) →
     test.binary_id.now ≡ codes "alpha" → test.test_name.now ≡ codes "mod::t2" → time.0 ≡ 1500000000 →
     paint settings.styles (status_line kind (record { stress_index = None; counter = None; instance = test }) (summary_of (failed output code time))) ≡ codes "        FAIL [   1.500s] alpha mod::t2\n"
@@ -136,7 +136,7 @@ unfolding status_line status_prefix long_word abort_line flaky_failure_line plai
 failed_line Final test output code time binary name after = rw (binary, name, after, lasted, named) refl
 failed_line Intermediate test output code time binary name after = rw (binary, name, after, lasted, named) refl
 
--- what a second end of the run finds kept: the same entries
+-- a second end of the run lists the same entries
 twice : (event finish : TestEvent) (stress : Option StressIndex) (test : TestInstanceId) (success : TestOutputDisplay) (output : Written) (code : ℤ) (time elapsed : Nanos) →
     event.kind ≡ TestFinished stress test success Never (failed output code time) stats → finish.kind ≡ RunFinished elapsed (Single stats) None →
     final_order (kept settings (Event finish ∷ Event event ∷ [])) ≡ finished_entry (test_finish settings 0 stress test success Never (failed output code time) stats) ∷ []

@@ -1,4 +1,4 @@
--- Calls in turn, of a reporter with both its writers (for `DisplayReporter::make_calls`, `run_report`, `run_report_with_store`).
+-- Calls in sequence, of a reporter with both its writers (for `DisplayReporter::make_calls`, `run_report`, `run_report_with_store`).
 use Rattle.std.proofs.Common.{◌≡◌, ◌≤◌, ◌⊎◌, inl, inr, List, [], ◌++◌, Option, Some, None, Result, Err, OnOk, IfErr, IsTrue, false, append-nil, length, refl, reverse, subst, sym, take, ◌∙◌}
 use Rattle.std.proofs.lemmas.Result.{on_ok_weaker, IfErr-weaker}
 use Rattle.std.specs.Option.{option_map_or}
@@ -31,7 +31,7 @@ use Rattle.console_reporter.proofs.lemmas.Stores.{absent_stop, same-store-after,
 pub same-after : {W S : Type 0} {a b c : DisplayReporter W S} → IsSameReporter a b → IsSameReporter b c → IsSameReporter a c
 same-after p q = record { writer = q.writer ∙ p.writer; store = same-store-after _ _ _ p.store q.store; settings = q.settings ∙ p.settings }
 
--- what a call may take memory for, the call at its place may
+-- if a call may allocate, the call at its index may
 grow_at : {W S : Type 0} (config : Configuration) (past : List ReportCall) (call : Option ReportCall) (reporter : DisplayReporter W S) → StandsAfter config past reporter → MayGrowFor reporter call →
     IsTrue (option_map_or (may_grow_in (settings_of config) (cancel past)) call false)
 grow_at config past None reporter stands grows = absurd grows
@@ -40,11 +40,11 @@ grow_at config past (Some call) reporter stands grows =
     (subst (λ n. IsTrue (may_grow_in reporter.state.settings n call)) stands.reason grows)
 
 module _ {W S : Type 0} {m : Meaning W} {n : Meaning S} (laws : WriterLaws m) (store_laws : WriterLaws n) where
-  -- no call was made
+  -- no call so far
   pub run_begun : (a : DisplayReporter W S) → TellsRun m n a [] a
   run_begun a = record { accepted = λ config stands. laws.nothing _; stored = λ config stands. store-nothing store_laws _; stands = λ config stands. stands }
 
-  -- one call more was made, or the report has its end
+  -- one more call, or the end of the report
   pub run_more : {a b c : DisplayReporter W S} (past : List ReportCall) (call : Option ReportCall) → TellsRun m n a past b → Tells m n b call c → TellsRun m n a (past_with call past) c
   run_more {a} {b} {c} past None before here = record {
     accepted = λ config stands. subst (λ t. m.accepts a.writer.now t c.writer.now) (append-nil _) (laws.joins _ _ _ _ [] (before.accepted config stands) (here.accepted config past (before.stands config stands)));
@@ -57,13 +57,13 @@ module _ {W S : Type 0} {m : Meaning W} {n : Meaning S} (laws : WriterLaws m) (s
     stands = λ config stands. here.stands config past (before.stands config stands);
   }
 
-  -- what a run leaves where the calls before this one were made, and it was stopped, or past the last of them the end
+  -- what a run leaves if the calls before this one succeeded, and it was stopped, or past the last of them the end
   module _ (config : Configuration) (calls : List ReportCall) {old new : DisplayReporter W S} (stands : StandsAfter config [] old) (stop : RunFault)
       (h : (mid : DisplayReporter W S) × TellsRun m n old (past_at calls stop.position) mid × Promises m n mid (slice_get calls stop.position) (Err stop.fault) new × (AreDelivered m n old → AreDelivered m n mid)) where
     run_refusal : refusal_at config calls stop.position ≡ refusal_in stop.fault
     run_refusal = sym (h.2.refused config _ (h.1.stands config stands))
 
-    -- the text of the calls before, and of this one
+    -- the text of the calls before and of this one
     abbrev before : Text
     before = report config (past_at calls stop.position)
 
@@ -102,7 +102,7 @@ module _ {W S : Type 0} {m : Meaning W} {n : Meaning S} (laws : WriterLaws m) (s
       | inr (inr w) ↦ inr (inr (((store-laws store_laws).kept _ _ _ (h.1.stored config stands)).1 w))
     ]
 
-    -- what a fault of one device leaves of the other: the text of this call is delivered, and the records of the calls before are
+    -- after a fault of one device the other has delivered: the text of this call, and the records of the calls before
     text_delivered : stop.fault ≡ StoreIo → m.is_delivered new.writer.now
     text_delivered = h.2.err.delivered
 
@@ -129,7 +129,7 @@ module _ {W S : Type 0} {m : Meaning W} {n : Meaning S} (laws : WriterLaws m) (s
     text_first_there : {a b : Store S} → old.store ≡ Some a → new.store ≡ Some b → n.accepts a.writer.now stored_before b.writer.now ⊎ (m.accepts old.writer.now (before ++ here) new.writer.now × m.is_delivered new.writer.now)
     text_first_there old_is new_is = let s = text_first in rw (old_is, new_is) at s
 
-    -- what the two writers had delivered where the calls before were made
+    -- what the two writers had delivered after the calls before
     report_held : {a : Store S} → old.store ≡ Some a → (mid : W) × m.accepts old.writer.now before mid × Stops Report m mid here stop.fault new.writer.now × (m.is_delivered old.writer.now → n.is_delivered a.writer.now → m.is_delivered mid)
     report_held old_is = let s = run_stopped in (s.0, s.1, s.2, λ w r. s.3 (record { writer = w; store = subst (store_meaning n).is_delivered (sym old_is) r }))
 
@@ -152,12 +152,12 @@ module _ {W S : Type 0} {m : Meaning W} {n : Meaning S} (laws : WriterLaws m) (s
     memory_alone : old.store ≡ None → stop.fault ≡ Memory → m.may_refuse old.writer.now ⊎ MayGrowAt config calls stop.position ⊎ ⊥
     memory_alone none is = let s = memory is in rw none at s
 
--- the records of a run in which all calls were made
+-- the records of a run in which all calls succeeded
 stored_there : {W S : Type 0} {m : Meaning W} {n : Meaning S} {config : Configuration} {past : List ReportCall} {old new : DisplayReporter W S} {a b : Store S} →
     StandsAfter config [] old → old.store ≡ Some a → new.store ≡ Some b → TellsRun m n old past new → n.accepts a.writer.now (stored config.store past) b.writer.now
 stored_there {config = config} stands old_is new_is h = let s = h.stored config stands in rw (old_is, new_is) at s
 
--- an absent store goes by every fault that is not its own
+-- an absent store has no fault of its own
 absent_stops : (e : WriteEventError) (t : Text) → (e ≡ Failed → ⊥) → (e ≡ StoreIo → ⊥) → Stops Records absent tt t e tt
 absent_stops RetriedSuccess t known store = refl
 absent_stops OutputNotLoaded t known store = refl
@@ -166,7 +166,7 @@ absent_stops Memory t known store = inr (record { front = []; rest = t; whole = 
 absent_stops Failed t known store = absurd (known refl)
 absent_stops StoreIo t known store = absurd (store refl)
 
--- what the calls of a run did, from a reporter that had made none
+-- the calls of a run, starting with a new reporter
 module _ {W S : Type 0} {m : Meaning W} {n : Meaning S} (laws : WriterLaws m) (store_laws : WriterLaws n) (config : Configuration) (calls : List ReportCall) (old new : DisplayReporter W S)
     (stands : StandsAfter config [] old) (result : Result (Unit {0}) RunFault)
     (made : OnOk result (TellsRun m n old (reverse calls) new)) (held : OnOk result (AreDelivered m n new))

@@ -1,4 +1,4 @@
--- Lists of calls that a report cannot tell apart (for `unload_skipped`, `run_report`, `DisplayReporter::output_load_decider`).
+-- Lists of calls that a report cannot distinguish (for `unload_skipped`, `run_report`, `DisplayReporter::output_load_decider`).
 use Rattle.std.proofs.Common.{◌≡◌, ℕ, List, [], ◌∷◌, ◌++◌, refl, sym, ap, ap₂, ◌∙◌, max, reverse, append_assoc}
 use Rattle.std.specs.List.{flat_map}
 use Rattle.std.proofs.lemmas.List.{reverse-append}
@@ -19,7 +19,7 @@ pub record IsSameEvent (s : Settings) (e f : TestEvent) : Type 0 where
   pub entry : (before : ℕ) → entry_of s before f.kind ≡ entry_of s before e.kind
   pub text : (known : Known) → event_text s known f.elapsed.0 f.kind ≡ event_text s known e.elapsed.0 e.kind
 
--- two pasts after which one thing is known, and whose texts are the same
+-- two pasts that lead to the same knowledge and have the same texts
 pub record AreSame (config : Configuration) (xs ys : List ReportCall) : Type 0 where
   pub prefix : prefix ys ≡ prefix xs
   pub cancel : cancel ys ≡ cancel xs
@@ -68,7 +68,7 @@ pub reverse-middle : {X : Type 0} (front : List X) (x : X) (back : List X) → r
 reverse-middle front x back =
     reverse-append front (x ∷ back) ∙ ap (λ l. l ++ reverse front) (reverse-append (x ∷ []) back) ∙ append_assoc (reverse back) (x ∷ []) (reverse front)
 
--- one event in the place of another that is the same
+-- one event in place of another that is the same
 pub same-but-one : (config : Configuration) (front back : List ReportCall) (e f : TestEvent) → IsSameEvent (settings_of config) e f →
     report_texts config (reverse (front ++ Event f ∷ back)) ≡ report_texts config (reverse (front ++ Event e ∷ back))
 same-but-one config front back e f one =

@@ -35,7 +35,7 @@ config-same None (Some b) h = absurd h
 config-same (Some a) None h = absurd h
 config-same (Some a) (Some b) h = ap Some h.1
 
--- a reporter that knows what another one knows, with the same store, stands where that stands
+-- a reporter with the knowledge and the store of another is after the same pasts
 pub stands-still : {W S : Type 0} (config : Configuration) (past : List ReportCall) (a b : DisplayReporter W S) → b.state ≡ a.state → IsSameStore a.store b.store → StandsAfter config past a → StandsAfter config past b
 stands-still config past a b e same stands = record {
   settings = ap (λ (s : ReporterState). s.settings) e ∙ stands.settings;
@@ -110,7 +110,7 @@ module _ {S : Type 0} {m : Meaning S} (laws : WriterLaws m) where
     memory = memory;
   }
 
--- What is said of a store that is there is said of its writer.
+-- A store that is present does what its writer does.
 module _ {S : Type 0} (m : Meaning S) where
   stops_there : (a b : Store S) (t : List ℕ) (e : WriteEventError) → Stops Records (store_meaning m) (Some a) t e (Some b) → Stops Records m a.writer.now t e b.writer.now
   stops_there a b t RetriedSuccess h = let same : b ≡ a = cc in ap (λ (s : Store S). s.writer.now) same
@@ -126,7 +126,7 @@ module _ {S : Type 0} (m : Meaning S) where
   stopped_there a b None t u e before stopped Held delivered = absurd before
   stopped_there a b (Some x) t u e before stopped Held delivered = (x.writer.now, before, stops_there x b u e stopped, delivered)
 
-  -- where there is no store, none fails
+  -- an absent store does not fail
   pub absent_stop : (mid : Option (Store S)) (t u : List ℕ) (new : Option (Store S)) → store_accepts m None t mid → Stops Records (store_meaning m) mid u StoreIo new → ⊥
   absent_stop None t u new before stopped = stopped
   absent_stop (Some x) t u new before stopped = before

@@ -52,14 +52,14 @@ report_texts-placed config (next ∷ later) call past =
     let joined = length-append later (call ∷ past) in
     get-earlier (report_texts config whole) (text config whole next) (length past) (grind (arith, many, joined)) ∙ report_texts-placed config later call past
 
--- the text of each call is of lines, as the type of its parts says
+-- the text of each call is whole lines, as the type of its parts says
 of_lines-text : (config : Configuration) (past : List ReportCall) (call : ReportCall) → IsOfLines (text config past call)
 unfolding event_text
 of_lines-text config past (Event e) = ends _ (event_parts _ _ e.elapsed.0 e.kind)
 of_lines-text config past (Header h) = inr (ends _ (replay_header_text h))
 of_lines-text config past (Prefix p) = inl refl
 
--- and that of the end of a report, which is empty
+-- and so is that of the end of a report, which is empty
 pub of_lines-told : (config : Configuration) (past : List ReportCall) (call : Option ReportCall) → IsOfLines (told_text config past call)
 of_lines-told config past None = inl refl
 of_lines-told config past (Some call) = of_lines-text config past call

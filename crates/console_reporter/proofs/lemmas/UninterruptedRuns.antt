@@ -1,4 +1,4 @@
--- What the end of a uninterrupted run shows (for `run_report`, `DisplayReporter::output_load_decider`).
+-- What the end of an uninterrupted run shows (for `run_report`, `DisplayReporter::output_load_decider`).
 use Rattle.std.specs.Prelude.{nat_lt}
 use Rattle.std.proofs.Common.{◌≡◌, ℕ, ◌<◌, true, List, [], ◌∷◌, ◌++◌, None, refl, sym, ap, ◌∙◌, reverse, append-nil, append_assoc, arith, subst}
 use Rattle.std.specs.List.{flat_map}
@@ -33,7 +33,7 @@ pub uninterrupted_both : (xs ys : List ReportCall) → AreUninterrupted xs → A
 uninterrupted_both [] ys a b = b
 uninterrupted_both (x ∷ xs) ys a b = (a.0, uninterrupted_both xs ys a.1 b)
 
--- under a uninterrupted reason the same is kept of an event as under none
+-- an uninterrupted reason keeps the same entries as none
 pub uninterrupted_entry : (s : Settings) (reason : ℕ) (e : TestEventKind) → reason < 5 → entry_of s reason e ≡ entry_of s 0 e
 uninterrupted_entry s reason (TestFinished stress test success failure statuses stats) h =
     rw (row_below reason statuses.last.result h, row_below 0 statuses.last.result (omega arith)) refl
@@ -45,7 +45,7 @@ uninterrupted_more (Event e) past own h = omega arith
 uninterrupted_more (Header k) past own h = h
 uninterrupted_more (Prefix p) past own h = h
 
--- what is kept of a call under a uninterrupted reason
+-- the entries of a call under an uninterrupted reason
 abbrev pub uninterrupted_entries : Settings → ReportCall → List FinalOutputEntry
 uninterrupted_entries s (Event e) = option_to_list (entry_of s 0 e.kind)
 uninterrupted_entries s (Header h) = []
@@ -85,7 +85,7 @@ uninterrupted_kept : (s : Settings) (calls : List ReportCall) → AreUninterrupt
 unfolding kept
 uninterrupted_kept s calls uninterrupted = ap (kept s) (sym (append-nil (reverse calls))) ∙ kept_onto s calls [] uninterrupted none_given
 
--- what the end of a uninterrupted run goes by
+-- what the end of an uninterrupted run depends on
 abbrev pub listing : List FinalOutputEntry → Known
 listing entries = record { prefix = None; reason = 0; entries = entries }
 

@@ -23,7 +23,7 @@ use text_parts::settings::{Settings, counter_width_for, overrides_for, styles_fo
 use unit_report::config::{DisplayConfig, ShowProgress};
 use unit_report::unit_output::{DisplayerKind, OutputDisplayOverrides, UnitOutputReporter};
 
-/// Where a report goes: what nextest finds out by itself, and a caller of this library says. By default it goes to a file: no
+/// Where a report goes: nextest detects this by itself, and a caller of this library says it. By default it goes to a file: no
 /// terminal, no build machine, ASCII characters, and empty outputs are not shown.
 ///
 /// ```
@@ -36,9 +36,9 @@ pub struct Surroundings {
     pub use_unicode: bool,
     /// Whether the report goes to a terminal.
     pub is_terminal: bool,
-    /// Whether the run is that of a build machine.
+    /// Whether the run is on a build machine.
     pub is_ci: bool,
-    /// Whether a stream that is empty has its header nevertheless.
+    /// Whether an empty stream is shown with its header.
     pub display_empty_outputs: bool,
 }
 
@@ -56,15 +56,15 @@ pub struct Surroundings {
 pub struct DisplayReporterBuilder {
     /// Whether the run runs tests or benchmarks.
     pub mode: NextestRunMode,
-    /// The default filter that binaries and tests are skipped by.
+    /// The default filter that skips binaries and tests.
     pub default_filter: CompiledDefaultFilter,
-    /// The levels and the progress display that are asked for.
+    /// The levels and the progress display.
     pub display_config: DisplayConfig,
-    /// How many tests are to run, which decides the width of padded counters.
+    /// How many tests will run, which decides the width of padded counters.
     pub run_count: usize,
-    /// When the output of tests that succeed is shown, overriding what each test asks for.
+    /// When the output of successful tests is shown. It overrides the setting of each test.
     pub success_output: Option<TestOutputDisplay>,
-    /// When the output of tests that fail is shown, overriding what each test asks for.
+    /// When the output of failed tests is shown. It overrides the setting of each test.
     pub failure_output: Option<TestOutputDisplay>,
     /// Whether the report has colours.
     pub should_colorize: bool,
@@ -72,12 +72,12 @@ pub struct DisplayReporterBuilder {
     pub verbose: bool,
     /// Whether captured output is written without an indent.
     pub no_output_indent: bool,
-    /// Whether the report is made while the run goes on or from its record.
+    /// Whether the report is made during the run or from its record.
     pub displayer_kind: DisplayerKind,
 }
 
 impl DisplayReporterBuilder {
-    /// nextest's defaults for a run of this many tests: tests that pass, fail or are tried again have a line, failed and flaky tests are
+    /// nextest's defaults for a run of this many tests: tests that pass, fail or are retried have a line, failed and flaky tests are
     /// listed in the summary, and there are counters and no colours. It allocates the name of the default profile.
     ///
     /// ```
@@ -111,7 +111,7 @@ impl DisplayReporterBuilder {
         })
     }
 
-    /// A reporter to a writer in these surroundings, to which nothing is written yet.
+    /// A reporter to a writer in these surroundings. Nothing is written yet.
     ///
     /// ```
     /// let mut reporter = builder.build_for(alloc, &mut out, Surroundings::default());
@@ -120,8 +120,8 @@ impl DisplayReporterBuilder {
     /// assert_eq!(out.as_str(), "        PASS [   0.020s] (1/1) alpha t1\n");
     /// ```
     ///
-    /// It is the one that [`DisplayReporterBuilder::build`] makes of nextest's four flags. It allocates nothing itself: the reporter keeps
-    /// `alloc` for the tests that the summary is going to list.
+    /// It is the one that [`DisplayReporterBuilder::build`] makes from nextest's four flags. It allocates nothing itself: the reporter keeps
+    /// `alloc` for the tests that the summary will list.
     pub fn build_for<'a, W: WriteStr>(
         self,
         alloc: Global,
@@ -136,7 +136,7 @@ impl DisplayReporterBuilder {
         self.build_in(alloc, writer, None, surroundings)
     }
 
-    /// A reporter to a writer, to which nothing is written yet. It allocates nothing.
+    /// A reporter to a writer. Nothing is written yet. It allocates nothing.
     ///
     /// ```
     /// let (use_unicode, is_terminal, is_ci, display_empty_outputs) = (true, false, false, false);
@@ -166,7 +166,7 @@ impl DisplayReporterBuilder {
         self.build_for(alloc, writer, surroundings)
     }
 
-    /// A reporter to a writer that also writes a record of each finished test to a second one. To neither is written yet. It
+    /// A reporter to a writer that also writes a record of each finished test to a second one. Nothing is written yet. It
     /// allocates nothing.
     ///
     /// ```
@@ -202,7 +202,7 @@ impl DisplayReporterBuilder {
         self.build_in(alloc, writer, Some(store), surroundings)
     }
 
-    /// A reporter to a writer, and to a store where there is one, in these surroundings. To neither is written yet. It allocates nothing.
+    /// A reporter to a writer, and to a store if there is one, in these surroundings. Nothing is written yet. It allocates nothing.
     ///
     /// ```
     /// use console_reporter::imp::Store;
@@ -229,8 +229,8 @@ impl DisplayReporterBuilder {
         DisplayReporter::new(alloc, writer, store, settings)
     }
 
-    /// Returns the decider, which tells from an event's metadata whether the reporter refuses it and whether it needs its output. It is that of
-    /// the reporter that this builder builds in these surroundings, with a store where one is named. It allocates nothing.
+    /// Returns the decider, which says from an event's metadata whether the reporter refuses it and whether it needs its output. It is the decider of
+    /// the reporter that this builder builds in these surroundings, with this store. It allocates nothing.
     ///
     /// ```
     /// let decider = builder.output_load_decider(Surroundings::default(), None);
@@ -249,7 +249,6 @@ impl DisplayReporterBuilder {
         OutputLoadDecider::new(resolved.status_levels.status_level, self.overrides(), store)
     }
 
-    // When the outputs of tests are shown, overriding what each test asks for.
     fn overrides(&self) -> OutputDisplayOverrides
         ensures { result ≡ overrides_by self.now.display_config.no_capture self.now.success_output self.now.failure_output }
     {
@@ -260,7 +259,6 @@ impl DisplayReporterBuilder {
         )
     }
 
-    // What a reporter goes by that is built so.
     fn settings(self, surroundings: Surroundings) -> Settings
         ensures { result ≡ settings_of (configured_in self surroundings None) }
     {

@@ -44,7 +44,7 @@ use text_parts::script::ScriptInstance;
 use text_parts::settings::Settings;
 use unit_report::formatters::write_final_warnings;
 
-/// Writes the text of an event: one arm for each kind, in the order of `event_text`. A test that it finishes is handed on with it.
+/// Writes the text of an event: one arm for each kind, in the order of `event_text`. A test that it finishes is passed with it.
 #[tactic(auto, unfolding(crate::specs::Report::event_text))]
 pub fn write_event_text<W: WriteStr>(
     w: &mut W,
@@ -179,7 +179,6 @@ pub fn write_event_text<W: WriteStr>(
     }
 }
 
-// The setup script of an event.
 fn script_of_event<'e>(
     stress_index: Option<StressIndex>,
     script_id: &'e ScriptId,
@@ -196,7 +195,7 @@ fn script_of_event<'e>(
     }
 }
 
-// Writes the end of a run: its summary, the entries, the tests that were not seen, and the warnings.
+// The summary, the entries, the tests that were not seen, and the warnings.
 fn write_end_of_run<W: WriteStr>(
     w: &mut W,
     state: &ReporterState,
@@ -213,7 +212,6 @@ fn write_end_of_run<W: WriteStr>(
     write_final_warnings(settings.mode, run_stats.final_stats(), &settings.styles, w)
 }
 
-// Writes the entries, unless the run was interrupted.
 #[tactic(auto, unfolding(crate::specs::Report::listed_text))]
 fn write_listed<W: WriteStr>(w: &mut W, state: &ReporterState) -> Result<(), WriteFault>
     ensures { Puts W.meaning w.old (paint state.now.settings.styles (listed_text state.now.settings (known_by state.now))) result w.new }
@@ -225,7 +223,6 @@ fn write_listed<W: WriteStr>(w: &mut W, state: &ReporterState) -> Result<(), Wri
     }
 }
 
-// Whether the summary lists entries in a run that was cancelled for this reason.
 fn shows_entries(reason: Option<CancelReason>) -> bool
     ensures { result ≡ nat_lt (reason_rank reason) hiding_rank }
 {

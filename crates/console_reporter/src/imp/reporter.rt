@@ -44,9 +44,9 @@ use text_parts::settings::Settings;
 
 /// Reports events to a writer, and writes a record of each finished test to a store, if it has one.
 ///
-/// In each call the text is written and delivered, then the record, and then the store delivers what it holds.
+/// Each call writes and delivers the text, then writes the record and has the store deliver it.
 ///
-/// After a call that answered `Io`, `StoreIo` or `Memory` the reporter has failed: every later call answers `Failed` and changes
+/// After a call that returned `Io`, `StoreIo` or `Memory` the reporter has failed: every later call returns `Failed` and changes
 /// nothing. What each call promises is one record, `Promises` in specs/Telling.antt.
 #[derive(Drop)]
 pub struct DisplayReporter<'a, W, S> {
@@ -59,7 +59,7 @@ pub struct DisplayReporter<'a, W, S> {
 pub type ConsoleReporter<'a, W> = DisplayReporter<'a, W, String>;
 
 impl<'a, W: WriteStr, S: WriteStr> DisplayReporter<'a, W, S> {
-    // A reporter that goes by these settings, and has made no call yet. It allocates nothing.
+    // It allocates nothing.
     pub(super) fn new(
         alloc: Global,
         writer: &'a mut W,
@@ -78,11 +78,11 @@ impl<'a, W: WriteStr, S: WriteStr> DisplayReporter<'a, W, S> {
         }
     }
 
-    /// Returns the decider, which tells from an event's metadata whether the reporter refuses it and whether it needs its output. It depends
-    /// on the reporter's configuration alone: it is the same after every call, also after one that failed.
+    /// Returns the decider, which says from an event's metadata whether the reporter refuses it and whether it needs its output. It depends
+    /// on the reporter's configuration only: no call changes it, not even one that failed.
     ///
-    /// No output that it skips changes a report or what is stored. In a run that comes to its end, and is not cancelled at once,
-    /// each that it loads does.
+    /// No output that it skips changes a report or what is stored. In a run that ends, and is not cancelled immediately,
+    /// every output that it loads does.
     ///
     /// ```
     /// let decider = reporter.output_load_decider();
@@ -97,7 +97,6 @@ impl<'a, W: WriteStr, S: WriteStr> DisplayReporter<'a, W, S> {
         OutputLoadDecider::of_settings(&self.state.settings, store)
     }
 
-    // What its store is asked to keep, if it has one.
     fn store_config(&self) -> Option<StoreConfig>
         ensures { result ≡ config_of self.now.store }
     {
@@ -131,7 +130,7 @@ impl<'a, W: WriteStr, S: WriteStr> DisplayReporter<'a, W, S> {
         }
     }
 
-    // The error that a call returns before it does anything, if there is one: the reporter has failed, or the event is refused.
+    // The error of a call that does nothing: the reporter has failed, or the event is refused.
     fn early_error(&self, event: &TestEvent<'_>) -> Option<WriteEventError>
         ensures kept { IfSome result (λ e. Promises W.meaning S.meaning self.now (Some (ReportCall.Event event.now)) (Err e) self.now) }
         ensures works { result ≡ None → self.now.state.has_failed ≡ false }
@@ -144,7 +143,6 @@ impl<'a, W: WriteStr, S: WriteStr> DisplayReporter<'a, W, S> {
         self.refusal_of(event)
     }
 
-    // Why an event is refused, if it is.
     fn refusal_of(&self, event: &TestEvent<'_>) -> Option<WriteEventError>
         ensures refusal { result ≡ event_refusal (decider_by self.now.state.settings (config_of self.now.store)) event.now.kind }
         ensures told { IfSome result (λ e. refusal_in e ≡ Some e) }
@@ -154,7 +152,6 @@ impl<'a, W: WriteStr, S: WriteStr> DisplayReporter<'a, W, S> {
         decider.refusal_of(event)
     }
 
-    // Reports an event, and then writes its record and delivers that.
     fn report_and_store(&mut self, event: &TestEvent<'_>) -> Result<(), WriteEventError>
         requires { lacks_output (decider_by self.old.state.settings None) event.now.kind ≡ false }
         ensures same { IsSameReporter self.old self.new }
@@ -172,7 +169,7 @@ impl<'a, W: WriteStr, S: WriteStr> DisplayReporter<'a, W, S> {
         }
     }
 
-    // Reports an event: looks at a test that it finishes once, for its text and its entry.
+    // Looks at a test that finishes once, for its text and its entry.
     fn report(&mut self, event: &TestEvent<'_>) -> Result<(), WriteEventError>
         requires { lacks_output (decider_by self.old.state.settings None) event.now.kind ≡ false }
         ensures same_writer { IsSameWriter self.old self.new }
@@ -207,8 +204,7 @@ impl<'a, W: WriteStr, S: WriteStr> DisplayReporter<'a, W, S> {
         }
     }
 
-    // Writes and delivers the text of an event, and does what it does. A test that it finishes is handed on with it. Inlined, so that of
-    // most events no more is looked at.
+    // A test that finishes is passed with the event. Inlined, so that for most events only their own arm runs.
     #[inline(always)]
     fn report_event(
         &mut self,
@@ -241,7 +237,6 @@ impl<'a, W: WriteStr, S: WriteStr> DisplayReporter<'a, W, S> {
         }
     }
 
-    // Writes the record of an event to the store, if there is one, and delivers it.
     fn deliver_record(&mut self, event: &TestEvent<'_>) -> Result<(), WriteFault>
         ensures same { IsSameReporter self.old self.new }
         ensures writer { self.new.writer.now ≡ self.old.writer.now }
@@ -255,7 +250,6 @@ impl<'a, W: WriteStr, S: WriteStr> DisplayReporter<'a, W, S> {
         }
     }
 
-    // Delivers what the store holds, if there is one.
     fn flush_store(&mut self) -> Result<(), WriteFault>
         ensures same { IsSameReporter self.old self.new }
         ensures writer { self.new.writer.now ≡ self.old.writer.now }
@@ -269,8 +263,8 @@ impl<'a, W: WriteStr, S: WriteStr> DisplayReporter<'a, W, S> {
         }
     }
 
-    /// Writes what a replay says before it: which recorded run it shows, when that started and how it ended; and delivers it.
-    /// The run's id is shown by the header's own prefix.
+    /// Writes and delivers the header of a replay: which recorded run it shows, when that started and how it ended.
+    /// The run's id is shown with the header's own prefix.
     ///
     /// ```
     /// reporter.write_replay_header(&header)?;
@@ -297,7 +291,7 @@ impl<'a, W: WriteStr, S: WriteStr> DisplayReporter<'a, W, S> {
     }
 
     /// Takes the unique prefix of the run's id, which later starts of a run show. It allocates nothing and writes nothing, and a reporter
-    /// that has failed stays as it is.
+    /// that has failed does not change.
     ///
     /// ```
     /// use console_reporter::model::run_id::ShortestRunIdPrefix;
@@ -317,7 +311,7 @@ impl<'a, W: WriteStr, S: WriteStr> DisplayReporter<'a, W, S> {
         self.state.unique_prefix = Some(prefix);
     }
 
-    // Takes a copy of a prefix. Where its memory is refused, the reporter has failed.
+    // If its memory is refused, the reporter has failed.
     fn copy_prefix(
         &mut self,
         alloc: Global,
@@ -382,7 +376,7 @@ impl<'a, W: WriteStr, S: WriteStr> DisplayReporter<'a, W, S> {
         (writer, store.map(|store| store.writer))
     }
 
-    /// Gives the writer and the store back as they are.
+    /// Returns the writer and the store as they are.
     ///
     /// ```
     /// let (writer, store) = reporter.into_parts();
@@ -421,7 +415,7 @@ impl<'a, W: WriteStr, S: WriteStr> DisplayReporter<'a, W, S> {
         (writer, store)
     }
 
-    // Makes the calls, and stops at the first fault.
+    // Stops at the first fault.
     pub(super) fn make_calls(
         &mut self,
         alloc: Global,
@@ -433,7 +427,7 @@ impl<'a, W: WriteStr, S: WriteStr> DisplayReporter<'a, W, S> {
         ensures accepted { OnOk result ((config : Configuration) → StandsAfter config [] self.old → AreAccepted config calls.now) }
         ensures position { IfErr result (λ stop. stop.position ≤ length calls.now) }
         ensures accepted_before { IfErr result (λ stop. (config : Configuration) → StandsAfter config [] self.old → AreAccepted config (take stop.position calls.now)) }
-        // The calls before were made, and then that at the position, or past the last of them the end, was not.
+        // The calls before the position succeeded, and the call at it, or past the last one the end, did not.
         ensures err { IfErr result (λ stop. (mid : DisplayReporter W S) × TellsRun W.meaning S.meaning self.old (past_at calls.now stop.position) mid
             × Promises W.meaning S.meaning mid (slice_get calls.now stop.position) (Err stop.fault) self.new
             × (AreDelivered W.meaning S.meaning self.old → AreDelivered W.meaning S.meaning mid)) }
@@ -453,7 +447,7 @@ impl<'a, W: WriteStr, S: WriteStr> DisplayReporter<'a, W, S> {
         }
     }
 
-    /// Makes one call: it writes an event or the header of a replay and delivers it, or takes a copy of a prefix. A call that is
+    /// Makes one call: it writes and delivers an event or the header of a replay, or copies a prefix. A call that is
     /// refused changes nothing; after any other error, `Memory` for the copy too, the reporter has failed.
     ///
     /// ```
@@ -472,7 +466,7 @@ impl<'a, W: WriteStr, S: WriteStr> DisplayReporter<'a, W, S> {
     }
 }
 
-// What a fault of the writer is to the caller of a reporter.
+// A fault of the writer as the caller sees it.
 fn error_of(fault: WriteFault) -> WriteEventError
     ensures error { result ≡ error_for Report fault }
     ensures of_console { IsOfConsole result }
@@ -484,7 +478,7 @@ fn error_of(fault: WriteFault) -> WriteEventError
     }
 }
 
-// What a fault of the store is to the caller of a reporter.
+// A fault of the store as the caller sees it.
 fn store_error_of(fault: WriteFault) -> WriteEventError
     ensures error { result ≡ error_for Records fault }
     ensures unrefused { refusal_in result ≡ None }
@@ -495,7 +489,6 @@ fn store_error_of(fault: WriteFault) -> WriteEventError
     }
 }
 
-// Writes what a replay says before it, and delivers it.
 fn deliver_header<W: WriteStr>(
     w: &mut W,
     settings: &Settings,
@@ -508,7 +501,6 @@ fn deliver_header<W: WriteStr>(
     w.write_str_flush()
 }
 
-// Writes the text of an event, and delivers it.
 fn write_delivered<W: WriteStr>(
     w: &mut W,
     state: &ReporterState,

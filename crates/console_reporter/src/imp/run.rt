@@ -1,4 +1,4 @@
-//! The run of a list of calls, on a reporter of its own.
+//! The run of a list of calls, with a reporter of its own.
 
 ghost use Rattle.std.specs.Prelude.{◌≡◌, ◌++◌, ◌∷◌, List, Some, length, slice_get};
 ghost use Rattle.std.specs.List.{flat_map};
@@ -16,13 +16,13 @@ use run_model::call::ReportCall;
 use std::alloc::Global;
 use store_text::config::StoreConfig;
 
-/// A report is the texts of its calls, one after another, and the text of each call stands at the call's place.
+/// A report is the texts of its calls, one after another, each at the index of its call.
 pub fn texts_make_the_report()
     ensures joined { (config : Configuration) (past : List ReportCall) → report config past ≡ flat_map (λ t. t) (report_texts config past) }
     ensures placed { (config : Configuration) (later : List ReportCall) (call : ReportCall) (past : List ReportCall) → slice_get (report_texts config (later ++ call ∷ past)) (length past) ≡ Some (text config past call) }
 {}
 
-/// Makes the calls in order on a reporter of its own, ends the report, and stops at the first fault. What that promises is one record, `Runs`
+/// Makes the calls in order with a new reporter, ends the report, and stops at the first fault. What it promises is one record, `Runs`
 /// in specs/Runs.antt.
 ///
 /// On `Ok` the writer has accepted the report of the calls and delivered it. On an error at position `i` it has accepted and delivered the
@@ -65,14 +65,14 @@ pub fn run_report<W: WriteStr>(
     outcome
 }
 
-/// Makes the calls in order on a reporter of its own with a store, ends the report, and stops at the first fault.
+/// Makes the calls in order with a new reporter with a store, ends the report, and stops at the first fault.
 ///
 /// It promises what [`run_report`] does. On `Ok` the second writer has accepted the records of the calls and delivered them; on an error at
 /// position `i` those of the calls before `i` and a prefix of the record of call `i`. No byte of that record was written before the whole
 /// text of its call was delivered: after `StoreIo` the first writer has that text, after `Io` the second has the records of the calls before
 /// and no more.
 ///
-/// No record is held in memory. `Memory` comes of either writer, or where the call's test is kept for the summary or a prefix is
+/// No record is held in memory. `Memory` comes from either writer, or if the call's test is kept for the summary or a prefix is
 /// copied.
 ///
 /// ```
@@ -125,7 +125,7 @@ pub fn run_report_with_store<W: WriteStr, S: WriteStr>(
     }
 }
 
-/// Takes back the two writers that a reporter with a store wrote to: both end as they are.
+/// Takes back the two writers of a reporter with a store: both end as they are.
 pub fn give_back<W, S>(writer: &mut W, store_writer: &mut S)
     ensures writer { writer.new ≡ writer.old }
     ensures store_writer { store_writer.new ≡ store_writer.old }

@@ -9,7 +9,7 @@ use run_model::event::{TestEvent, TestEventKind};
 use store_text::config::StoreConfig;
 use store_text::record::write_record;
 
-/// The second writer of a reporter, and what it is asked to keep.
+/// The second writer of a reporter, and what it keeps.
 #[derive(Drop)]
 pub struct Store<'a, S> {
     /// Where the records go.
@@ -19,7 +19,7 @@ pub struct Store<'a, S> {
 }
 
 impl<'a, S: WriteStr> Store<'a, S> {
-    /// A store that takes its records to this writer.
+    /// A store with this writer.
     pub fn new(writer: &'a mut S, config: StoreConfig) -> Store<'a, S>
         ensures { result ≡ record { writer = writer.entry; config = config } }
     {
@@ -38,7 +38,6 @@ impl<'a, S: WriteStr> Store<'a, S> {
     }
 }
 
-// Writes the record of an event: of a finished test.
 fn write_record_of<S: WriteStr>(
     w: &mut S,
     config: StoreConfig,

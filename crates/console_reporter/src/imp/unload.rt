@@ -1,4 +1,4 @@
-//! A list of calls with the outputs left unread that the decider skips.
+//! A list of calls without the outputs that the decider skips.
 
 ghost use Rattle.std.specs.Prelude.{◌≡◌};
 ghost use Rattle.reporter_state.specs.Unread.{unread};
@@ -7,10 +7,10 @@ ghost use Rattle.console_reporter.specs.Isolation.{IsIsolated};
 use reporter_state::decider::OutputLoadDecider;
 use run_model::call::ReportCall;
 
-/// Leaves the captured output of every attempt unread of each event that the decider skips, as a replay does that did not load
+/// Unloads the captured output of every attempt of each event that the decider skips, like a replay that did not load
 /// it. It allocates nothing.
 ///
-/// No reporter of the decider's configuration then writes another byte, and it accepts what it accepted.
+/// No reporter with the decider's configuration then writes another byte, and it accepts the same calls.
 ///
 /// ```
 /// unload_skipped(&decider, &mut calls);

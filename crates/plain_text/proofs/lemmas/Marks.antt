@@ -1,4 +1,4 @@
--- The characters of a text with what the scan says of each: that a sequence holds it, or that none does (for the lemmas of Closed, FitMarks, StrippedTexts).
+-- The characters of a text with what the scan says of each: that a sequence holds it, or that none does (for the lemmas of Closed, FitMarks).
 use Rattle.std.proofs.Common.{◌≡◌, ℕ, zero, suc, ◌+◌, ◌≤◌, Bool, true, false, cond, ◌==◌, inl, inr, List, [], ◌∷◌, ◌++◌, refl, sym, ap, ◌∙◌, arith, length, take, drop, Some, is_some, unwrap_or, chars, encode_utf8, encode_utf8_all, lit<, nat_lt, subst, ◌/◌}
 use Rattle.std.proofs.Math.Seq.{take-append-add, drop-append-add}
 use Rattle.std.proofs.lemmas.Bool.{cases_Bool, and_parts, cases_lt}

@@ -94,22 +94,6 @@ pub piece_next : (h k : Bool) (rest piece after : Text) → rest ≡ piece ++ af
 piece_next h k rest piece after e q =
     rw (q, e) (ap without_trailing_newline (sym (append_assoc (held h) piece after)) ∙ without_trailing_newline-append (held h ++ piece) after)
 
--- A loop over pieces that join to a text: what it has written and what it owes.
-module _ {S : Type 0} {m : Meaning S} (laws : WriterLaws m) where
-  -- after a piece
-  pub trailing_newline_written : (a b c : S) (text rest piece after : Text) (h k : Bool) → Owes m a text b (without_trailing_newline (held h ++ rest)) → rest ≡ piece ++ after
-      → m.accepts b (without_trailing_newline (held h ++ piece)) c → k ≡ ends_in_line_feed (held h ++ piece) → Owes m a text c (without_trailing_newline (held k ++ after))
-  trailing_newline_written a b c text rest piece after h k o e p q = owes_accepted laws a b c text _ _ _ o (piece_next h k rest piece after e q) p
-
-  -- at a fault in a piece
-  pub trailing_newline_stopped : (a b c : S) (text rest piece after : Text) (h : Bool) (f : WriteFault) (r : Result (Unit {0}) WriteFault) → Owes m a text b (without_trailing_newline (held h ++ rest)) → rest ≡ piece ++ after
-      → IsErrAnd r (λ x. x ≡ f) → m.stops b (without_trailing_newline (held h ++ piece)) f c → Puts m a text r c
-  trailing_newline_stopped a b c text rest piece after h f r o e i s = owes_stopped laws a b c text _ _ _ f r o (piece_next h (ends_in_line_feed (held h ++ piece)) rest piece after e refl) i s
-
-  -- after the last piece
-  pub trailing_newline_done : (a b : S) (text rest : Text) (h : Bool) → Owes m a text b (without_trailing_newline (held h ++ rest)) → rest ≡ [] → m.accepts a text b
-  trailing_newline_done a b text rest h o e = owes_nothing laws a b text _ o (rw e (held-nothing h))
-
 pub ruleset held_laws = (held-beyond, piece_still, on_any)
 
 -- pieces of a text that are gathered before they are written

@@ -56,7 +56,7 @@ same_short f g a b of_a of_b long short same = same_number_lists a b long each
       ]
     ]
 
--- numbers that a test found to be the same
+-- numbers that a test found equal
 front_of : ℕ → ℕ → ℕ → ℕ → Front
 front_of a b c d = record { first = a; second = b; third = c; fourth = d }
 

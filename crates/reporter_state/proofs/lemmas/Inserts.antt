@@ -1,4 +1,4 @@
--- An entry that is inserted at its key, whose place is after those of the entries that are there (for `KeptEntries::keep`, `KeptEntries::write`).
+-- An entry that is inserted at its key, whose place is after those of the existing entries (for `KeptEntries::keep`, `KeptEntries::write`).
 use Rattle.std.proofs.Common.{◌≡◌, ℕ, ◌<◌, ◌+◌, Bool, List, [], ◌∷◌, ◌++◌, refl, sym, subst, ◌∙◌, ap, arith, length, reverse, Ordering, Less, Equal, Greater, is_lt, nat_cmp}
 use Rattle.std.specs.Cmp.Lexicographic.{nat_list_cmp_total, lists_total}
 use Rattle.std.specs.Ordering.{ordering_reverse, ordering_then}
@@ -20,7 +20,7 @@ placed-more : (n : ℕ) (ps : List Held) → ArePlaced n ps → ArePlaced (n + 1
 placed-more n [] h = tt
 placed-more n (p ∷ ps) h = ((omega (arith, h.0.0), h.0.1), placed-more n ps h.1)
 
--- what an insertion makes of the entries: where they are held, greater ones come first
+-- the entries after an insertion: greater ones come first
 abbrev pub is_after : FinalOutputEntry → FinalOutputEntry → Bool
 is_after a b = is_before b a
 
@@ -32,7 +32,7 @@ pub record Inserts (e : FinalOutputEntry) (n : ℕ) (ps qs : List Held) : Type 0
 at_last : (e : FinalOutputEntry) (n : ℕ) → IsPlaced (n + 1) (key_at e n, e.output)
 at_last e n = (omega arith, refl)
 
--- the same by how the first of them compares to the entry
+-- by how the first of them compares to the entry
 by_first : (e : FinalOutputEntry) (n : ℕ) (p : Held) (ps : List Held) → ArePlaced (n + 1) (p ∷ ps)
     → (c : Ordering) → entry_cmp (entry_held p) e ≡ c → is_after (entry_held p) e ≡ is_lt (ordering_reverse c) → held_cmp (key_at e n) p.0 ≡ ordering_then c Less
     → Inserts e n ps (insert_entry held_cmp ps (key_at e n) e.output) → Inserts e n (p ∷ ps) (insert_entry held_cmp (p ∷ ps) (key_at e n) e.output)
@@ -60,11 +60,11 @@ module _ (e : FinalOutputEntry) (place : ℕ) (ps : List Held) (at_end : place �
       ∙ put_back is_before is_before-ranks e (final_order kept) (rising-ordered_by is_before is_before-ranks kept)
       ∙ sym (order_more is_before is_before-ranks kept e)
 
-  -- each place is one of the first, by the number of the entries
+  -- each place is below the number of entries
   pub places_more : ArePlaced (length (insert_entry held_cmp ps (key_at e place) e.output)) (insert_entry held_cmp ps (key_at e place) e.output)
   places_more = subst (λ n. ArePlaced n (insert_entry held_cmp ps (key_at e place) e.output)) (ap (λ n. n + 1) at_end ∙ sym inserted.longer) inserted.placed
 
--- a walk from the last one on shows it first
+-- a walk from the last one shows it first
 pub text-left : (s : Settings) (t : KeptTest) (ps qs : List Held) (p : Held) → ps ≡ qs ++ p ∷ [] → t ≡ p.0.0.test →
     shown_entries s (shown_of ps) ≡ shown_entry s (record { test = t; output = p.1 }) ++ shown_entries s (shown_of qs)
 text-left s t ps qs p is same =

@@ -1,4 +1,4 @@
--- A kept test is shown as the test that it is a copy of (for `write_entry`).
+-- A kept test is shown like the test that it copies (for `write_entry`).
 use Rattle.std.proofs.Common.{◌≡◌, refl, subst}
 use Rattle.run_model.specs.declared.status.StatusSummary.{StatusSummary}
 use Rattle.plain_text.specs.declared.style.Styles.{Styles}

@@ -27,7 +27,7 @@ use Rattle.reporter_state.specs.Effects.{finish_by}
 use Rattle.reporter_state.specs.Refusals.{decider_by}
 use Rattle.reporter_state.specs.Loads.{lacks_output, loads_attempt, loads_finish}
 
--- output that is needed is there, where none that is needed was left unread
+-- needed output is loaded, unless needed output was not loaded
 pub loaded_where : (is_needed : Bool) (output : Written) →
     option_map_or (λ (o : Written). not (has_loaded_output o)) (if is_needed then Some output else None) false ≡ false → is_needed ≡ true → has_loaded_output output ≡ true
 loaded_where is_needed output lacks is =
@@ -45,13 +45,13 @@ unfolding display_of
 finish_loaded s reason stress test success failure statuses stats lacks shown =
     loaded_where (loads_finish (decider_by s None) success failure (summary_of statuses)) statuses.last.output lacks (rw shown refl)
 
--- so of the test that it finishes
+-- also for the test that it finishes
 pub handed_loaded : (s : Settings) (reason : ℕ) (e : TestEventKind) (f : FinishReport) → Some f ≡ finish_by s reason e → lacks_output (decider_by s None) e ≡ false → HasShownOutput f
 handed_loaded s reason (TestFinished stress test success failure statuses stats) f is lacks =
     subst HasShownOutput (same_Some _ _ (sym is)) (finish_loaded s reason stress test success failure statuses stats lacks)
 handed_loaded s reason other f is lacks = absurd (none-some f (sym is))
 
--- what is not lacking for a report and a store is not for the report alone
+-- what is loaded for a report and a store is loaded for the report alone
 pub lacks_less : (s : Settings) (store : Option StoreConfig) (e : TestEventKind) → lacks_output (decider_by s store) e ≡ false → lacks_output (decider_by s None) e ≡ false
 lacks_less s store (SetupScriptFinished stress id program args status) lacks = lacks
 lacks_less s store (TestAttemptFailedWillRetry stress test status delay failure) lacks = lacks

@@ -1,4 +1,4 @@
--- The decision about an output by what its event says beside it is the one by its event (for `should_load`).
+-- The decision from an event's metadata is the one from the event (for `should_load`).
 use Rattle.std.proofs.Common.{◌≡◌, Bool, true, false, ◌==◌, length, if◌then◌else◌, refl, ap, sym}
 use Rattle.run_model.specs.Attempts.{Attempts}
 use Rattle.run_model.specs.Statuses.{is_success, is_success_case, summary_of}
@@ -13,7 +13,7 @@ use Rattle.reporter_state.specs.declared.decider.OutputLoadDecider.{OutputLoadDe
 use Rattle.reporter_state.specs.declared.decider.OutputMetadata.{OutputMetadata}
 use Rattle.reporter_state.specs.declared.decider.OutputMetadata.TheVariants.{SetupScriptFinished, TestAttemptFailedWillRetry, TestFinished}
 
--- attempts come to a success just where the last one succeeded
+-- the outcome is a success exactly if the last attempt succeeded
 success_case : (is_success is_only : Bool) (flaky : FlakyResult) → is_success_case (if is_success then (if is_only then Success else Flaky flaky) else Failure) ≡ is_success
 success_case true true flaky = refl
 success_case true false flaky = refl

@@ -1,4 +1,4 @@
--- Lists in order, with ties as they came: there is exactly one (for the lemmas of Inserts, Pasts).
+-- Lists in order, with ties in their order of arrival: there is exactly one (for the lemmas of Inserts, Pasts).
 use Rattle.std.proofs.Common.{suc-add, ap₂, ◌≡◌, zero, suc, Bool, true, false, not, cond, List, [], ◌∷◌, ◌++◌, filter, reverse, refl, sym, ◌∙◌, ap, arith, inl, inr, IsSortedBy}
 use Rattle.std.specs.Cmp.{IsStrictWeakOrder}
 use Rattle.std.specs.List.{AllByRecursion}
@@ -10,7 +10,7 @@ use Rattle.std.proofs.lemmas.List.{reverse-append, reverse-reverse}
 use Rattle.std.proofs.lemmas.List.Sorted.{sorted_far, All-permutation, IsPermutation-reverse}
 use Rattle.reporter_state.specs.Order.{put_in, ordered_by}
 
--- each element is not above those after it
+-- no element is above those after it
 abbrev pub IsRising : {X : Type 0} → (X → X → Bool) → List X → Type 0
 IsRising lt [] = Unit {0}
 IsRising lt (e ∷ es) = AllByRecursion (λ f. lt f e ≡ false) es × IsRising lt es
@@ -23,7 +23,7 @@ pub All-more : {X : Type 0} (P Q : X → Type 0) → ((x : X) → P x → Q x) �
 All-more P Q f [] h = tt
 All-more P Q f (x ∷ xs) h = (f x h.0, All-more P Q f xs h.1)
 
--- an element before the first one that is greater
+-- an element before the first that is greater
 abbrev pub put_last : {X : Type 0} → (X → X → Bool) → X → List X → List X
 put_last lt e [] = e ∷ []
 put_last lt e (f ∷ fs) = cond (lt e f) (e ∷ f ∷ fs) (f ∷ put_last lt e fs)
@@ -49,7 +49,7 @@ module _ {X : Type 0} (lt : X → X → Bool) (o : IsStrictWeakOrder lt) where
   ties_itself : (x : X) → ties lt x x ≡ true
   ties_itself x = rw (not_below_itself x)
 
-  -- what is below y ties with nothing from y on
+  -- what is below y ties with no element from y on
   none_tie : (x y : X) (ys : List X) → lt x y ≡ true → AllByRecursion (λ f. lt f y ≡ false) ys → filter (ties lt x) (y ∷ ys) ≡ []
   none_tie x y ys below above = filter-none (ties lt x) (y ∷ ys) (All-more (λ f. lt f y ≡ false) (λ f. ties lt x f ≡ false) apart (y ∷ ys) (not_below_itself y, above))
     where
@@ -92,7 +92,7 @@ module _ {X : Type 0} (lt : X → X → Bool) (o : IsStrictWeakOrder lt) where
   both_tie z e f below at_f at_e =
       false≢true (sym (o.chain f z e (not-true _ (and_parts (not (lt z f)) (not (lt f z)) at_f).1) (not-true _ (and_parts (not (lt z e)) (not (lt e z)) at_e).0)) ∙ below)
 
-  -- putting an element in leaves the ties as they come
+  -- inserting an element leaves the ties in their order
   ties-put_in : (z e : X) (fs : List X) → filter (ties lt z) (put_in lt e fs) ≡ filter (ties lt z) (e ∷ fs)
   unfolding put_in
   ties-put_in z e [] = refl
@@ -160,7 +160,7 @@ module _ {X : Type 0} (lt : X → X → Bool) (o : IsStrictWeakOrder lt) where
   less_through : (e f x : X) → lt e f ≡ true → lt f x ≡ true → lt e x ≡ true
   less_through e f x a b = elim (cases_Bool (lt e x)) [ inl t ↦ t | inr n ↦ absurd (false≢true (sym (o.chain e x f n (o.one_way f x b)) ∙ a)) ]
 
-  -- the first and the last of some elements may be put in in either order
+  -- the first and the last of some elements may be inserted in either order
   exchange : (x e : X) (fs : List X) → put_in lt x (put_last lt e fs) ≡ put_last lt e (put_in lt x fs)
   unfolding put_in
   exchange x e [] = refl
@@ -172,13 +172,13 @@ module _ {X : Type 0} (lt : X → X → Bool) (o : IsStrictWeakOrder lt) where
     ])
   ]
 
-  -- the order with an element more at the end
+  -- the order with one more element at the end
   pub order_more : (es : List X) (e : X) → ordered_by lt (es ++ e ∷ []) ≡ put_last lt e (ordered_by lt es)
   unfolding ordered_by put_in
   order_more [] e = refl
   order_more (x ∷ es) e = ap (put_in lt x) (order_more es e) ∙ exchange x e (ordered_by lt es)
 
-  -- the order with an element more at the end, held the other way round
+  -- the order with one more element at the end, reversed
   pub put_back : (e : X) (fs : List X) → IsRising lt fs → reverse (put_in (λ a b. lt b a) e (reverse fs)) ≡ put_last lt e fs
   unfolding put_in
   put_back e [] h = refl
@@ -197,7 +197,7 @@ module _ {X : Type 0} (lt : X → X → Bool) (o : IsStrictWeakOrder lt) where
         )
   ]
 
-  -- two elements one of which is less may be put in in either order
+  -- two elements of which one is less may be inserted in either order
   put_both : (x y : X) (fs : List X) → lt x y ≡ true → put_in lt x (put_in lt y fs) ≡ put_in lt y (put_in lt x fs)
   unfolding put_in
   put_both x y [] h = rw (h, o.one_way x y h) refl
@@ -206,7 +206,7 @@ module _ {X : Type 0} (lt : X → X → Bool) (o : IsStrictWeakOrder lt) where
     | inr a ↦ (elim (cases_Bool (lt f y)) [ inl b ↦ rw (a, b, a, h) refl | inr b ↦ (let back = o.one_way x y h in rw (a, b, h, back) refl) ])
   ]
 
-  -- so the order does not tell which of two neighbours came first
+  -- so the order does not depend on which of two neighbours came first
   pub order-swap : (front back : List X) (x y : X) → lt x y ≡ true → ordered_by lt (front ++ x ∷ y ∷ back) ≡ ordered_by lt (front ++ y ∷ x ∷ back)
   unfolding ordered_by
   order-swap [] back x y h = put_both x y (ordered_by lt back) h

@@ -1,4 +1,4 @@
--- An entry stands in a summary at a place that its output does not decide (for the lemmas of Exactness).
+-- The place of an entry in a summary does not depend on its output (for the lemmas of Exactness).
 use Rattle.std.proofs.Common.{◌≡◌, List, [], ◌∷◌, ◌++◌, refl, ◌∙◌, ap, inl, inr}
 use Rattle.std.proofs.lemmas.Bool.{cases_Bool}
 use Rattle.std.proofs.lemmas.Grind.{flat_map-append}
@@ -21,7 +21,7 @@ module _ (test : KeptTest) (x : StatusSummary) where
   abbrev without_output : FinalOutputEntry
   without_output = record { test = test; output = Executed x }
 
-  -- it stands between these, whatever its output
+  -- its place is between these, whatever its output is
   abbrev HasPlace : (Written → List FinalOutputEntry) → Type 0
   HasPlace f = (front back : List FinalOutputEntry) × ((output : Written) → f output ≡ front ++ entry_with output ∷ back)
 
@@ -52,7 +52,7 @@ module _ (test : KeptTest) (x : StatusSummary) where
       let past = put_in-past g more.0 more.1 in
       (past.0, past.1, λ output. ap (λ es. put_in is_before g es) (more.2 output) ∙ past.2 output)
 
-  -- and so does its text among those of the entries
+  -- and so is that of its text
   pub text-place : (s : Settings) (front back : List FinalOutputEntry) →
       (before after : Text) × ((output : Written) → shown_entries s (final_order (front ++ entry_with output ∷ back)) ≡ before ++ (shown_entry s (entry_with output) ++ after))
   text-place s front back =

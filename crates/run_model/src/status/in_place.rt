@@ -39,9 +39,9 @@ impl ExecutionResultDescription {
 }
 
 impl ExecutionStatuses<LiveSpec> {
-    /// Makes them those of a test whose only attempt ended so and wrote this, or nothing, and returns true. It allocates nothing, so that is
-    /// done only where they are of one attempt without errors, and the result is a pass or a failure with an exit code; else it returns
-    /// false, and what they hold then is not said.
+    /// Turns them into a test whose only attempt ended with this result and wrote `captured` or nothing, and returns true. It allocates
+    /// nothing, so this works only for one attempt without errors that passed or failed with an exit code. Otherwise it
+    /// returns false, and their value is unspecified.
     #[inline(always)]
     pub fn replace_only(
         &mut self,

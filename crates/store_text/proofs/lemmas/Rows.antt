@@ -1,4 +1,4 @@
--- Worked rows: what the definitions say of records that are written out.
+-- Worked rows: what the definitions say of some records.
 use Rattle.std.proofs.Common.{◌≡◌, ◌++◌, [], ◌∷◌, true, false, pos, None, Some, codes, refl}
 use Rattle.std.specs.Fmt.{digits}
 use Rattle.std.specs.Str.{chars, is_utf8}
@@ -13,16 +13,16 @@ use Rattle.run_model.specs.declared.status.ExecutionResultDescription.{Execution
 use Rattle.run_model.specs.declared.status.ExecutionResultDescription.TheVariants as outcome
 use Rattle.run_model.specs.declared.status.FailureDescription.TheVariants.{ExitCode}
 use Rattle.run_model.specs.declared.status.FlakyResult.TheVariants as flaky
-use Rattle.plain_text.specs.Lossy.{decoded_text}
+use Rattle.run_model.specs.Decoded.{decoded_text}
 use Rattle.plain_text.specs.Texts.{Text}
-use Rattle.plain_text.proofs.lemmas.Decoded.{decoded-same}
+use Rattle.run_model.proofs.lemmas.Decoded.{decoded-same}
 use Rattle.text_parts.specs.ResultWords.{short_word}
 use Rattle.store_text.specs.Netstring.{netstring, netstring_head}
 use Rattle.store_text.specs.Record.{record_text}
 use Rattle.store_text.specs.StoredOutput.{stored_output}
 use Rattle.store_text.specs.declared.config.StoreConfig.{StoreConfig}
 
--- one attempt that ended so and wrote this to the two streams
+-- one attempt with this result and these two streams
 abbrev attempt : ExecutionResultDescription → Text → Text → Attempts LiveSpec ChildOutputDescription
 attempt result stdout stderr = record {
   earlier = [];
@@ -67,7 +67,7 @@ row_output : (test : TestInstanceId) → test.binary_id.now ≡ codes "alpha" �
 unfolding record_text netstring netstring_head stored_output short_word digits
 row_output test id name = rw (id, name, accented_decoded, x_decoded) refl
 
--- without the switch there is none
+-- without the switch there is no output
 row_without : (test : TestInstanceId) → test.binary_id.now ≡ codes "alpha" → test.test_name.now ≡ codes "t1" →
     record_text (record store { store_success_output = true }) test (attempt (outcome.Fail (ExitCode (pos 1)) false) accented (codes "x"))
     ≡ codes "5:alpha,2:t1,4:FAIL,0:,\n"

@@ -1,18 +1,9 @@
-//! Pieces that cut a sequence, and line feeds at the end of a piece.
+//! Texts without their sequences, and line feeds at the end of a piece.
 
-use plain_text::stripped::{StrippedPieces, write_stripped_text};
+use plain_text::stripped::write_stripped_text;
 use plain_text::trailing_newline::TrailingNewline;
 use plain_text::write_str::{WriteFault, WriteStr};
 use std::test::Fail;
-
-// Writes the pieces without their sequences and the line feed that closes what is left.
-fn write_stripped_pieces<W: WriteStr>(w: &mut W, pieces: &[&str]) -> Result<(), WriteFault> {
-    let mut stripped = StrippedPieces::new();
-    for piece in pieces {
-        stripped.write(w, piece)?;
-    }
-    Ok(())
-}
 
 // Writes the pieces without the line feed that closes them.
 fn write_without_trailing_newline<W: WriteStr>(
@@ -26,7 +17,7 @@ fn write_without_trailing_newline<W: WriteStr>(
     Ok(())
 }
 
-// Two pieces, what is left of them without sequences, and what without the closing line feed alone.
+// Two pieces of a text, the text without sequences, and the text without the closing line feed alone.
 const PIECES: [(&str, &str, &str, &str); 11] = [
     ("a\n\x1b[0m", "", "a", "a\n\x1b[0m"),
     ("\x1b]8;;", "x\u{7}b\n", "b", "\x1b]8;;x\u{7}b"),
@@ -45,7 +36,7 @@ const PIECES: [(&str, &str, &str, &str); 11] = [
 fn pieces_are_written_as_one_text(rt: HostRuntime) -> Result<(), Fail> {
     for (first, second, stripped, held_back) in PIECES {
         let mut written = String::new(rt.alloc());
-        write_stripped_pieces(&mut written, &[first, second])?;
+        write_stripped_text(&mut written, [first, second].join(rt.alloc(), "")?.as_str())?;
         assert_eq!(rt; written.as_str(), stripped);
         let mut written = String::new(rt.alloc());
         write_without_trailing_newline(&mut written, &[first, second])?;

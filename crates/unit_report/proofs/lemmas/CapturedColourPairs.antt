@@ -7,7 +7,7 @@ use Rattle.plain_text.specs.TrailingNewline.{without_trailing_newline, ends_in_l
 use Rattle.plain_text.specs.Escapes.{visible_after, visible, HasNoEscape}
 use Rattle.plain_text.specs.Highlights.{highlight_end}
 use Rattle.plain_text.specs.Indent.{indent}
-use Rattle.plain_text.specs.Lossy.{decoded_text}
+use Rattle.run_model.specs.Decoded.{decoded_text}
 use Rattle.plain_text.specs.Style.{plain, styles_of, reset_color, style_suffix}
 use Rattle.plain_text.specs.Texts.{Text}
 use Rattle.plain_text.specs.declared.style.Style.{Style}
@@ -24,7 +24,7 @@ use Rattle.report_words.proofs.lemmas.ColourPairs.{prefix-append, suffix-append,
 use Rattle.report_words.specs.PlainTexts.{HoldsIf}
 use Rattle.unit_report.specs.PlainOutputs.{IsInside, IsPlainStream}
 
--- both texts close with a line feed, and before it what is visible of the first is the second
+-- both texts close with a line feed, and before it the visible part of the first is the second
 pub record IsEndedColour (c u : Text) : Type 0 where
   pub coloured : Text
   pub uncoloured : Text
@@ -32,7 +32,7 @@ pub record IsEndedColour (c u : Text) : Type 0 where
   pub uncoloured_is : u ≡ uncoloured ++ 10 ∷ []
   pub same : visible coloured ≡ uncoloured
 
--- so where the flag says that texts are in colour; else the second holds no escape character
+-- in colour (the flag) as above; else the second holds no escape character
 pub record IsEndedColourPair (k : Bool) (c u : Text) : Type 0 where
   pub coloured : k ≡ true → IsEndedColour c u
   pub plain : k ≡ false → HasNoEscape u
@@ -156,7 +156,7 @@ ended-highlighted s t h free inside valid =
     let some : ends_in_line_feed ((front ++ lit) ++ back) ≡ true → 0 < length back = λ e. let l = inside valid (rw whole at e) in omega (arith, length-drop (highlight_stop h) t) in
     rw whole at (ended-parts s front lit back (free-take h.start t free) (free-take (highlight_end h.bytes) (drop h.start t) (free-drop h.start t free)) (free-drop (highlight_stop h) t free) some)
 
--- what is visible of a captured output in colour is the plain one
+-- the visible part of a captured output in colour is the plain one
 coloured-captured : (t : Text) (o : Option Part) → HasNoEscape t → HoldsIf (IsInside t) o → IsEndedColour (captured (styles_of true) t o) (captured (styles_of false) t o)
 unfolding captured coloured_output
 coloured-captured t None free inside = ended-reset t free

@@ -1,4 +1,4 @@
--- What a run skips, where its profile's name is handed in without escape characters (for the line of its start).
+-- What a run skips, for a profile name without escape characters (for the line of its start).
 use Rattle.std.proofs.Common.{ℕ, Bool, codes, refl}
 use Rattle.run_names.specs.declared.config.CompiledDefaultFilter.{CompiledDefaultFilter}
 use Rattle.run_names.specs.declared.config.CompiledDefaultFilterSection.{CompiledDefaultFilterSection}

@@ -20,7 +20,7 @@ not_line_end [] k l h = absurd (omega arith)
 not_line_end (c ∷ t) zero l h = rw h refl
 not_line_end (c ∷ t) (suc k) l h = let more = not_line_end t k (omega arith) h in elim (cases_Bool (closes_line c)) [ inl y ↦ rw (y, more) refl | inr n ↦ rw n refl ]
 
--- where what closes a line begins
+-- the end of the body of a line
 pub body_len-at : (t : Text) (n : ℕ) → n ≤ length t → is_line_end (drop n t) ≡ true → ((k : ℕ) → n ≡ suc k → closes_line (get_or t k 0) ≡ false) → body_len t ≡ n
 unfolding body_len
 body_len-at [] n l h e = omega arith
@@ -29,11 +29,11 @@ body_len-at (c ∷ t) (suc n) l h e =
     let more : is_line_end (c ∷ t) ≡ false = not_line_end (c ∷ t) n (omega arith) (e n refl) in
     rw more (ap suc (body_len-at t n (omega arith) h (λ k q. e (suc k) (ap suc q))))
 
--- one byte more that closes the line
+-- one more byte that closes the line
 pub line_end-more : (t : Text) (n k : ℕ) → n ≡ suc k → n ≤ length t → closes_line (get_or t k 0) ≡ true → is_line_end (drop n t) ≡ true → is_line_end (drop k t) ≡ true
 line_end-more t n k q l h e = rw (drop-cons t k 0 (omega arith)) (rw h (subst (λ m. is_line_end (drop m t) ≡ true) q e))
 
--- a line may be cut there
+-- a line may be cut after its body
 pub body_boundary : (t : Text) → IsCharBoundary t (body_len t)
 unfolding body_len
 body_boundary [] = IsCharBoundary-end []

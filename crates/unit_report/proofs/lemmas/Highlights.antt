@@ -1,19 +1,19 @@
 -- Highlights that are valid (for `split_highlight`, `write_coloured_output`).
 use Rattle.std.proofs.Common.{Some, ◌≡◌, ℕ, ◌≤◌, ◌↔◌, Bool, true, false, ◌==◌, ◌&&◌, inl, inr, List, [], ◌∷◌, refl, sym, ap, ◌∙◌, subst, length, take, drop, drop-drop, take-take}
 use Rattle.std.proofs.lemmas.Bool.{cases_Bool, and_parts}
-use Rattle.std.proofs.lemmas.Bool.Decides.{eqb_tells}
+use Rattle.std.proofs.lemmas.Bool.Decides.{eqb_tells, nat_tests}
 use Rattle.std.proofs.lemmas.Str.{IsUtf8-take, IsCharBoundary-from_rest}
 use Rattle.std.specs.Bool.{IsTrue}
 use Rattle.std.specs.Str.{IsCharBoundary, IsUtf8}
 use Rattle.run_model.specs.Outputs.{Part}
 use Rattle.plain_text.specs.Highlights.{highlight_end}
-use Rattle.plain_text.specs.Lossy.{ends_character, front_text}
 use Rattle.plain_text.specs.Texts.{Text}
-use Rattle.plain_text.specs.declared.style.Style.{Style}
-use Rattle.plain_text.proofs.lemmas.Decoded.{boundary-ends}
-use Rattle.unit_report.specs.Captured.{begins_with, coloured_output, highlighted_output, highlight_stop, is_valid}
+use Rattle.unit_report.specs.Captured.{begins_with, ends_character, highlight_stop, is_valid}
 
--- the test of a beginning
+boundary-ends : (n : ℕ) (t : Text) → IsCharBoundary t n → ends_character n t ≡ true
+boundary-ends n t (l, b) = grind (arith, nat_tests)
+
+-- `begins_with` and `take`
 begins-at : (bs : List ℕ) (t : Text) → take (length bs) t ≡ bs → begins_with bs t ≡ true
 begins-at [] t h = refl
 begins-at (b ∷ bs) [] h = cc
@@ -33,7 +33,7 @@ begins-is (b ∷ bs) (c ∷ t) h = let both = and_parts (b == c) (begins_with bs
 begins-not : (bs : List ℕ) (t : Text) → ¬ (take (length bs) t ≡ bs) → begins_with bs t ≡ false
 begins-not bs t h = elim (cases_Bool (begins_with bs t)) [ inl y ↦ absurd (h (begins-is bs t y)) | inr n ↦ n ]
 
--- a text and a part of it that is given
+-- a text and a part of it
 module _ (t : Text) (h : Part) (found : Bool) (tells : IsTrue found ↔ (take (length h.bytes) (drop h.start t) ≡ h.bytes)) where
   pub part_absent : found ≡ false → is_valid t h ≡ false
   part_absent e = rw (begins-not h.bytes (drop h.start t) (λ q. let x : IsTrue found = tells.1 q in let y : IsTrue false = rw e at x in cc)) (none (ends_character h.start t))
@@ -57,9 +57,3 @@ module _ (t : Text) (h : Part) (found : Bool) (tells : IsTrue found ↔ (take (l
 
     pub part_rest : drop end (drop h.start t) ≡ drop (highlight_stop h) t
     part_rest = drop-drop end h.start t ∙ rw e refl
-
--- a valid highlight, between what stands before it and what follows it
-pub coloured-valid : (s : Style) (t : Text) (h : Part) → is_valid t h ≡ true
-    → coloured_output s t (Some h) ≡ highlighted_output s (front_text h.start t) (take (highlight_end h.bytes) (drop h.start t)) (drop (highlight_stop h) t)
-unfolding coloured_output front_text
-coloured-valid s t h v = let both = and_parts (ends_character h.start t) _ v in rw (v, both.0) refl

@@ -46,12 +46,12 @@ free-bar_text : (theme : ThemeCharacters) (width : Option ℕ) → HasNoEscape (
 free-bar_text theme None = refl
 free-bar_text theme (Some width) = search frees
 
--- a header in a style and in none
+-- a header with a style and without
 pub colour_pair-bars : (k : Bool) (s : Style) (theme : ThemeCharacters) (left : Option ℕ) (n : OutputName) (right : ℕ) → IsColourPair k (header_text (Bars s theme left n right)) (header_text (Bars style.Plain theme left n right))
 unfolding header_text
 colour_pair-bars k s theme left n right = search (colour_pairs, free-output_name_text, free-bar_text) depth 12
 
--- a name in a style and in none
+-- a name with a style and without
 pub colour_pair-label : (k : Bool) (s : Style) (n : OutputName) → IsColourPair k (header_text (Label s n)) (header_text (Label style.Plain n))
 unfolding header_text
 colour_pair-label k s n = search (colour_pairs, free-output_name_text) depth 12
@@ -70,7 +70,7 @@ free-error_chain_text : (chain : MessageAndCauses) → IsPlainChain chain → Ha
 unfolding error_chain_text
 free-error_chain_text chain h = let first = h.0 in let more = free-causes_text chain.causes h.1 in search frees depth 12
 
--- two layouts that differ in the styles of their headers, which the second has none of
+-- two layouts that differ in the styles of their headers, of which the second has none
 pub record IsColourPairOfLayout (k : Bool) (l m : OutputLayout) : Type 0 where
   pub stdout : IsColourPair k (header_text l.stdout_header) (header_text m.stdout_header)
   pub stderr : IsColourPair k (header_text l.stderr_header) (header_text m.stderr_header)

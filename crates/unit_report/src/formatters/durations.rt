@@ -24,7 +24,7 @@ use std::fmt::Formatter;
 pub struct DisplayBracketedDuration(pub Nanos);
 
 impl DisplayBracketedDuration {
-    /// Writes what it shows.
+    /// Writes the duration.
     #[inline(always)]
     #[tactic(auto, unfolding(crate::specs::Durations::bracketed_duration))]
     pub fn write_to<W: WriteStr>(&self, w: &mut W) -> Result<(), WriteFault>
@@ -43,8 +43,8 @@ impl fmt::Display for DisplayBracketedDuration {
     }
 }
 
-/// How long a run has taken, between brackets and a space: hours, minutes and seconds, right-aligned in nine columns. A part of a
-/// second is left out.
+/// How long a run has taken, between brackets and a space: hours, minutes and seconds, right-aligned in nine columns. Fractions of a
+/// second are cut off.
 ///
 /// ```
 /// assert_eq!(DisplayBracketedHhMmSs(Nanos(12_000_000_000)).to_string(alloc)?.as_str(), "[ 00:00:12] ");
@@ -53,7 +53,7 @@ impl fmt::Display for DisplayBracketedDuration {
 pub struct DisplayBracketedHhMmSs(pub Nanos);
 
 impl DisplayBracketedHhMmSs {
-    /// Writes what it shows.
+    /// Writes the duration.
     #[tactic(auto, unfolding(crate::specs::Durations::bracketed_clock))]
     pub fn write_to<W: WriteStr>(&self, w: &mut W) -> Result<(), WriteFault>
         ensures { Puts W.meaning w.old (bracketed_clock self.now.0.0) result w.new }
@@ -71,7 +71,7 @@ impl fmt::Display for DisplayBracketedHhMmSs {
     }
 }
 
-/// The delay after which something comes: seconds with three decimals, right-aligned in seven columns.
+/// The delay before something happens: seconds with three decimals, right-aligned in seven columns.
 ///
 /// ```
 /// assert_eq!(DisplayDurationBy(Nanos(1_000_000_000)).to_string(alloc)?.as_str(), "by   1.000s ");
@@ -80,7 +80,7 @@ impl fmt::Display for DisplayBracketedHhMmSs {
 pub struct DisplayDurationBy(pub Nanos);
 
 impl DisplayDurationBy {
-    /// Writes what it shows.
+    /// Writes the duration.
     #[tactic(auto, unfolding(crate::specs::Durations::duration_by))]
     pub fn write_to<W: WriteStr>(&self, w: &mut W) -> Result<(), WriteFault>
         ensures { Puts W.meaning w.old (duration_by self.now.0.0) result w.new }
@@ -107,7 +107,7 @@ impl fmt::Display for DisplayDurationBy {
 pub struct DisplaySlowDuration(pub Nanos);
 
 impl DisplaySlowDuration {
-    /// Writes what it shows.
+    /// Writes the duration.
     #[tactic(auto, unfolding(crate::specs::Durations::slow_duration))]
     pub fn write_to<W: WriteStr>(&self, w: &mut W) -> Result<(), WriteFault>
         ensures { Puts W.meaning w.old (slow_duration self.now.0.0) result w.new }

@@ -25,7 +25,7 @@ pub struct DisplayUnitKind {
 }
 
 impl DisplayUnitKind {
-    /// Of a unit in a run of this mode.
+    /// The word for a unit in a run of this mode.
     pub fn new(mode: NextestRunMode, kind: UnitKind) -> DisplayUnitKind
         ensures mode { result.mode ≡ mode }
         ensures kind { result.kind ≡ kind }
@@ -33,14 +33,13 @@ impl DisplayUnitKind {
         DisplayUnitKind { mode, kind }
     }
 
-    /// Writes what it shows.
+    /// Writes the word.
     pub fn write_to<W: WriteStr>(&self, w: &mut W) -> Result<(), WriteFault>
         ensures { Puts W.meaning w.old (unit_word self.now.mode self.now.kind) result w.new }
     {
         w.write_str(self.word())
     }
 
-    // The word.
     #[tactic(auto, unfolding(crate::specs::UnitKind::unit_word))]
     fn word(&self) -> &'static str
         ensures { result.now ≡ unit_word self.now.mode self.now.kind }

@@ -1,4 +1,4 @@
-//! What a run left undone.
+//! Warnings of tests that a run left out.
 
 ghost use Rattle.plain_text.specs.Writer.{Puts};
 ghost use Rattle.report_words.specs.Parts.{paint};
@@ -11,7 +11,7 @@ use run_model::config::NextestRunMode;
 use run_model::level::CancelReason;
 use run_model::stats::{FinalRunStats, RunStatsFailureKind};
 
-/// Writes a line that warns of tests that were not run; nothing where all ran, or where a setup script failed.
+/// Writes a warning line about tests that were not run; nothing if all ran, or if a setup script failed.
 ///
 /// ```
 /// use run_model::stats::{FinalRunStats, RunStatsFailureKind};
@@ -39,7 +39,6 @@ pub fn write_final_warnings<W: WriteStr>(
     }
 }
 
-// Writes the warning of a run that failed in this way.
 fn write_warning<W: WriteStr>(
     w: &mut W,
     styles: &Styles,
@@ -58,7 +57,6 @@ fn write_warning<W: WriteStr>(
     }
 }
 
-// Writes that tests were not run, where there are such.
 #[tactic(auto, unfolding(crate::specs::Warnings::not_run_warning))]
 fn write_not_run_warning<W: WriteStr>(
     w: &mut W,
@@ -81,7 +79,6 @@ fn write_not_run_warning<W: WriteStr>(
     write_plain(w, "\n")
 }
 
-// Writes how many of how many tests were not run.
 #[tactic(auto, unfolding(crate::specs::Warnings::not_run_count))]
 fn write_not_run_count<W: WriteStr>(
     w: &mut W,
@@ -103,7 +100,6 @@ fn write_not_run_count<W: WriteStr>(
     write_plain(w, " not run")
 }
 
-// Writes the reason, where it is known.
 #[tactic(auto, unfolding(crate::specs::Warnings::due_to))]
 fn write_due_to<W: WriteStr>(
     w: &mut W,
@@ -121,7 +117,7 @@ fn write_due_to<W: WriteStr>(
     }
 }
 
-// Writes which options would run all tests, where a test's failure ended the run.
+// Names the options that would run all tests, if a test's failure ended the run.
 #[tactic(auto, unfolding(crate::specs::Warnings::hint_after))]
 fn write_hint_after<W: WriteStr>(
     w: &mut W,

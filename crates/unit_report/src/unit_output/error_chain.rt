@@ -28,7 +28,6 @@ pub fn write_error_chain<W: WriteStr>(w: &mut W, chain: &ErrorChain) -> Result<(
     write_causes(w, chain.causes())
 }
 
-// Writes the causes, if there are any.
 #[tactic(auto, unfolding(crate::specs::ErrorChain::causes_text))]
 fn write_causes<W: WriteStr>(w: &mut W, causes: &[DescriptionText]) -> Result<(), WriteFault>
     ensures { Puts W.meaning w.old (causes_text causes.now) result w.new }
@@ -49,7 +48,7 @@ fn write_each_cause<W: WriteStr>(w: &mut W, causes: &[DescriptionText]) -> Resul
     Ok(())
 }
 
-// Writes a cause on a line of its own. Its later lines stand under its first.
+// The later lines of a cause are aligned below its first.
 #[tactic(auto, unfolding(crate::specs::ErrorChain::cause_text))]
 fn write_cause<W: WriteStr>(w: &mut W, cause: &str) -> Result<(), WriteFault>
     ensures { Puts W.meaning w.old (cause_text cause.now) result w.new }
@@ -58,7 +57,6 @@ fn write_cause<W: WriteStr>(w: &mut W, cause: &str) -> Result<(), WriteFault>
     write_later_lines_indented(w, cause)
 }
 
-// Writes a text with its lines but the first indented.
 fn write_later_lines_indented<W: WriteStr>(w: &mut W, text: &str) -> Result<(), WriteFault>
     ensures { Puts W.meaning w.old (indent (codes "    ") false text.now) result w.new }
 {

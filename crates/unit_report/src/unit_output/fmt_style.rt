@@ -7,7 +7,7 @@ use plain_text::style::Style;
 use std::fmt;
 use std::fmt::Formatter;
 
-/// Displays what stands before a text in a style: ESC `[` code `m`, or nothing.
+/// Displays the prefix of a style: ESC `[` code `m`, or nothing.
 ///
 /// ```
 /// use plain_text::style::Style;
@@ -24,7 +24,7 @@ impl fmt::Display for FmtPrefix {
     }
 }
 
-/// Displays what stands after a text in a style: ESC `[0m`, or nothing.
+/// Displays the suffix of a style: ESC `[0m`, or nothing.
 #[derive(Clone, Copy, PartialEq, Eq)]
 pub struct FmtSuffix(pub Style);
 

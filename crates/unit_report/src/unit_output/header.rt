@@ -20,7 +20,7 @@ pub enum OutputName {
     Output,
     /// Why a process could not be started, after a finished unit.
     ExecFail,
-    /// The same, in an answer to a request for information.
+    /// Errors in the response to a request for information.
     Errors,
 }
 
@@ -92,7 +92,6 @@ impl OutputHeader {
     }
 }
 
-// Writes a bar of the given number of characters, or a space, in this style.
 fn write_bar<W: WriteStr>(
     w: &mut W,
     style: Style,
@@ -107,7 +106,6 @@ fn write_bar<W: WriteStr>(
     }
 }
 
-// Writes a bar of the given number of characters in this style.
 #[tactic(auto, unfolding(plain_text::specs::Style::styled))]
 fn write_hbar<W: WriteStr>(
     w: &mut W,

@@ -1,4 +1,4 @@
-//! The lines of a highlight. Each has the style for itself, since some viewers end a style with the line.
+//! The lines of a highlight. Each is styled separately, since some viewers end a style with the line.
 
 ghost use Rattle.std.specs.Prelude.{◌≡◌, take, drop};
 ghost use Rattle.plain_text.specs.Writer.{Puts};
@@ -26,7 +26,7 @@ pub(super) fn write_highlighted_lines<W: WriteStr>(
     Ok(())
 }
 
-// Writes a line in this style, and what closes it after the style.
+// What closes the line comes after the style.
 #[tactic(auto, unfolding(crate::specs::HighlightedLines::highlighted_line))]
 fn write_highlighted_line<W: WriteStr>(
     w: &mut W,
@@ -42,7 +42,6 @@ fn write_highlighted_line<W: WriteStr>(
     w.write_str(line_end)
 }
 
-// A line, and the line feeds and carriage returns that close it.
 fn split_body(line: &str) -> (&str, &str)
     ensures body { result.0.now ≡ take (body_len line.now) line.now }
     ensures end { result.1.now ≡ drop (body_len line.now) line.now }
@@ -50,7 +49,6 @@ fn split_body(line: &str) -> (&str, &str)
     line.split_at(body_len(line.as_bytes()))
 }
 
-// How many bytes a line has before the line feeds and carriage returns that close it.
 fn body_len(line: &[u8]) -> usize
     ensures { result ≡ body_len line.now }
 {
@@ -61,7 +59,6 @@ fn body_len(line: &[u8]) -> usize
     len
 }
 
-// A line feed or a carriage return.
 fn closes_line(byte: u8) -> bool
     ensures { result ≡ closes_line byte }
 {

@@ -8,42 +8,42 @@ use run_model::config::TestOutputDisplay;
 use run_model::output::OutputSpec;
 use run_model::status::{ExecutionDescription, ExecutionResultDescription};
 
-/// When output is shown overriding what each test asks for. A setting that is absent leaves the choice to the test.
+/// Overrides of the settings that each test has. An absent one leaves the choice to the test.
 #[derive(Clone, Copy, Debug, Default, PartialEq, Eq)]
 pub struct OutputDisplayOverrides {
-    /// Of tests that succeed.
+    /// For tests that succeed.
     pub force_success_output: Option<TestOutputDisplay>,
-    /// Of tests that fail.
+    /// For tests that fail.
     pub force_failure_output: Option<TestOutputDisplay>,
-    /// Of tests that could not be started.
+    /// For tests that could not be started.
     pub force_exec_fail_output: Option<TestOutputDisplay>,
 }
 
 impl OutputDisplayOverrides {
-    /// When the output of a test that succeeds is shown.
+    /// When the output of a successful test is shown.
     pub fn success_output(&self, event_setting: TestOutputDisplay) -> TestOutputDisplay
         ensures { result ≡ unwrap_or self.now.force_success_output event_setting }
     {
         self.force_success_output.unwrap_or(event_setting)
     }
 
-    /// When the output of a test that fails is shown.
+    /// When the output of a failed test is shown.
     pub fn failure_output(&self, event_setting: TestOutputDisplay) -> TestOutputDisplay
         ensures { result ≡ unwrap_or self.now.force_failure_output event_setting }
     {
         self.force_failure_output.unwrap_or(event_setting)
     }
 
-    /// When what is known of a test that could not be started is shown.
+    /// When the error of a test that could not be started is shown.
     pub fn exec_fail_output(&self, event_setting: TestOutputDisplay) -> TestOutputDisplay
         ensures { result ≡ unwrap_or self.now.force_exec_fail_output event_setting }
     {
         self.force_exec_fail_output.unwrap_or(event_setting)
     }
 
-    /// When the output of a finished test is shown, which asks for these settings in case of a success and of a failure.
+    /// When the output of a finished test is shown, given its settings for a success and for a failure.
     ///
-    /// A test whose last attempt succeeded has the setting of successes, also where it is flaky and counts as failed.
+    /// A test whose last attempt succeeded has the setting of successes, also if it is flaky and counts as failed.
     pub fn resolve_for_describe<S: OutputSpec>(
         &self,
         success_output: TestOutputDisplay,
@@ -60,8 +60,8 @@ impl OutputDisplayOverrides {
         )
     }
 
-    /// When the output of a test is shown, from whether its last attempt succeeded and how that ended: all that is known of a
-    /// test whose attempts are not there.
+    /// When the output of a test is shown, given whether its last attempt succeeded and its last result. This is all that a replay
+    /// knows of a test whose attempts are not loaded.
     pub fn resolve(
         &self,
         is_success: bool,

@@ -4,7 +4,6 @@ ghost use Rattle.std.specs.Prelude.{◌≡◌, ◌∷◌, ◌++◌, [], true};
 ghost use Rattle.std.specs.Option.{option_map, option_and_then};
 ghost use Rattle.run_model.specs.Outputs.{combined_part, has_loaded_output, is_loaded, stderr_part, stdout_part, subslice_value};
 ghost use Rattle.plain_text.specs.Indent.{indent};
-ghost use Rattle.plain_text.specs.Lossy.{decoded_text};
 ghost use Rattle.plain_text.specs.Writer.{Puts};
 ghost use Rattle.unit_report.specs.Captured.{captured};
 ghost use Rattle.unit_report.specs.ErrorChain.{error_chain_text};
@@ -34,15 +33,15 @@ pub struct ChildOutputSpec {
     pub stdout_header: OutputHeader,
     /// The line before standard error.
     pub stderr_header: OutputHeader,
-    /// The line before both streams, where they were captured together.
+    /// The line before both streams, if they were captured together.
     pub combined_header: OutputHeader,
     /// The line before the errors of the execution.
     pub exec_fail_header: OutputHeader,
-    /// What stands before each line of an output that is not empty.
+    /// What precedes each line of an output that is not empty.
     pub output_indent: &'static str,
 }
 
-/// Shows what tests and setup scripts wrote.
+/// Shows the output of tests and setup scripts.
 #[derive(Clone, Copy)]
 pub struct UnitOutputReporter {
     overrides: OutputDisplayOverrides,
@@ -51,7 +50,7 @@ pub struct UnitOutputReporter {
 }
 
 impl UnitOutputReporter {
-    /// With these overrides. Streams that are empty are shown only where `display_empty_outputs` says so.
+    /// A reporter with these overrides. Empty streams are shown only if `display_empty_outputs` is set.
     pub fn new(
         overrides: OutputDisplayOverrides,
         displayer_kind: DisplayerKind,
@@ -75,12 +74,11 @@ impl UnitOutputReporter {
         self.overrides
     }
 
-    /// Writes all that is shown of an attempt: errors first, then what it wrote, then an empty line. Its output must
-    /// not have been left unread.
+    /// Writes all that is shown of an attempt: errors first, then its output, then an empty line. The output must be loaded.
     ///
     /// # Errors
     ///
-    /// What the writer answered. A beginning of the text was accepted.
+    /// The writer's fault. It has accepted a prefix of the text.
     #[tactic(auto, unfolding(crate::specs::UnitOutput::execution_output))]
     pub fn write_child_execution_output<W: WriteStr>(
         &self,
@@ -110,11 +108,11 @@ impl UnitOutputReporter {
         }
     }
 
-    /// Writes what a process wrote, each stream below its header. It must not have been left unread.
+    /// Writes the output of a process, each stream below its header. It must be loaded.
     ///
     /// # Errors
     ///
-    /// What the writer answered. A beginning of the text was accepted.
+    /// The writer's fault. It has accepted a prefix of the text.
     #[tactic(auto, unfolding(crate::specs::UnitOutput::child_output))]
     pub fn write_child_output<W: WriteStr>(
         &self,
@@ -145,7 +143,6 @@ impl UnitOutputReporter {
     }
 }
 
-// Writes the streams of a process.
 #[derive(Clone, Copy)]
 struct StreamWriter<'a> {
     reporter: &'a UnitOutputReporter,
@@ -154,7 +151,7 @@ struct StreamWriter<'a> {
 }
 
 impl StreamWriter<'_> {
-    // Writes two streams. A record says in one line that neither was captured.
+    // A replay says in one line that neither stream was captured.
     #[tactic(auto, unfolding(crate::specs::UnitOutput::split_text))]
     fn write_split<W: WriteStr>(
         &self,
@@ -173,7 +170,6 @@ impl StreamWriter<'_> {
         }
     }
 
-    // Writes two streams, one after the other.
     #[tactic(auto, unfolding(crate::specs::UnitOutput::both_streams))]
     fn write_both<W: WriteStr>(
         &self,
@@ -190,7 +186,7 @@ impl StreamWriter<'_> {
         self.write_stream(w, self.spec.stderr_header, OutputName::Stderr, stderr, part)
     }
 
-    // Writes one of two streams. A record says where it was not captured.
+    // A replay says that a stream was not captured.
     #[tactic(auto, unfolding(crate::specs::UnitOutput::stream_text))]
     fn write_stream<W: WriteStr>(
         &self,
@@ -211,7 +207,6 @@ impl StreamWriter<'_> {
         }
     }
 
-    // Writes a stream that is there, unless it is empty and empty ones are not shown.
     #[tactic(auto, unfolding(crate::specs::UnitOutput::present_stream))]
     fn write_present<W: WriteStr>(
         &self,
@@ -223,47 +218,50 @@ impl StreamWriter<'_> {
         ensures { Puts W.meaning w.old (present_stream self.now.reporter.now self.now.styles.now self.now.spec.now.output_indent.now header output.now (subslice_value highlight.entry)) result w.new }
     {
         if self.reporter.display_empty_outputs || !output.is_empty() {
-            self.write_shown(w, header, output.as_bytes(), highlight)
+            self.write_shown(w, header, output, highlight)
         } else {
             Ok(())
         }
     }
 
-    // Writes the header of a stream, and the stream below it, indented.
     #[tactic(auto, unfolding(crate::specs::UnitOutput::shown_stream))]
     fn write_shown<W: WriteStr>(
         &self,
         w: &mut W,
         header: OutputHeader,
-        bytes: &[u8],
+        output: &ChildSingleOutput,
         highlight: Option<ByteSubslice<'_>>,
     ) -> Result<(), WriteFault>
-        ensures { Puts W.meaning w.old (shown_stream self.now.styles.now self.now.spec.now.output_indent.now header bytes.now (subslice_value highlight.entry)) result w.new }
+        ensures { Puts W.meaning w.old (shown_stream self.now.styles.now self.now.spec.now.output_indent.now header output.now (subslice_value highlight.entry)) result w.new }
     {
         header.write_to(w)?;
         write_plain(w, "\n")?;
-        write_captured_indented(w, self.styles, self.spec.output_indent, bytes, highlight)
+        write_captured_indented(
+            w,
+            self.styles,
+            self.spec.output_indent,
+            output.as_str(),
+            highlight,
+        )
     }
 }
 
-// Writes captured output, each line after the margin.
 fn write_captured_indented<W: WriteStr>(
     w: &mut W,
     styles: &Styles,
     margin: &str,
-    bytes: &[u8],
+    text: &str,
     highlight: Option<ByteSubslice<'_>>,
 ) -> Result<(), WriteFault>
-    ensures { Puts W.meaning w.old (indent margin.now true (captured styles.now (decoded_text bytes.now) (subslice_value highlight.entry))) result w.new }
+    ensures { Puts W.meaning w.old (indent margin.now true (captured styles.now text.now (subslice_value highlight.entry))) result w.new }
 {
     let mut out = indented(w).with_str(margin);
-    let result = write_captured(&mut out, styles, bytes, highlight);
+    let result = write_captured(&mut out, styles, text, highlight);
     let back = out.into_inner();
     let _ = &*back;
     result
 }
 
-// Writes that an output was not captured.
 #[tactic(auto, unfolding(crate::specs::UnitOutput::not_captured_text))]
 fn write_not_captured<W: WriteStr>(
     w: &mut W,
@@ -284,7 +282,6 @@ fn write_not_captured<W: WriteStr>(
     )
 }
 
-// Writes errors, if there are any.
 #[tactic(auto, unfolding(crate::specs::UnitOutput::errors_text))]
 fn write_errors<W: WriteStr>(
     w: &mut W,
@@ -299,7 +296,6 @@ fn write_errors<W: WriteStr>(
     }
 }
 
-// Writes an error with its causes, indented below its header.
 #[tactic(auto, unfolding(crate::specs::UnitOutput::errors_block))]
 fn write_errors_block<W: WriteStr>(
     w: &mut W,
@@ -313,7 +309,6 @@ fn write_errors_block<W: WriteStr>(
     write_chain_indented(w, spec.output_indent, chain)
 }
 
-// Writes an error with its causes and a line feed, each line after the margin.
 fn write_chain_indented<W: WriteStr>(
     w: &mut W,
     margin: &str,
@@ -328,7 +323,6 @@ fn write_chain_indented<W: WriteStr>(
     result
 }
 
-// Writes an error with its causes, and a line feed.
 fn write_chain_line<W: WriteStr>(w: &mut W, chain: &ErrorChain) -> Result<(), WriteFault>
     ensures { Puts W.meaning w.old (error_chain_text chain.now ++ 10 ∷ []) result w.new }
 {
@@ -336,28 +330,24 @@ fn write_chain_line<W: WriteStr>(w: &mut W, chain: &ErrorChain) -> Result<(), Wr
     w.write_str("\n")
 }
 
-// The part of standard output that is pointed out.
 fn stdout_subslice(highlight: Option<&Highlight>) -> Option<ByteSubslice<'_>>
     ensures { subslice_value result ≡ option_and_then stdout_part (option_map (λ h. h.now) highlight.entry) }
 {
     highlight?.stdout_subslice()
 }
 
-// The part of standard error that is pointed out.
 fn stderr_subslice(highlight: Option<&Highlight>) -> Option<ByteSubslice<'_>>
     ensures { subslice_value result ≡ option_and_then stderr_part (option_map (λ h. h.now) highlight.entry) }
 {
     highlight?.stderr_subslice()
 }
 
-// The part of both streams together that is pointed out.
 fn combined_subslice(highlight: Option<&Highlight>) -> Option<ByteSubslice<'_>>
     ensures { subslice_value result ≡ option_and_then combined_part (option_map (λ h. h.now) highlight.entry) }
 {
     highlight?.combined_subslice()
 }
 
-// The highlight, where there is one.
 fn highlight_of(highlight: &Option<Boxed<Highlight>>) -> Option<&Highlight>
     ensures { option_map (λ h. h.now) result ≡ highlight.now }
 {

@@ -4,6 +4,6 @@ use Rattle.reporter_state.specs.Entries.{shown_entries}
 use Rattle.reporter_state.specs.Keys.{shown_of}
 use Rattle.reporter_state.proofs.kept.KeptEntries.write.Given as goal
 
--- the entries that are left are owed
+-- the remaining entries are owed
 abbrev pub invariant-loop-key : goal.invariant-loop-key
 invariant-loop-key g l = Owes g.W.WriteStr.meaning l.fn.w (shown_entries l.settings l.self) l.w (shown_entries l.settings (shown_of (rev_source l.key-iterator)))

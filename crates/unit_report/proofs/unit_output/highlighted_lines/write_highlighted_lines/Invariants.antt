@@ -5,7 +5,7 @@ use Rattle.plain_text.specs.Writer.{Owes}
 use Rattle.unit_report.specs.HighlightedLines.{highlighted_lines}
 use Rattle.unit_report.proofs.unit_output.highlighted_lines.write_highlighted_lines.Given as goal
 
--- the lines that are left are owed
+-- the remaining lines are owed
 abbrev pub invariant-loop-rest : goal.invariant-loop-rest
 invariant-loop-rest g l = record {
   text : shadow (Utf8 l.rest);
