@@ -1,24 +1,21 @@
 //! The answer of a unit that is asked what it is doing.
 
 ghost use Rattle.std.specs.Prelude.{◌≡◌, ◌+◌, false};
-ghost use Rattle.plain_text.specs.Indent.{indent};
-ghost use Rattle.writers.specs.Writer.{Puts};
-ghost use Rattle.unit_report.specs.UnitOutput.{layout_of};
-ghost use Rattle.text_parts.specs.Script.{script_of};
-ghost use Rattle.plain_text.specs.Texts.{spaces};
+ghost use Rattle.styled_text.specs.Names.{indent, Puts, spaces};
+ghost use Rattle.text_parts.specs.Names.{layout_of, script_of};
 ghost use Rattle.report_words.specs.Parts.{paint};
 ghost use Rattle.info_text.specs.Response.{HasAnswerOutput, HasValidOutput, answer, answering_script, answering_test, info_layout, info_response_text, is_delay, number_padding, script_answer, script_unit, separator, test_answer, test_unit, told_attempt, unit_answer, valid_output};
 
 use crate::state::{InfoUnit, write_state};
-use plain_text::indenter::indented;
-use plain_text::numbers::spaces_str;
-use plain_text::style::Styles;
-use plain_text::text::Number;
 use report_text::helpers::{ThemeCharacters, decimal_char_width};
 use run_model::info::{InfoResponse, SetupScriptInfoResponse, TestInfoResponse, UnitState};
 use run_model::output::{ChildExecutionOutputDescription, LiveSpec};
 use run_model::status::RetryData;
 use run_model::unit::UnitKind;
+use styled_text::indenter::indented;
+use styled_text::numbers::spaces_str;
+use styled_text::style::Styles;
+use styled_text::text::Number;
 use text_parts::instance::{CountedInstance, InstanceEnd};
 use text_parts::script::{ScriptInstance, ShownScript};
 use text_parts::settings::Settings;

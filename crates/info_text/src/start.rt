@@ -4,9 +4,9 @@ ghost use Rattle.writers.specs.Writer.{Puts};
 ghost use Rattle.report_words.specs.Parts.{paint};
 ghost use Rattle.info_text.specs.Start.{info_finished_text, info_started_text};
 
-use plain_text::text::{Number, Seconds, Toned};
 use run_model::stats::RunStats;
 use run_model::time::Nanos;
+use styled_text::text::{Number, Seconds, Toned};
 use text_parts::bar::BarLine;
 use text_parts::settings::Settings;
 use text_parts::stats_text::{Progress, failure_style};

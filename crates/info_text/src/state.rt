@@ -1,17 +1,16 @@
 //! What a unit is doing, in the lines of its answer.
 
-ghost use Rattle.std.specs.Option.{is_some};
+ghost use Rattle.styled_text.specs.Names.{is_some, Puts};
 ghost use Rattle.std.specs.Prelude.{◌≡◌, ◌++◌};
-ghost use Rattle.writers.specs.Writer.{Puts};
 ghost use Rattle.report_words.specs.Parts.{paint, style_of};
 ghost use Rattle.info_text.specs.State.{attempt_text, marked_slow_end, nanos_of, running_tone, state_text, status_start, taken_end, tentative_info, terminating_line, terminating_note, signal_of};
 
-use plain_text::style::{Style, Styles};
-use plain_text::text::{Number, Seconds, Toned};
 use run_model::info::{UnitState, UnitTerminateMethod, UnitTerminatingState};
 use run_model::status::{ExecutionResultDescription, RetryData};
 use run_model::time::Nanos;
 use run_model::unit::UnitKind;
+use styled_text::style::{Style, Styles};
+use styled_text::text::{Number, Seconds, Toned};
 use text_parts::info_result::InfoResult;
 use text_parts::settings::Settings;
 use unit_report::formatters::DisplayUnitKind;

@@ -1,11 +1,8 @@
 -- How a process ended, as text.
 use Rattle.std.specs.Prelude.{ℕ, zero, suc, ◌+◌, ◌/◌, ◌%◌, ℤ, [], ◌∷◌, ◌++◌, Option, None, Some, nat_lt, if◌then◌else◌, codes}
-use Rattle.std.specs.Fmt.{signed_decimal}
-use Rattle.std.specs.Int.{cast_unsigned, w32}
+use Rattle.styled_text.specs.Names.{signed_decimal, cast_unsigned, w32, Text, Plain, part_texts, plain}
 use Rattle.run_names.specs.declared.abort.AbortDescription.{AbortDescription}
 use Rattle.run_names.specs.declared.abort.AbortDescription.TheVariants.{UnixSignal, WindowsNtStatus, WindowsJobObject}
-use Rattle.plain_text.specs.Texts.{Text}
-use Rattle.plain_text.specs.Style.{Plain, part_texts, plain}
 use Rattle.report_text.specs.declared.helpers.failure.ExitDescription.{ExitDescription}
 use Rattle.report_text.specs.declared.helpers.failure.ExitDescription.TheVariants as ended
 

@@ -1,19 +1,9 @@
 -- Names, iterations and counters as a report shows them.
 use Rattle.std.specs.Prelude.{◌≢◌, ℕ, ◌+◌, List, [], ◌∷◌, ◌++◌, false, Option, None, Some, length, codes, encode_utf8}
-use Rattle.std.specs.Fmt.{decimal}
-use Rattle.std.specs.declared.num.NonZeroU32.{NonZeroU32}
-use Rattle.std.specs.Int.NonZero.{non_zero_u32_get}
+use Rattle.styled_text.specs.Names.{decimal, NonZeroU32, non_zero_u32_get, repeat, Text, right_in, HasNoEscape, shrunk_parts, PartText, Plain, Styled, part_texts, Style, ListStyles}
 use Rattle.run_names.specs.Names.{module_path_of, last_name_of}
-use Rattle.run_names.specs.declared.name.TestInstanceId.{TestInstanceId}
-use Rattle.run_names.specs.declared.stress.StressIndex.{StressIndex}
-use Rattle.std.specs.List.{repeat}
-use Rattle.plain_text.specs.Texts.{Text, right_in}
-use Rattle.plain_text.specs.Escapes.{HasNoEscape}
-use Rattle.plain_text.specs.Fitting.{shrunk_parts}
-use Rattle.plain_text.specs.Style.{PartText, Plain, Styled, part_texts}
-use Rattle.plain_text.specs.declared.style.Style.{Style}
-use Rattle.plain_text.specs.declared.style.Style.TheVariants as style
-use Rattle.plain_text.specs.declared.style.ListStyles.{ListStyles}
+use Rattle.run_model.specs.Names.{TestInstanceId, StressIndex}
+use Rattle.styled_text.specs.declared.style.Style.TheVariants as style
 use Rattle.report_words.specs.Parts.{Parts, Open, drawn_given}
 use Rattle.report_text.specs.declared.helpers.instance.DisplayCounterIndex.{DisplayCounterIndex}
 use Rattle.report_text.specs.declared.helpers.instance.DisplayCounterIndex.TheVariants.{Counter, Padded}

@@ -1,8 +1,6 @@
 -- Words as a shell reads them.
 use Rattle.std.specs.Prelude.{ℕ, Bool, not, ◌&&◌, ◌||◌, ◌==◌, List, [], ◌∷◌, ◌++◌, length, codes, if◌then◌else◌}
-use Rattle.std.specs.Char.{is_ascii_alphanumeric}
-use Rattle.std.specs.List.{flat_map, join_by, list_all, list_any}
-use Rattle.plain_text.specs.Texts.{Text}
+use Rattle.styled_text.specs.Names.{is_ascii_alphanumeric, flat_map, join_by, list_all, list_any, Text}
 
 -- a byte that means itself to a shell: an ASCII letter, a digit or one of these
 abbrev pub is_unquoted_byte : ℕ → Bool

@@ -16,8 +16,6 @@ pub use instance::{
     write_test_instance, write_test_name,
 };
 pub use interceptor::format_interceptor_too_many_tests;
-pub use plain_text::decimal::{Unsigned, decimal_char_width};
-pub use plain_text::style::RESET_COLOR;
 pub use quoting::{CommandWord, QuotedDisplay, shell_join};
 pub use report_words::durations::{
     DurationRounding, FormattedDuration, FormattedHhMmSs, FormattedRelativeDuration,
@@ -30,3 +28,5 @@ pub use report_words::run_id::force_or_new_run_id;
 pub use report_words::theme::ThemeCharacters;
 pub use report_words::{durations, paths, plural, run_id, theme};
 pub use script::{DisplayScriptInstance, write_script_instance};
+pub use styled_text::decimal::{Unsigned, decimal_char_width};
+pub use styled_text::style::RESET_COLOR;

@@ -6,4 +6,4 @@
 
 pub mod helpers;
 
-pub use plain_text::{escapes, indenter, reporter_helpers, style, write_str};
+pub use styled_text::{escapes, indenter, reporter_helpers, style, write_str};

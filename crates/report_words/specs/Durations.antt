@@ -1,8 +1,6 @@
 -- Durations as text. Each is a number of nanoseconds.
 use Rattle.std.specs.Prelude.{ℕ, ◌+◌, ◌/◌, ◌%◌, List, [], ◌∷◌, ◌++◌, Option, None, Some, nat_le, nat_lt, if◌then◌else◌, codes}
-use Rattle.std.specs.Fmt.{decimal}
-use Rattle.plain_text.specs.Texts.{Text}
-use Rattle.plain_text.specs.Numbers.{last_digits, seconds}
+use Rattle.styled_text.specs.Names.{decimal, Text, last_digits, seconds}
 use Rattle.report_words.specs.declared.durations.DurationRounding.{DurationRounding}
 use Rattle.report_words.specs.declared.durations.DurationRounding.TheVariants.{Floor, Ceiling}
 use Rattle.report_words.specs.declared.durations.TimeUnit.{TimeUnit}

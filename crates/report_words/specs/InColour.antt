@@ -1,8 +1,6 @@
 -- A text in colour against a plain one.
 use Rattle.std.specs.Prelude.{◌≡◌, Bool, true, false, ◌++◌}
-use Rattle.plain_text.specs.Texts.{Text}
-use Rattle.plain_text.specs.EqualButEndSpaces.{IsEqualButEndSpaces}
-use Rattle.plain_text.specs.Escapes.{visible, HasNoEscape}
+use Rattle.styled_text.specs.Names.{Text, IsEqualButEndSpaces, visible, HasNoEscape}
 
 -- the first text in colour is the second, whatever comes after the two
 pub record IsInColour (c u : Text) : Type 0 where

@@ -1,13 +1,6 @@
 -- Texts before they are painted: parts in turn, each in a style or in none.
 use Rattle.std.specs.Prelude.{◌≡◌, ◌==◌, ◌⊎◌, ℕ, Bool, true, false, ◌&&◌, List, [], ◌∷◌, ◌++◌, IsTrue, refl, if◌then◌else◌, codes}
-use Rattle.std.specs.Fmt.{decimal}
-use Rattle.plain_text.specs.Texts.{Text, right_in, spaces}
-use Rattle.plain_text.specs.Indent.{indent}
-use Rattle.std.specs.List.{flat_map}
-use Rattle.plain_text.specs.Escapes.{has_no_escape, HasNoEscape}
-use Rattle.plain_text.specs.Style.{plain, styled}
-use Rattle.plain_text.specs.declared.style.Style.{Style}
-use Rattle.plain_text.specs.declared.style.Styles.{Styles}
+use Rattle.styled_text.specs.Names.{decimal, Text, right_in, spaces, indent, flat_map, has_no_escape, HasNoEscape, plain, styled, Style, Styles}
 
 -- the text ends in a line feed
 abbrev pub EndsLine : Text → Type 0

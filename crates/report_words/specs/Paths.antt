@@ -1,6 +1,6 @@
 -- Paths of files and directories.
 use Rattle.std.specs.Prelude.{ℕ, Bool, false, ◌==◌, List, [], ◌∷◌, ◌++◌, Option, None, Some, codes, if◌then◌else◌}
-use Rattle.plain_text.specs.Texts.{Text}
+use Rattle.styled_text.specs.Texts.{Text}
 
 -- the path begins with a slash
 abbrev pub is_absolute : Text → Bool

@@ -2,7 +2,7 @@
 use Rattle.std.specs.Prelude.{ℕ, Bool, true, false, not, ◌==◌, if◌then◌else◌, codes}
 use Rattle.run_names.specs.declared.config.NextestRunMode.{NextestRunMode}
 use Rattle.run_names.specs.declared.config.NextestRunMode.TheVariants.{Test, Benchmark}
-use Rattle.plain_text.specs.Texts.{Text}
+use Rattle.styled_text.specs.Texts.{Text}
 
 -- the first word for one, the second for any other number
 abbrev pub singular_or_plural : Text → Text → ℕ → Text

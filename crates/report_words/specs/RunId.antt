@@ -4,7 +4,7 @@ use Rattle.uuid.specs.Parts.{with_variant, with_version}
 use Rattle.uuid.specs.Text.{parsed}
 use Rattle.uuid.specs.declared.Variant.TheVariants.{RFC4122}
 use Rattle.uuid.specs.declared.Version.TheVariants.{Random}
-use Rattle.plain_text.specs.Texts.{Text}
+use Rattle.styled_text.specs.Texts.{Text}
 
 -- the id that is forced: there is a text, and it parses
 abbrev pub forced_id : Option Text → Option (List ℕ)

@@ -1,7 +1,6 @@
 -- Bars and trees, in Unicode or in ASCII.
 use Rattle.std.specs.Prelude.{ℕ, Bool, true, false, codes, encode_utf8, encode_utf8_all}
-use Rattle.std.specs.List.{repeat}
-use Rattle.plain_text.specs.Texts.{Text}
+use Rattle.styled_text.specs.Names.{repeat, Text}
 
 -- the character of a bar: a light horizontal line, or a hyphen
 abbrev pub hbar_character : Bool → ℕ

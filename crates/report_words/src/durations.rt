@@ -2,15 +2,13 @@
 
 ghost use Rattle.std.specs.Prelude.{◌≡◌, ◌≤◌, ◌++◌, Some, chars, length};
 ghost use Rattle.report_words.specs.Durations.{clock_text, duration_text, leading_zero, relative_text, time_units, unit_name, unit_nanos, unit_within, whole_seconds};
-ghost use Rattle.plain_text.specs.Numbers.{seconds};
-ghost use Rattle.plain_text.specs.Texts.{right_in};
-ghost use Rattle.writers.specs.Writer.{Puts};
+ghost use Rattle.styled_text.specs.Names.{seconds, right_in, Puts};
 
 use itoa::Buffer;
-use plain_text::numbers::{digit_str, round_to, spaces_str};
 use run_names::time::Nanos;
 use std::fmt;
 use std::fmt::Formatter;
+use styled_text::numbers::{digit_str, round_to, spaces_str};
 use writers::show_written;
 use writers::text::WriteText;
 use writers::write_str::{WriteFault, WriteStr, write_strs};
@@ -62,7 +60,7 @@ impl fmt::Display for FormattedDuration {
 }
 
 // Writes nanoseconds as seconds with two decimals.
-#[tactic(auto, unfolding(plain_text::specs::Numbers::seconds, plain_text::specs::Numbers::with_point))]
+#[tactic(auto, unfolding(styled_text::specs::Numbers::seconds, styled_text::specs::Numbers::with_point))]
 fn write_seconds<W: WriteStr>(w: &mut W, nanos: u128) -> Result<(), WriteFault>
     ensures { Puts W.meaning w.old (seconds 2 nanos) result w.new }
 {
@@ -180,7 +178,7 @@ pub fn write_clock_between<W: WriteStr>(
 }
 
 // Writes seconds as hours, minutes and seconds, right-aligned in the given number of columns.
-#[tactic(auto, unfolding(plain_text::specs::Texts::right_in))]
+#[tactic(auto, unfolding(styled_text::specs::Texts::right_in))]
 fn write_clock_right<W: WriteStr>(
     w: &mut W,
     columns: usize,

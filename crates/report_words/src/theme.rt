@@ -4,9 +4,9 @@ ghost use Rattle.std.specs.Prelude.{◌≡◌, IfOk, codes, string_bytes, true};
 ghost use Rattle.report_words.specs.Theme.{hbar_character, hbar_text, progress_text, tree_branch_text, tree_continuation_text, tree_last_text};
 ghost use Rattle.writers.specs.Writer.{Puts};
 
-use plain_text::repeated::write_repeated;
 use run_names::memory::OutOfMemory;
 use std::alloc::Global;
+use styled_text::repeated::write_repeated;
 use writers::write_str::{WriteFault, WriteStr};
 
 /// The characters of bars and trees. By default they are ASCII.

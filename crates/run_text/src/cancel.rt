@@ -6,9 +6,9 @@ ghost use Rattle.report_words.specs.Parts.{paint};
 ghost use Rattle.run_text.specs.Cancel.{begin_cancel_text, begin_kill_text, ends_at_once, reason_text, still_running};
 
 use crate::running::{Running, ShownRunning};
-use plain_text::style::Styles;
-use plain_text::text::{Right, Toned};
 use run_model::level::CancelReason;
+use styled_text::style::Styles;
+use styled_text::text::{Right, Toned};
 use text_parts::settings::Settings;
 use writers::text::{Unless, When, WriteText};
 use writers::write_str::{WriteFault, WriteStr};

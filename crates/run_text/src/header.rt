@@ -7,10 +7,10 @@ ghost use Rattle.run_text.specs.Header.{date_text, replay_header_text, started_t
 
 use crate::run_id::ShownRunId;
 use jiff::civil::{Date, DateTime, Time};
-use plain_text::numbers::digit_str;
-use plain_text::style::Styles;
-use plain_text::text::{Right, Toned};
 use run_model::replay::ReplayHeader;
+use styled_text::numbers::digit_str;
+use styled_text::style::Styles;
+use styled_text::text::{Right, Toned};
 use writers::text::WriteText;
 use writers::write_str::{WriteFault, WriteStr, write_strs};
 

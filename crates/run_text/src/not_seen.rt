@@ -1,16 +1,15 @@
 //! The tests that a rerun was to see and has not.
 
-ghost use Rattle.std.specs.List.{flat_map};
-ghost use Rattle.writers.specs.Writer.{Puts};
+ghost use Rattle.styled_text.specs.Names.{flat_map, Puts};
 ghost use Rattle.report_words.specs.Parts.{paint};
 ghost use Rattle.run_text.specs.NotSeen.{listed_line, not_seen_line, not_seen_note, not_seen_text};
 
-use plain_text::style::Styles;
-use plain_text::text::{Number, Right};
 use report_text::helpers::DisplayTestInstance;
 use report_text::helpers::plural::tests_str;
 use run_model::name::OwnedTestInstanceId;
 use run_model::not_seen::NotSeen;
+use styled_text::style::Styles;
+use styled_text::text::{Number, Right};
 use text_parts::settings::Settings;
 use writers::text::{Unless, WriteText};
 use writers::write_str::{WriteFault, WriteStr};

@@ -1,21 +1,19 @@
 //! Setup scripts: that one has started, runs for long or has finished.
 
 ghost use Rattle.std.specs.Prelude.{◌≡◌};
-ghost use Rattle.plain_text.specs.Style.{styled};
-ghost use Rattle.plain_text.specs.Texts.{right_in};
-ghost use Rattle.writers.specs.Writer.{Puts};
+ghost use Rattle.styled_text.specs.Names.{styled, right_in, Puts};
 ghost use Rattle.text_parts.specs.Script.{script_of};
 ghost use Rattle.report_words.specs.Parts.{paint, style_of};
 ghost use Rattle.run_text.specs.SetupScript.{HasFailedScriptOutput, failed_script_output, script_counter, script_status_tone, script_status_words, setup_script_finished_text, setup_script_slow_text, setup_script_started_text, slow_script_level, slow_script_words};
 
 use itoa::Buffer;
-use plain_text::numbers::write_right_joined;
-use plain_text::style::{Style, Styles};
-use plain_text::text::Right;
 use run_model::level::StatusLevel;
 use run_model::output::LiveSpec;
 use run_model::status::{ExecutionResultDescription, LeakTimeoutResult, SetupScriptExecuteStatus};
 use run_model::time::Nanos;
+use styled_text::numbers::write_right_joined;
+use styled_text::style::{Style, Styles};
+use styled_text::text::Right;
 use text_parts::attempt_output::write_setup_script_execute_status;
 use text_parts::result_words::spaced_short_status_str;
 use text_parts::script::{ScriptInstance, ShownScript};

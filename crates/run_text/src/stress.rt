@@ -1,20 +1,19 @@
 //! The iterations of a stress run: that one has started or has finished.
 
-ghost use Rattle.std.specs.Option.{option_map};
+ghost use Rattle.styled_text.specs.Names.{option_map, Puts};
 ghost use Rattle.std.specs.Prelude.{◌≡◌};
 ghost use Rattle.run_names.specs.Stress.{remaining_value};
-ghost use Rattle.writers.specs.Writer.{Puts};
 ghost use Rattle.report_words.specs.Parts.{paint};
 ghost use Rattle.run_text.specs.Stress.{iteration_text, of_iterations, of_time, remaining_text, stress_sub_run_finished_text, stress_sub_run_started_text};
 
 use crate::summary::{RunCounts, outcome_style};
-use plain_text::style::Styles;
-use plain_text::text::{Number, Painted, Right};
 use report_text::helpers::plural::iterations_str;
 use report_text::helpers::{DurationRounding, FormattedHhMmSs};
 use run_model::stats::RunStats;
 use run_model::stress::{StressCount, StressProgress, StressRemaining};
 use run_model::time::Nanos;
+use styled_text::style::Styles;
+use styled_text::text::{Number, Painted, Right};
 use text_parts::bar::BarLine;
 use text_parts::settings::Settings;
 use unit_report::formatters::DisplayBracketedDuration;

@@ -5,14 +5,14 @@ ghost use Rattle.writers.specs.Writer.{Puts};
 ghost use Rattle.report_words.specs.Parts.{paint, style_of};
 ghost use Rattle.run_text.specs.Summary.{cancelled_due_to, last_number, of_total, outcome_tone, run_counts_text, run_finished_text, stress_outcome_tone, summary_tone};
 
-use plain_text::style::{Style, Styles};
-use plain_text::text::{Number, Right, Toned};
 use report_text::helpers::plural::{iterations_str, tests_plural_if};
 use run_model::config::NextestRunMode;
 use run_model::stats::{FinalRunStats, RunFinishedStats, RunStats, StressFinalRunStats};
 use run_model::stress::StressIndex;
 use run_model::time::Nanos;
 use std::num::NonZeroU32;
+use styled_text::style::{Style, Styles};
+use styled_text::text::{Number, Right, Toned};
 use text_parts::bar::BarLine;
 use text_parts::settings::Settings;
 use text_parts::stats_text::{Counted, Counts};

@@ -1,18 +1,14 @@
 //! An attempt that failed where another one follows.
 
 ghost use Rattle.std.specs.Prelude.{◌≡◌, true};
-ghost use Rattle.plain_text.specs.Style.{styled};
-ghost use Rattle.plain_text.specs.Texts.{right_in};
-ghost use Rattle.writers.specs.Writer.{Puts};
+ghost use Rattle.styled_text.specs.Names.{styled, right_in, Puts};
 ghost use Rattle.report_words.specs.Parts.{paint};
 ghost use Rattle.test_text.specs.TestRetry.{HasFailedAttemptOutput, attempt_failed_text, delay_words, failed_output, is_failed_output_shown};
-ghost use Rattle.text_parts.specs.Settings.{is_level_shown};
+ghost use Rattle.text_parts.specs.Names.{is_level_shown, short_word};
 ghost use Rattle.test_text.specs.StatusLine.{attempt_words};
 ghost use Rattle.run_names.specs.declared.level.StatusLevel.TheVariants.{Retry};
-ghost use Rattle.text_parts.specs.ResultWords.{short_word};
 
 use itoa::Buffer;
-use plain_text::style::Style;
 use run_model::config::TestOutputDisplay;
 use run_model::level::StatusLevel;
 use run_model::name::TestInstanceId;
@@ -20,6 +16,7 @@ use run_model::output::LiveSpec;
 use run_model::status::{ExecuteStatus, ExecutionResultDescription, RetryData};
 use run_model::stress::StressIndex;
 use run_model::time::Nanos;
+use styled_text::style::Style;
 use text_parts::attempt_output::write_test_execute_status;
 use text_parts::instance::InstanceEnd;
 use text_parts::result_words::spaced_short_status_str;

@@ -1,19 +1,17 @@
 //! A test that runs longer than it should.
 
 ghost use Rattle.std.specs.Prelude.{◌≡◌};
-ghost use Rattle.plain_text.specs.Style.{styled};
-ghost use Rattle.plain_text.specs.Texts.{right_in};
-ghost use Rattle.writers.specs.Writer.{Puts};
+ghost use Rattle.styled_text.specs.Names.{styled, right_in, Puts};
 ghost use Rattle.report_words.specs.Parts.{paint, style_of};
 ghost use Rattle.test_text.specs.TestSlow.{has_number, is_last_attempt, is_level_exceeded, slow_word, terminating_level, terminating_tone, terminating_word, test_slow_text};
 
 use crate::attempt::Try;
-use plain_text::style::{Style, Styles};
 use run_model::level::StatusLevel;
 use run_model::name::TestInstanceId;
 use run_model::status::RetryData;
 use run_model::stress::StressIndex;
 use run_model::time::Nanos;
+use styled_text::style::{Style, Styles};
 use text_parts::instance::InstanceEnd;
 use text_parts::settings::Settings;
 use unit_report::formatters::DisplaySlowDuration;

@@ -6,13 +6,13 @@ ghost use Rattle.report_words.specs.Parts.{paint};
 ghost use Rattle.test_text.specs.TestStarted.{command_text, test_retry_started_text, test_started_text};
 
 use crate::attempt::Try;
-use plain_text::text::Right;
 use report_text::helpers::quoting::write_shell_words;
 use run_model::command::CommandLine;
 use run_model::name::TestInstanceId;
 use run_model::stats::RunStats;
 use run_model::status::RetryData;
 use run_model::stress::StressIndex;
+use styled_text::text::Right;
 use text_parts::instance::{CountedInstance, UntimedEnd};
 use text_parts::settings::Settings;
 use writers::text::{When, WriteText};

@@ -1,15 +1,11 @@
 -- The line that follows the line of a test whose process was ended from outside, on Windows.
 use Rattle.std.specs.Prelude.{ℤ, false, Option, None, Some, [], ◌++◌, codes}
-use Rattle.run_names.specs.declared.abort.AbortDescription.{AbortDescription}
+use Rattle.run_model.specs.Names.{AbortDescription, ExecutionResultDescription, FailureDescription}
 use Rattle.run_names.specs.declared.abort.AbortDescription.TheVariants.{UnixSignal, WindowsNtStatus, WindowsJobObject}
-use Rattle.run_model.specs.declared.status.ExecutionResultDescription.{ExecutionResultDescription}
 use Rattle.run_model.specs.declared.status.ExecutionResultDescription.TheVariants as outcome
-use Rattle.run_model.specs.declared.status.FailureDescription.{FailureDescription}
 use Rattle.run_model.specs.declared.status.FailureDescription.TheVariants.{ExitCode, Abort}
 use Rattle.report_text.specs.Failure.{nt_status_text}
-use Rattle.plain_text.specs.Indent.{indent}
-use Rattle.plain_text.specs.Texts.{Text}
-use Rattle.plain_text.specs.Style.{plain}
+use Rattle.styled_text.specs.Names.{indent, Text, plain}
 use Rattle.report_words.specs.Parts.{Parts, Fixed, Line, Lines, Count, Fail, none, words, toned, Toned, drawn_given, ◌⧺◌, plainly, loosely}
 use Rattle.report_text.proofs.lemmas.FreeDetails.{free-hex_text}
 

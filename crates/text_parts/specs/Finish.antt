@@ -1,18 +1,12 @@
 -- When a finished test is shown: at once, and at the end of the run.
 use Rattle.std.specs.Ordering.{int_eq}
 use Rattle.std.specs.Prelude.{◌≡◌, ℕ, ◌<◌, pos, Bool, true, false, not, Some, ◌&&◌, ◌||◌, ◌==◌, nat_le, nat_lt, if◌then◌else◌}
-use Rattle.run_names.specs.Displays.{is_immediate, is_final}
-use Rattle.run_names.specs.Levels.{final_rank, reason_rank, status_rank}
-use Rattle.run_model.specs.Statuses.{final_level_of, status_level_of}
-use Rattle.run_names.specs.declared.abort.AbortDescription.{AbortDescription}
+use Rattle.run_model.specs.Names.{is_immediate, is_final, final_rank, reason_rank, status_rank, final_level_of, status_level_of, AbortDescription, TestOutputDisplay, ExecutionResultDescription}
+use Rattle.run_model.specs.Names.{FailureDescription, StatusSummary}
 use Rattle.run_names.specs.declared.abort.AbortDescription.TheVariants.{UnixSignal, WindowsNtStatus, WindowsJobObject}
-use Rattle.run_names.specs.declared.config.TestOutputDisplay.{TestOutputDisplay}
 use Rattle.run_names.specs.declared.level.CancelReason.TheVariants as cause
-use Rattle.run_model.specs.declared.status.ExecutionResultDescription.{ExecutionResultDescription}
 use Rattle.run_model.specs.declared.status.ExecutionResultDescription.TheVariants as outcome
-use Rattle.run_model.specs.declared.status.FailureDescription.{FailureDescription}
 use Rattle.run_model.specs.declared.status.FailureDescription.TheVariants.{ExitCode, Abort}
-use Rattle.run_model.specs.declared.status.StatusSummary.{StatusSummary}
 use Rattle.unit_report.specs.Overrides.{display_for}
 use Rattle.text_parts.specs.declared.finish.OutputTiming.{OutputTiming}
 use Rattle.text_parts.specs.declared.finish.OutputTiming.TheVariants as row

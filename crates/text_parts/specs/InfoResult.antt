@@ -1,19 +1,12 @@
 -- What an attempt came to, in words.
 use Rattle.std.specs.Prelude.{ℤ, Bool, true, false, Option, None, Some, [], ◌++◌, codes, refl}
-use Rattle.std.specs.Fmt.{signed_decimal}
-use Rattle.run_names.specs.declared.abort.AbortDescription.{AbortDescription}
+use Rattle.styled_text.specs.Names.{signed_decimal, Text, plain, HasNoEscape}
+use Rattle.run_model.specs.Names.{AbortDescription, ExecutionResultDescription, FailureDescription, LeakTimeoutResult, SlowTimeoutResult}
 use Rattle.run_names.specs.declared.abort.AbortDescription.TheVariants.{UnixSignal, WindowsNtStatus, WindowsJobObject}
-use Rattle.run_model.specs.declared.status.ExecutionResultDescription.{ExecutionResultDescription}
 use Rattle.run_model.specs.declared.status.ExecutionResultDescription.TheVariants as outcome
-use Rattle.run_model.specs.declared.status.FailureDescription.{FailureDescription}
 use Rattle.run_model.specs.declared.status.FailureDescription.TheVariants.{ExitCode, Abort}
-use Rattle.run_model.specs.declared.status.LeakTimeoutResult.{LeakTimeoutResult}
 use Rattle.run_model.specs.declared.status.LeakTimeoutResult.TheVariants as leak
-use Rattle.run_model.specs.declared.status.SlowTimeoutResult.{SlowTimeoutResult}
 use Rattle.run_model.specs.declared.status.SlowTimeoutResult.TheVariants as slow
-use Rattle.plain_text.specs.Texts.{Text}
-use Rattle.plain_text.specs.Style.{plain}
-use Rattle.plain_text.specs.Escapes.{HasNoEscape}
 use Rattle.report_words.specs.Parts.{Parts, Fixed, Open, Count, Pass, Fail, Skip, words, toned, Toned, Verbatim, ◌⧺◌, choice, plainly, drawn_given}
 use Rattle.report_words.proofs.lemmas.FreeWords.{free-signed}
 

@@ -1,7 +1,6 @@
 -- The tests that lines speak of.
 use Rattle.std.specs.Prelude.{false, Option, codes}
-use Rattle.run_names.specs.declared.name.TestInstanceId.{TestInstanceId}
-use Rattle.run_names.specs.declared.stress.StressIndex.{StressIndex}
+use Rattle.run_model.specs.Names.{TestInstanceId, StressIndex}
 use Rattle.report_text.specs.Instance.{instance_part}
 use Rattle.report_words.specs.Parts.{Parts, Line, words, ◌⧺◌}
 use Rattle.text_parts.specs.Settings.{padded_counter}

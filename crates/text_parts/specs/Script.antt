@@ -1,9 +1,7 @@
 -- Setup scripts as their lines name them.
 use Rattle.std.specs.Prelude.{false, List, ◌∷◌, Option}
-use Rattle.std.specs.List.{AllByRecursion}
+use Rattle.styled_text.specs.Names.{AllByRecursion, HasNoEscape, Text}
 use Rattle.run_names.specs.declared.stress.StressIndex.{StressIndex}
-use Rattle.plain_text.specs.Escapes.{HasNoEscape}
-use Rattle.plain_text.specs.Texts.{Text}
 use Rattle.report_text.specs.Instance.{script_part}
 use Rattle.report_text.specs.Quoting.{shell_words}
 use Rattle.report_words.specs.Parts.{Parts, Open}

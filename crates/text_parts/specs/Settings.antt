@@ -1,15 +1,11 @@
 -- What a reporter goes by, from its configuration.
 use Rattle.std.specs.Prelude.{ℕ, ◌+◌, Bool, true, false, ◌||◌, Option, None, Some, length, nat_le}
 use Rattle.std.specs.Fmt.{decimal}
-use Rattle.run_names.specs.Levels.{status_rank}
-use Rattle.run_names.specs.declared.config.TestOutputDisplay.{TestOutputDisplay}
+use Rattle.run_model.specs.Names.{status_rank, TestOutputDisplay, StatusLevel, RunStats}
 use Rattle.run_names.specs.declared.config.TestOutputDisplay.TheVariants as display
-use Rattle.run_names.specs.declared.level.StatusLevel.{StatusLevel}
-use Rattle.run_model.specs.declared.stats.RunStats.{RunStats}
-use Rattle.report_words.specs.Theme.{hbar_character}
+use Rattle.report_words.specs.Names.{hbar_character, ThemeCharacters}
 use Rattle.report_text.specs.declared.helpers.instance.DisplayCounterIndex.{DisplayCounterIndex}
 use Rattle.report_text.specs.declared.helpers.instance.DisplayCounterIndex.TheVariants.{Counter, Padded}
-use Rattle.report_words.specs.declared.theme.ThemeCharacters.{ThemeCharacters}
 use Rattle.unit_report.specs.declared.config.ProgressDisplay.{ProgressDisplay}
 use Rattle.unit_report.specs.declared.config.ProgressDisplay.TheVariants as shown
 use Rattle.unit_report.specs.declared.unit_output.overrides.OutputDisplayOverrides.{OutputDisplayOverrides}

@@ -1,9 +1,7 @@
 -- The counts of a run in words, and what they make of it.
 use Rattle.std.specs.Prelude.{ℕ, Bool, true, false, ◌&&◌, ◌==◌, codes, if◌then◌else◌, refl}
-use Rattle.run_model.specs.Stats.{has_failures}
-use Rattle.run_model.specs.declared.stats.RunStats.{RunStats}
-use Rattle.plain_text.specs.Texts.{Text}
-use Rattle.plain_text.specs.Escapes.{HasNoEscape}
+use Rattle.run_model.specs.Names.{has_failures, RunStats}
+use Rattle.styled_text.specs.Names.{Text, HasNoEscape}
 use Rattle.report_words.specs.Parts.{Fixed, Open, Tone, Pass, Fail, Skip, Count, none, words, Word, toned, number, ◌⧺◌, choice}
 
 -- what a run is by whether something has failed in it

@@ -4,18 +4,18 @@ ghost use Rattle.std.specs.Prelude.{◌≡◌, true};
 ghost use Rattle.run_model.specs.Outputs.{has_loaded_output};
 ghost use Rattle.writers.specs.Writer.{Puts};
 ghost use Rattle.report_words.specs.Parts.{paint};
-ghost use Rattle.unit_report.specs.UnitOutput.{layout_of};
-ghost use Rattle.text_parts.specs.AttemptOutput.{attempt_output, exec_fail_header, finished_layout, has_info_after_failure, has_info_line, info_line_start, layout_in, output_margin, result_style, script_output, stream_header, unit_output};
+ghost use Rattle.text_parts.specs.Names.{layout_of, attempt_output, exec_fail_header, finished_layout, has_info_after_failure, has_info_line, info_line_start, layout_in, output_margin, result_style};
+ghost use Rattle.text_parts.specs.Names.{script_output, stream_header, unit_output};
 
 use crate::info_result::InfoResult;
 use crate::settings::Settings;
-use plain_text::style::{Style, Styles};
 use report_text::helpers::ThemeCharacters;
 use run_model::output::{ChildExecutionOutputDescription, LiveSpec};
 use run_model::status::{
     ExecutionResultDescription, FailureDescription, LeakTimeoutResult, SlowTimeoutResult,
 };
 use run_model::unit::UnitKind;
+use styled_text::style::{Style, Styles};
 use unit_report::unit_output::{ChildOutputSpec, OutputHeader, OutputName};
 use writers::text::{When, WriteText};
 use writers::write_str::{WriteFault, WriteStr};

@@ -5,12 +5,12 @@ ghost use Rattle.writers.specs.Writer.{Puts};
 ghost use Rattle.text_parts.specs.InfoResult.{abort_info, failure_info, info_text, leaked_note, signal_name};
 
 use itoa::Buffer;
-use plain_text::style::Styles;
-use plain_text::text::Toned;
 use run_model::abort::{AbortDescription, DescriptionText};
 use run_model::status::{
     ExecutionResultDescription, FailureDescription, LeakTimeoutResult, SlowTimeoutResult,
 };
+use styled_text::style::Styles;
+use styled_text::text::Toned;
 use writers::text::WriteText;
 use writers::write_str::{WriteFault, WriteStr};
 

@@ -1,16 +1,15 @@
 //! Which test a line speaks of.
 
 ghost use Rattle.std.specs.Prelude.{◌≡◌};
-ghost use Rattle.report_text.specs.Instance.{instance_text};
+ghost use Rattle.text_parts.specs.Names.{instance_text, instance_end, padded_instance, untimed_end};
 ghost use Rattle.writers.specs.Writer.{Puts};
 ghost use Rattle.report_words.specs.Parts.{paint};
-ghost use Rattle.text_parts.specs.Instance.{instance_end, padded_instance, untimed_end};
 
 use crate::settings::Settings;
-use plain_text::style::Styles;
 use report_text::helpers::{DisplayCounterIndex, write_test_instance};
 use run_model::name::TestInstanceId;
 use run_model::stress::StressIndex;
+use styled_text::style::Styles;
 use writers::text::WriteText;
 use writers::write_str::{WriteFault, WriteStr};
 

@@ -1,14 +1,14 @@
 //! What a reporter goes by, from its configuration.
 
 ghost use Rattle.std.specs.Prelude.{◌≡◌};
-ghost use Rattle.plain_text.specs.Style.{styles_of};
+ghost use Rattle.styled_text.specs.Style.{styles_of};
 ghost use Rattle.text_parts.specs.Settings.{counter_width_of, finished_counter, is_level_shown, overrides_by, padded_counter, shows_starts, started_counter, theme_of};
 
-use plain_text::style::Styles;
 use report_text::helpers::{DisplayCounterIndex, ThemeCharacters, decimal_char_width};
 use run_model::config::{CompiledDefaultFilter, NextestRunMode, TestOutputDisplay};
 use run_model::level::StatusLevel;
 use run_model::stats::RunStats;
+use styled_text::style::Styles;
 use unit_report::config::{ProgressDisplay, StatusLevels};
 use unit_report::unit_output::{OutputDisplayOverrides, UnitOutputReporter};
 

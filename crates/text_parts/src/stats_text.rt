@@ -1,13 +1,13 @@
 //! The counts of a run in words, and the style that they give it.
 
 ghost use Rattle.std.specs.Prelude.{◌≡◌, ◌==◌, ◌++◌, [], if◌then◌else◌};
-ghost use Rattle.plain_text.specs.Style.{styled};
+ghost use Rattle.styled_text.specs.Style.{styled};
 ghost use Rattle.report_words.specs.Parts.{paint, style_of};
 ghost use Rattle.text_parts.specs.StatsText.{counted_front, failed_count, failed_counts, failure_tone, passed_front, passed_notes, progress_message, summary_text};
 
-use plain_text::style::{Style, Styles};
-use plain_text::text::{Number, Toned};
 use run_model::stats::RunStats;
+use styled_text::style::{Style, Styles};
+use styled_text::text::{Number, Toned};
 use writers::text::{Unless, WriteText};
 use writers::write_str::{WriteFault, WriteStr};
 

@@ -1,12 +1,9 @@
 -- A name without colours is the name as it is (for `write_test_name`).
 use Rattle.std.proofs.Common.{◌≡◌, ℕ, zero, suc, ◌+◌, Bool, true, false, [], ◌∷◌, ◌++◌, Option, None, Some, take, drop, codes, refl, ap, arith, append-nil, inl, inr}
-use Rattle.std.specs.Option.{option_map, option_map_or}
+use Rattle.styled_text.specs.Names.{option_map, option_map_or, part_texts, styled, Text, ListStyles}
 use Rattle.std.proofs.lemmas.Bool.Decides.{eqb_tells}
 use Rattle.run_names.specs.Names.{begins_with_colons, last_colons, place_after}
-use Rattle.plain_text.specs.Style.{part_texts, styled}
-use Rattle.plain_text.specs.Texts.{Text}
-use Rattle.plain_text.specs.declared.style.ListStyles.{ListStyles}
-use Rattle.plain_text.specs.declared.style.Style.TheVariants as style
+use Rattle.styled_text.specs.declared.style.Style.TheVariants as style
 use Rattle.report_text.specs.Instance.{name_parts, test_name_text}
 
 -- the first two bytes of a text that begins so

@@ -1,11 +1,9 @@
 -- Texts cut at their quotes (for `split_quote`).
 use Rattle.std.proofs.Common.{◌≡◌, ◌≢◌, ℕ, suc, ◌<◌, [], ◌∷◌, ◌++◌, length, get_or, codes, Option, None, Some, MatchOption, IfSome, refl, sym, append-nil, ap, ◌∙◌, arith, append_assoc, length-append, lit<, inl, inr}
-use Rattle.std.specs.Borrow.{Bor}
-use Rattle.std.specs.List.{flat_map}
+use Rattle.styled_text.specs.Names.{Bor, flat_map, Text}
 use Rattle.std.proofs.lemmas.Bool.Decides.{eqb_tells}
 use Rattle.std.proofs.lemmas.Str.Pattern.{split_parts, IsSplitOnceResult}
 use Rattle.report_text.specs.Quoting.{quoted_byte, quoted_text}
-use Rattle.plain_text.specs.Texts.{Text}
 
 -- no byte is a quote
 abbrev HasNoQuote : Text → Type 0

@@ -6,10 +6,10 @@ ghost use Rattle.report_text.specs.Failure.{abort_details, abort_text, abort_wor
 ghost use Rattle.writers.specs.Writer.{Puts};
 
 use itoa::Buffer;
-use plain_text::style::{plain, write_parts, write_plain};
 use run_model::abort::{AbortDescription, DescriptionText};
 use run_model::memory::OutOfMemory;
 use std::alloc::Global;
+use styled_text::style::{plain, write_parts, write_plain};
 use writers::write_str::{WriteFault, WriteStr};
 
 /// How a process ended.

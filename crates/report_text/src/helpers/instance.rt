@@ -1,19 +1,17 @@
 //! Tests as a report shows them.
 
 ghost use Rattle.std.specs.Prelude.{◌≡◌, ℕ, None, Some};
-ghost use Rattle.std.specs.Fmt.{DisplaysOnOk, DisplaysStyledOnOk};
-ghost use Rattle.plain_text.specs.Fitting.{FitsWidth};
+ghost use Rattle.styled_text.specs.Names.{DisplaysOnOk, DisplaysStyledOnOk, FitsWidth, Puts};
 ghost use Rattle.report_text.specs.Instance.{HasPlainWords, counter_prefix, counter_text, front_parts, id_prefix, instance_text, test_name_text, shown_instance, stress_prefix, stress_text};
-ghost use Rattle.writers.specs.Writer.{Puts};
 
 use crate::helpers::max_width::{CounterPart, IdPart, StressPart, write_within};
 use itoa::Buffer;
-use plain_text::repeated::write_repeated;
-use plain_text::style::{ListStyles, Style, plain, write_parts, write_plain};
 use run_model::name::{TestCaseName, TestInstanceId};
 use run_model::stress::StressIndex;
 use std::fmt;
 use std::fmt::Formatter;
+use styled_text::repeated::write_repeated;
+use styled_text::style::{ListStyles, Style, plain, write_parts, write_plain};
 use writers::show_written;
 use writers::write_str::{WriteFault, WriteStr};
 

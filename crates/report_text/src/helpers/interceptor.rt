@@ -1,17 +1,16 @@
 //! What is said where an interceptor, as a debugger or a tracer, would get more than one test.
 
 ghost use Rattle.std.specs.Prelude.{◌≡◌, IfOk, string_bytes};
-ghost use Rattle.std.specs.List.{flat_map};
+ghost use Rattle.styled_text.specs.Names.{flat_map, Puts};
 ghost use Rattle.report_text.specs.Interceptor.{and_words, listed_test, interceptor_option, requires_words, rest_text, selected_text, selected_words, too_many_tests_text, unlisted_text};
-ghost use Rattle.writers.specs.Writer.{Puts};
 
 use crate::helpers::instance::DisplayTestInstance;
-use plain_text::style::{ListStyles, Style, write_plain};
 use report_words::plural::{tests_plural_if, tests_str};
 use run_model::config::NextestRunMode;
 use run_model::memory::OutOfMemory;
 use run_model::name::OwnedTestInstanceId;
 use std::alloc::Global;
+use styled_text::style::{ListStyles, Style, write_plain};
 use writers::write_str::{WriteFault, WriteStr};
 
 /// What is said where an interceptor would get more than one test: its option, how many tests there are, those that are

@@ -1,10 +1,8 @@
 //! Words between quotes, as a shell reads them or as a message shows them.
 
 ghost use Rattle.std.specs.Prelude.{◌≡◌, ℕ, List, ◌∷◌, ◌++◌, ◌<◌, IfOk, IfSome, MatchOption, codes, length, map, string_bytes};
-ghost use Rattle.std.specs.List.{flat_map};
-ghost use Rattle.std.specs.Option.{option_map};
+ghost use Rattle.styled_text.specs.Names.{flat_map, option_map, Puts};
 ghost use Rattle.report_text.specs.Quoting.{in_single_quotes, is_unquoted, is_unquoted_byte, quoted_text, shell_word, shell_words};
-ghost use Rattle.writers.specs.Writer.{Puts};
 
 use run_model::memory::OutOfMemory;
 use std::alloc::Global;

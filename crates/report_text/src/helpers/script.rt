@@ -7,13 +7,13 @@ ghost use Rattle.writers.specs.Writer.{Puts};
 
 use crate::helpers::instance::write_stress_prefix;
 use crate::helpers::quoting::{CommandWord, write_shell_command};
-use plain_text::style::{Style, plain, write_parts};
 use run_model::memory::OutOfMemory;
 use run_model::name::ScriptId;
 use run_model::stress::StressIndex;
 use std::alloc::Global;
 use std::fmt;
 use std::fmt::Formatter;
+use styled_text::style::{Style, plain, write_parts};
 use writers::show_written;
 use writers::write_str::{WriteFault, WriteStr};
 

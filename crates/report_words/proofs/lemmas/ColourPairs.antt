@@ -1,17 +1,12 @@
 -- A text in colour against a plain one (for the lemmas `colour_pair-..` of the texts above).
 use Rattle.std.proofs.Common.{◌≡◌, Bool, true, false, cond, [], ◌∷◌, ◌++◌, refl, sym, ◌∙◌, ap, append_assoc, append-nil}
-use Rattle.plain_text.specs.Texts.{Text}
-use Rattle.plain_text.specs.EqualButEndSpaces.{IsEqualButEndSpaces}
+use Rattle.styled_text.specs.Names.{Text, IsEqualButEndSpaces, visible_after, sequence_len, visible, HasNoEscape, indent, plain, styled, reset_color, style_prefix, style_suffix, Style}
 use Rattle.report_words.specs.InColour.{IsInColour, IsColourPair, IsColourPairOfLine}
-use Rattle.plain_text.specs.Escapes.{visible_after, sequence_len, visible, HasNoEscape}
-use Rattle.plain_text.specs.Indent.{indent}
-use Rattle.plain_text.specs.Style.{plain, styled, reset_color, style_prefix, style_suffix}
-use Rattle.plain_text.specs.declared.style.Style.{Style}
-use Rattle.plain_text.specs.declared.style.Style.TheVariants as style
-use Rattle.plain_text.proofs.lemmas.IndentedEndSpaces.{IsBlank, alike-front, alike-line, indent-visible, indent-alike, indent-feed}
+use Rattle.styled_text.specs.declared.style.Style.TheVariants as style
+use Rattle.styled_text.proofs.lemmas.IndentedEndSpaces.{IsBlank, alike-front, alike-line, indent-visible, indent-alike, indent-feed}
 use Rattle.report_words.proofs.lemmas.FreeWords.{frees, free-plain, free-indent}
-use Rattle.plain_text.proofs.lemmas.LineSequences.{visible-line}
-use Rattle.plain_text.proofs.lemmas.Widths.{free_both, visible-free_append}
+use Rattle.styled_text.proofs.lemmas.LineSequences.{visible-line}
+use Rattle.styled_text.proofs.lemmas.Widths.{free_both, visible-free_append}
 
 in_colour-none : IsInColour [] []
 unfolding visible_after

@@ -1,22 +1,16 @@
 -- Parts painted in colour and plain: the law of colour, once for all texts of parts.
 use Rattle.std.proofs.Common.{ℕ, zero, suc, Bool, true, false, cond, List, ◌++◌, refl, [], ◌∷◌, ◌==◌, inl, inr, sym, ap, ◌∙◌, append_assoc, append-nil}
 use Rattle.std.proofs.lemmas.Bool.{cases_Bool, eqb-true}
-use Rattle.plain_text.specs.Texts.{Text, spaces}
-use Rattle.plain_text.specs.Escapes.{HasNoEscape}
-use Rattle.plain_text.specs.Style.{plain, styled, styles_of}
-use Rattle.plain_text.specs.declared.style.Styles.{Styles}
-use Rattle.plain_text.proofs.lemmas.Closed.{decimal_free, right_free, spaces_free}
+use Rattle.styled_text.specs.Names.{Text, spaces, HasNoEscape, visible, visible_after, plain, styled, styles_of, Styles, indent, without_end_spaces, flat_map, AllByRecursion}
+use Rattle.styled_text.proofs.lemmas.Closed.{decimal_free, right_free, spaces_free}
 use Rattle.report_words.proofs.lemmas.ColourPairs.{colour_pair-none, colour_pair-append, colour_pair-styled, colour_pair-if, colour_pair-free, colour_pair-whole, colour_pair-indent, colour_pair-indented_line}
-use Rattle.report_words.specs.InColour.{IsColourPair, IsColourPairOfLine}
-use Rattle.plain_text.specs.Indent.{indent}
-use Rattle.plain_text.specs.Escapes.{visible, visible_after}
-use Rattle.plain_text.specs.EqualButEndSpaces.{without_end_spaces}
-use Rattle.plain_text.proofs.lemmas.IndentedEndSpaces.{IsBlank, end_spaces-line, indent-feed}
-use Rattle.plain_text.proofs.lemmas.LineSequences.{visible-line}
-use Rattle.plain_text.proofs.lemmas.Widths.{free_front}
+use Rattle.report_words.specs.Names.{IsColourPair, IsColourPairOfLine, Parts, Tone, Count, Pass, Retry, Fail, Skip, ScriptId, RunIdPrefix, RunIdRest, none, Words, Word, Verbatim, Toned, Right, number}
+use Rattle.report_words.specs.Names.{given, given_toned, given_right, Join, choice, each, indented, indented_line, plainly, openly, loosely, drawn_given, drawn_given_line, End, Line, Open, Lines}
+use Rattle.report_words.specs.Names.{ending, joined_end, either_end, EndsLine, IsOfLines, style_of, paint}
+use Rattle.styled_text.proofs.lemmas.IndentedEndSpaces.{IsBlank, end_spaces-line, indent-feed}
+use Rattle.styled_text.proofs.lemmas.LineSequences.{visible-line}
+use Rattle.styled_text.proofs.lemmas.Widths.{free_front}
 use Rattle.std.proofs.lemmas.List.{append_cancel_right}
-use Rattle.std.specs.List.{flat_map, AllByRecursion}
-use Rattle.report_words.specs.Parts.{Parts, Tone, Count, Pass, Retry, Fail, Skip, ScriptId, RunIdPrefix, RunIdRest, none, Words, Word, Verbatim, Toned, Right, number, given, given_toned, given_right, Join, choice, each, indented, indented_line, plainly, openly, loosely, drawn_given, drawn_given_line, End, Line, Open, Lines, ending, joined_end, either_end, EndsLine, IsOfLines, style_of, paint}
 
 -- what is handed in holds no escape character
 abbrev pub AreFreeGiven : {a : Bool} {d : End} → Bool → Parts a d → Type 0

@@ -1,10 +1,9 @@
 -- Lists of paths cut at their colons (for `split_colon`).
 use Rattle.std.proofs.Common.{◌≡◌, ◌≢◌, ℕ, suc, ◌<◌, [], ◌∷◌, ◌++◌, length, get_or, Option, None, Some, MatchOption, IfSome, refl, ap, ◌∙◌, arith, length-append, lit<, inl, inr}
-use Rattle.std.specs.Borrow.{Bor}
+use Rattle.styled_text.specs.Names.{Bor, Text}
 use Rattle.std.proofs.lemmas.Bool.Decides.{eqb_tells}
 use Rattle.std.proofs.lemmas.Str.Pattern.{split_parts, IsSplitOnceResult}
 use Rattle.report_words.specs.Paths.{between_colons, in_first_path}
-use Rattle.plain_text.specs.Texts.{Text}
 
 -- no byte is a colon
 abbrev HasNoColon : Text → Type 0

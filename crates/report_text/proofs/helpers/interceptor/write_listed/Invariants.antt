@@ -1,7 +1,6 @@
 use Rattle.std.proofs.Common.{drop}
-use Rattle.std.specs.List.{flat_map}
+use Rattle.styled_text.specs.Names.{flat_map, Owes}
 use Rattle.report_text.specs.Interceptor.{listed_test}
-use Rattle.writers.specs.Writer.{Owes}
 use Rattle.report_text.proofs.helpers.interceptor.write_listed.Given as goal
 
 -- the tests that are left are owed

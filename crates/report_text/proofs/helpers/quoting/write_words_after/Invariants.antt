@@ -1,7 +1,6 @@
 use Rattle.std.proofs.Common.{◌++◌, drop}
-use Rattle.std.specs.List.{flat_map}
+use Rattle.styled_text.specs.Names.{flat_map, Owes}
 use Rattle.report_text.specs.Quoting.{shell_word}
-use Rattle.writers.specs.Writer.{Owes}
 use Rattle.report_text.proofs.helpers.quoting.write_words_after.Given as goal
 
 -- the words that are left are owed
