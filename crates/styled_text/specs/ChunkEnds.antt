@@ -1,4 +1,4 @@
--- Where the first chunk of a text ends, by the places of line feeds.
+-- The end of the first chunk of a text, by the positions of line feeds.
 use Rattle.std.specs.Prelude.{◌≡◌, ◌≢◌, ℕ, ◌+◌, ◌<◌, ◌≤◌, ◌⊎◌, length, slice_index}
 use Rattle.styled_text.specs.Texts.{Text}
 

@@ -34,7 +34,7 @@ abbrev pub AreChunks : ℕ → Text → List Text → Type 0
 AreChunks limit t [] = t ≡ []
 AreChunks limit t (chunk ∷ chunks) = (rest : Text) × (t ≡ chunk ++ rest) × IsChunk limit chunk rest × AreChunks limit rest chunks
 
--- the steps that a closure takes over the chunks of a text, one call for each
+-- the steps of a closure over the chunks of a text, one call for each
 pub record VisitsChunks {F : Type 0} (step : F → Bor Text → F → Type 0) (limit : ℕ) (t : Text) (before after : F) : Type 0 where
   pub chunks : List (Bor Text)
   pub are_chunks : AreChunks limit t (map (λ c. c.now) chunks)

@@ -1,4 +1,4 @@
--- The columns of a text that are counted while it is written.
+-- The columns of a text, counted while it is written.
 use Rattle.std.specs.Prelude.{◌≡◌, ℕ, ◌+◌, ◌-◌, ◌^◌, List, [], ◌∷◌, ◌++◌, Option, None, Some, min, chars, refl}
 use Rattle.std.specs.Str.{IsUtf8}
 use Rattle.std.proofs.Common.{sym, ap, ◌∙◌, arith, subst}
@@ -10,17 +10,17 @@ use Rattle.writers.specs.Writer.{Meaning, WriterLaws}
 use Rattle.styled_text.specs.declared.escapes.Mode.{Mode}
 use Rattle.styled_text.specs.declared.fitting.column_counter.ColumnCounter.{ColumnCounter}
 
--- the columns of a character of a sequence, or of another
+-- the columns of a character in a sequence or in none
 abbrev pub columns_counted : ℕ → Option Mode → ℕ
 columns_counted c (Some m) = 0
 columns_counted c None = char_columns c
 
--- the columns of the characters, from where the scan stands
+-- the columns of the characters, from a mode of the scan on
 unfoldable pub columns_from : Mode → List ℕ → ℕ
 columns_from m [] = 0
 columns_from m (c ∷ cs) = columns_counted c (advanced m c) + columns_from (mode_after m c) cs
 
--- a count that stays at the greatest number
+-- a count that stops at the greatest number
 abbrev pub saturated : ℕ → ℕ
 saturated n = min n (2 ^ 128 - 1)
 
@@ -40,7 +40,7 @@ pub record CounterAccepts (a : ColumnCounter) (t : Text) (b : ColumnCounter) : T
   pub mode : b.mode ≡ modes_after a.mode (chars t)
   pub columns : b.columns ≡ saturated (a.columns + columns_from a.mode (chars t))
 
--- every text is accepted, and nothing is told of it but the count
+-- every text is accepted, and only its columns are known
 abbrev pub counter_meaning : Meaning ColumnCounter
 counter_meaning = record {
   accepts = CounterAccepts;

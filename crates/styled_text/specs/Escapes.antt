@@ -16,7 +16,7 @@ abbrev pub one_len : (ℕ → Bool) → Text → ℕ
 one_len p [] = 0
 one_len p (c ∷ t) = if p c then 1 else 0
 
--- the length of what matches the two forms in turn
+-- the length of what matches the two forms in sequence
 abbrev pub then_len : (Text → ℕ) → (Text → ℕ) → Text → ℕ
 then_len f g t = f t + g (drop (f t) t)
 
@@ -28,11 +28,11 @@ is_parameter = is_within 0x30 0x3F
 abbrev pub is_intermediate : ℕ → Bool
 is_intermediate = is_within 0x20 0x2F
 
--- of the text after the parameters of a control sequence: intermediates, and one final byte
+-- after the parameters of a control sequence: intermediates, and one final byte
 abbrev pub csi_end_len : Text → ℕ
 csi_end_len = then_len (front_len is_intermediate) (one_len (is_within 0x40 0x7E))
 
--- of the text after ESC [: parameters, and what ends the sequence
+-- after ESC [: parameters, and what ends the sequence
 abbrev pub csi_len : Text → ℕ
 csi_len = then_len (front_len is_parameter) csi_end_len
 
@@ -40,13 +40,13 @@ csi_len = then_len (front_len is_parameter) csi_end_len
 abbrev pub is_control : ℕ → Bool
 is_control c = nat_lt c 0x20 || (c == 0x7F)
 
--- of the text after ESC ]: up to BEL or ESC \, or before another control character
+-- after ESC ]: up to BEL or ESC \, or before another control character
 abbrev pub osc_len : Text → ℕ
 osc_len [] = 0
 osc_len (c ∷ []) = if c == 7 then 1 else (if is_control c then 0 else 1)
 osc_len (c ∷ d ∷ t) = if c == 7 then 1 else (if (c == 27) && (d == 92) then 2 else (if is_control c then 0 else suc (osc_len (d ∷ t))))
 
--- of the text after any other ESC
+-- after any other ESC
 abbrev pub short_len : Text → ℕ
 short_len = then_len (front_len is_intermediate) (one_len (is_within 0x30 0x7E))
 
@@ -103,6 +103,6 @@ abbrev pub has_no_escape : Text → Bool
 has_no_escape [] = true
 has_no_escape (c ∷ t) = not (c == 27) && has_no_escape t
 
--- the same as a fact
+-- as a fact
 abbrev pub HasNoEscape : Text → Type 0
 HasNoEscape t = IsTrue (has_no_escape t)

@@ -13,38 +13,38 @@ use Rattle.styled_text.specs.declared.fitting.scan_state.ScanState.{ScanState}
 use Rattle.styled_text.specs.declared.fitting.fitted.Fitted.{Fitted}
 use Rattle.writers.specs.declared.write_str.WriteFault.{WriteFault}
 
--- the place after a character of so many columns; past the end it stays
+-- the position after a character of w columns; past the end it does not change
 abbrev pub next_place : ℕ → ℕ → ℕ → ℕ
 next_place end place width = if nat_lt end place then place else place + width
 
--- where the scan stands after the character, which belongs to a sequence or to none
+-- the state after the character, which belongs to a sequence or to none
 abbrev pub moved_by : ℕ → ScanState → ℕ → Option Mode → ScanState
 moved_by end s c (Some m) = record { mode = m; place = s.place; is_open = false }
 moved_by end s c None = record { mode = mode.Text; place = next_place end s.place (char_columns c); is_open = s.is_open || nat_lt s.place end }
 
--- the same at what the scan says of the character
+-- the state after the character, whatever the scan says of it
 abbrev pub moved : ℕ → ScanState → ℕ → ScanState
 moved end s c = moved_by end s c (advanced s.mode c)
 
--- whether the character is kept: one of a sequence always, and another where it fits
+-- whether the character is kept: one of a sequence always, and another if it fits
 abbrev pub is_char_kept_by : ℕ → ℕ → ScanState → ℕ → Option Mode → Bool
 is_char_kept_by start end s c (Some m) = true
 is_char_kept_by start end s c None = (s.is_open || nat_lt s.place end) && (nat_le start s.place && nat_le (s.place + char_columns c) end)
 
--- the same at what the scan says of the character
+-- whether it is kept, whatever the scan says of it
 abbrev pub is_char_kept : ℕ → ℕ → ScanState → ℕ → Bool
 is_char_kept start end s c = is_char_kept_by start end s c (advanced s.mode c)
 
--- what is kept of the character
+-- the character if it is kept
 abbrev pub kept_char : ℕ → ℕ → ScanState → ℕ → Text
 kept_char start end s c = if is_char_kept start end s c then encode_utf8 c else []
 
--- what is kept of the characters, from where the scan stands
+-- what is kept of the characters, from a state on
 unfoldable pub kept_from : ℕ → ℕ → ScanState → List ℕ → Text
 kept_from start end s [] = []
 kept_from start end s (c ∷ cs) = kept_char start end s c ++ kept_from start end (moved end s c) cs
 
--- where the scan stands after them
+-- the state after them
 unfoldable pub scan_after : ℕ → ScanState → List ℕ → ScanState
 scan_after end s [] = s
 scan_after end s (c ∷ cs) = scan_after end (moved end s c) cs
@@ -61,7 +61,7 @@ unfolding scan_after
 scan_after-append end s [] ds = refl
 scan_after-append end s (c ∷ cs) ds = scan_after-append end (moved end s c) cs ds
 
--- what is kept of a text by such a writer
+-- what such a writer keeps of a text
 abbrev pub fitted_text : {W : Type 0} → Fitted W → Text → Text
 fitted_text a t = kept_from a.start a.end a.scan (chars t)
 
@@ -83,7 +83,7 @@ module _ {W : Type 0} (m : Meaning W) where
     pub end : b.end ≡ a.end
     pub same : b.inner.ghost_name ≡ a.inner.ghost_name
 
-  -- the writer below stops within what is kept of a beginning of the text
+  -- the writer below stops within what is kept of a prefix of the text
   pub record FittedStops (a : Fitted W) (t : Text) (e : WriteFault) (b : Fitted W) : Type 0 where
     pub front : Text
     pub rest : Text
@@ -100,7 +100,7 @@ module _ {W : Type 0} (m : Meaning W) where
     pub end : b.end ≡ a.end
     pub same : b.inner.ghost_name ≡ a.inner.ghost_name
 
-  -- a text is accepted as what is kept of it is by the writer below, of which all else is known
+  -- a text is accepted if the writer below accepts what is kept of it
   abbrev pub fitted_meaning : Meaning (Fitted W)
   fitted_meaning = record {
     accepts = FittedAccepts;
@@ -112,7 +112,7 @@ module _ {W : Type 0} (m : Meaning W) where
     failures = λ a. m.failures a.inner.now;
   }
 
--- what stops within a beginning stops within the text
+-- what stops within a prefix stops within the text
 pub stops_kept : {W : Type 0} (m : Meaning W) → WriterLaws m → (a b : Fitted W) (t : Text) (e : WriteFault) → FittedStops m a t e b → m.stops a.inner.now (fitted_text a t) e b.inner.now
 stops_kept m laws a b t e p = rw (p.whole, fitted_text-append a p.front p.rest p.utf8) (laws.stops_within _ _ _ _ e p.below)
 

@@ -18,18 +18,18 @@ columns_of cs = sum_by char_columns cs
 abbrev pub columns : Text → ℕ
 columns t = columns_of (chars (visible t))
 
--- of characters that begin at the place pos, those that lie between start and end
+-- of characters from position pos on, those between start and end
 abbrev pub kept_chars : ℕ → ℕ → ℕ → List ℕ → List ℕ
 kept_chars start end pos [] = []
 kept_chars start end pos (c ∷ cs) =
     if nat_le start pos && nat_le (pos + char_columns c) end then c ∷ kept_chars start end (pos + char_columns c) cs
     else kept_chars start end (pos + char_columns c) cs
 
--- of a stretch that begins at the place pos
+-- of a stretch from position pos on
 unfoldable pub kept_stretch : ℕ → ℕ → ℕ → Text → Text
 kept_stretch start end pos s = if nat_lt pos end then encode_utf8_all (kept_chars start end pos (chars s)) else []
 
--- of pieces of which the first begins at the place pos: every sequence, and of each stretch what is kept
+-- of pieces from position pos on: every sequence, and what is kept of each stretch
 abbrev pub fit_pieces : ℕ → ℕ → ℕ → List PieceText → Text
 fit_pieces start end pos [] = []
 fit_pieces start end pos (SequenceText s ∷ ps) = s ++ fit_pieces start end pos ps
@@ -68,7 +68,7 @@ IsPainted t = IsUtf8 t × AreClosed (sequences (pieces t))
 abbrev pub shrunk : Bool → Text → ℕ → Text
 shrunk is_name t r = if nat_le (columns t) r then t else (if is_name then fit t (columns t - r) (columns t) else fit t 0 r)
 
--- parts, of which each takes what the ones before it left of r columns
+-- parts, each in what the ones before it left of r columns
 abbrev pub shrunk_parts : List Text → Text → ℕ → Text
 shrunk_parts [] name r = shrunk true name r
 shrunk_parts (t ∷ ts) name r = shrunk false t r ++ shrunk_parts ts name (r - columns t)
@@ -83,7 +83,7 @@ abbrev pub part_sequences : List Text → List Text
 part_sequences [] = []
 part_sequences (t ∷ ts) = sequences (pieces t) ++ part_sequences ts
 
--- parts cut to a width have at most so many columns, and all their sequences
+-- parts cut to a width have at most that many columns, and all their sequences
 pub record FitsWidth (width : ℕ) (ts : List Text) (name : Text) : Type 0 where
   pub narrow : columns (shrunk_parts ts name width) ≤ width
   pub complete : sequences (pieces (shrunk_parts ts name width)) ≡ part_sequences ts ++ sequences (pieces name)

@@ -4,6 +4,6 @@ use Rattle.std.specs.List.{join_with_byte}
 use Rattle.styled_text.specs.Texts.{Text}
 use Rattle.styled_text.specs.Lines.{lines}
 
--- where the first two lines end: before the second line feed, or with the text
+-- the end of the first two lines: before the second line feed, or with the text
 unfoldable pub highlight_end : Text → ℕ
 highlight_end t = length (join_with_byte 10 (take 2 (lines t)))

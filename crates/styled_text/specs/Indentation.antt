@@ -11,7 +11,7 @@ use Rattle.writers.specs.Writer.{Meaning, WriterLaws, Puts}
 use Rattle.styled_text.specs.declared.indenter.indentation.Indented.{Indented}
 use Rattle.writers.specs.declared.write_str.WriteFault.{WriteFault}
 
--- the indented text byte by byte, where the flag says that a line begins
+-- the indented text byte by byte; the flag says that a line begins
 abbrev pub indent_onward : Text → Bool → Text → Text
 indent_onward p b [] = []
 indent_onward p b (c ∷ t) = cond (c == 10) (10 ∷ indent_onward p true t) (cond b p [] ++ c ∷ indent_onward p false t)
@@ -21,7 +21,7 @@ abbrev pub after_onward : Bool → Text → Bool
 after_onward b [] = b
 after_onward b (c ∷ t) = after_onward (c == 10) t
 
--- indentation by lines is that scan
+-- indentation by lines is this scan
 abbrev pub IndentsByBytes : Type 0
 IndentsByBytes = (p : Text) (b : Bool) (t : Text) → (indent p b t ≡ indent_onward p b t) × (after b t ≡ after_onward b t)
 
@@ -41,7 +41,7 @@ onto_front : (q l : Text) (ls : List Text) → join_with_byte 10 ((q ++ l) ∷ l
 onto_front q l [] = refl
 onto_front q l (m ∷ ls) = append_assoc q l (10 ∷ join_with_byte 10 (m ∷ ls))
 
--- by lines and byte by byte it is the same
+-- by lines and byte by byte it is equal
 pub indent-onward : (p : Text) (b : Bool) (t : Text) → indent p b t ≡ indent_onward p b t
 unfolding indent
 indent-onward p b [] = refl
@@ -110,7 +110,7 @@ module _ {W : Type 0} (m : Meaning W) where
     pub below : m.accepts a.inner.now (indent a.indentation.now a.needs_indent t) b.inner.now
     pub line : b.needs_indent ≡ after a.needs_indent t
     pub indentation : b.indentation.now ≡ a.indentation.now
-    -- it is the same writer below
+    -- the writer below is the same one
     pub same : b.inner.ghost_name ≡ a.inner.ghost_name
 
   -- the writer below stops within the indented text
@@ -118,14 +118,14 @@ module _ {W : Type 0} (m : Meaning W) where
     pub below : m.stops a.inner.now (indent a.indentation.now a.needs_indent t) e b.inner.now
     pub same : b.inner.ghost_name ≡ a.inner.ghost_name
 
-  -- the writer below puts what stands before the line, and all else stays
+  -- the writer below puts the margin of the line, and nothing else changes
   pub record PutsMargin (a : Indented W) (t : Text) (r : Result (Unit {0}) WriteFault) (b : Indented W) : Type 0 where
     pub below : Puts m a.inner.now (margin a.indentation.now a.needs_indent t) r b.inner.now
     pub line : b.needs_indent ≡ a.needs_indent
     pub indentation : b.indentation.now ≡ a.indentation.now
     pub same : b.inner.ghost_name ≡ a.inner.ghost_name
 
-  -- a text is accepted as its indentation is by the writer below, of which all else is known
+  -- a text is accepted if the writer below accepts its indentation
   abbrev pub indented_meaning : Meaning (Indented W)
   indented_meaning = record {
     accepts = IndentedAccepts;
@@ -172,14 +172,14 @@ indented_laws m laws = record {
 }
 
 module _ {W : Type 0} (took : W → Text → W → Type 0) where
-  -- calls of the writer below took the indented text
+  -- the writer below took the indented text
   pub record IndentedTakes (a : Indented W) (t : Text) (b : Indented W) : Type 0 where
     pub below : WritesInCalls took a.inner.now (indent a.indentation.now a.needs_indent t) b.inner.now
     pub line : b.needs_indent ≡ after a.needs_indent t
     pub indentation : b.indentation.now ≡ a.indentation.now
     pub same : b.inner.ghost_name ≡ a.inner.ghost_name
 
-  -- calls of the writer below took what stands before the line, and all else stays
+  -- the writer below took the margin of the line, and nothing else changed
   pub record TakesMargin (a : Indented W) (t : Text) (b : Indented W) : Type 0 where
     pub below : WritesInCalls took a.inner.now (margin a.indentation.now a.needs_indent t) b.inner.now
     pub line : b.needs_indent ≡ a.needs_indent

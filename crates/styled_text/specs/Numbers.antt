@@ -12,11 +12,11 @@ abbrev pub last_digits : ℕ → ℕ → Text
 last_digits zero n = []
 last_digits (suc k) n = last_digits k (n / 10) ++ (48 + n % 10) ∷ []
 
--- the digit of a number at a power of ten, or a space where the number is below it
+-- the digit of a number at a power of ten, or a space if the number is below it
 abbrev pub digit_column : ℕ → ℕ → ℕ
 digit_column n power = if nat_lt n power then 32 else 48 + n / power % 10
 
--- a number of units of which 10 ^ k are one, with a point before the last k digits
+-- a number of units, 10 ^ k of which are one, with a point before the last k digits
 unfoldable pub with_point : ℕ → ℕ → Text
 with_point k units = decimal (units / 10 ^ k) ++ codes "." ++ last_digits k units
 

@@ -9,7 +9,7 @@ use Rattle.styled_text.specs.declared.escapes.State.TheVariants.{Start, Paramete
 use Rattle.styled_text.specs.declared.escapes.Step.{Step}
 use Rattle.styled_text.specs.declared.escapes.Step.TheVariants.{Inside, Ends}
 
--- how many bytes of what follows still belong to the sequence
+-- how many of the following bytes still belong to the sequence
 abbrev pub rest_len : State → Text → ℕ
 rest_len Start = sequence_len
 rest_len Parameters = csi_len
@@ -22,7 +22,7 @@ abbrev pub is_before_backslash : Text → Bool
 is_before_backslash [] = false
 is_before_backslash (c ∷ t) = c == 92
 
--- the step after which t follows, where n bytes from this one on still belong
+-- the step before t, if n bytes from this one on still belong
 abbrev pub StepCounts : Step → ℕ → Text → Type 0
 StepCounts (Inside s) n t = n ≡ suc (rest_len s t)
 StepCounts (Ends k) n t = n ≡ k
@@ -52,7 +52,7 @@ abbrev pub mode_after_step : ℕ → Step → Option Mode
 mode_after_step c (Inside s) = Some (mode.Sequence s)
 mode_after_step c (Ends k) = if k == 0 then begun c else Some mode.Text
 
--- the mode after a character of a sequence, or none where the character belongs to no sequence
+-- the mode after a character of a sequence, or none if the character belongs to no sequence
 abbrev pub advanced : Mode → ℕ → Option Mode
 advanced mode.Text c = begun c
 advanced mode.Terminator c = if c == 92 then Some mode.Text else mode_after_step c (step_of Start c false)

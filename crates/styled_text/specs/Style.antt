@@ -41,16 +41,16 @@ pub data PartText : Type 0 where
   Plain : Text → PartText
   Styled : Style → Text → PartText
 
--- a text in a style: a word that a proof sees as a whole
+-- a text in a style: a word that a proof treats as a whole
 unfoldable pub styled : Style → Text → Text
 styled s t = style_prefix s ++ (t ++ style_suffix s)
 
--- what a part is painted to
+-- a part as painted text
 abbrev pub part_text : PartText → Text
 part_text (Plain t) = plain t
 part_text (Styled s t) = styled s t
 
--- the texts of parts, one after the other
+-- the parts as painted text, one after the other
 abbrev pub part_texts : List PartText → Text
 part_texts [] = []
 part_texts (p ∷ ps) = part_text p ++ part_texts ps
@@ -61,7 +61,7 @@ painted_part (part.Plain t) = Plain t.now
 painted_part (part.Styled s t) = Styled s t.now
 painted_part (part.Right s n t) = Styled s (right_in n t.now)
 
--- what the parts of the code are painted to
+-- the parts of the code as painted text
 abbrev pub painted : List Part → Text
 painted ps = flat_map (λ p. part_text (painted_part p)) ps
 

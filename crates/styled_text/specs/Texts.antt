@@ -2,7 +2,7 @@
 use Rattle.std.specs.Prelude.{ℕ, ◌-◌, ◌++◌, length, replicate, chars}
 pub use Rattle.writers.specs.Texts.{Text, strs}
 
--- so many spaces
+-- n spaces
 abbrev pub spaces : ℕ → Text
 spaces n = replicate n 32
 

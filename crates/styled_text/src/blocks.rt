@@ -1,7 +1,7 @@
-//! Runs of bytes at the front of a text, looked for in one block of bytes at once.
+//! Runs of bytes at the front of a text, searched in one block of bytes at once.
 //!
-//! A run that ends past the block, or that has no whole block before the end of the text, is left to other searches. To
-//! strip a coloured line costs a fifth less with the first, and a tenth less with the second.
+//! A run that ends past the block, or that has no whole block before the end of the text, is left to other searches. Stripping
+//! a coloured line costs a fifth less with the first function, and a tenth less with the second.
 
 ghost use Rattle.std.specs.Prelude.{◌≡◌, not, map, IfSome};
 ghost use Rattle.styled_text.specs.Names.{mask_l, front_len, is_visible, is_parameter};
@@ -26,7 +26,7 @@ pub(crate) fn stretch_in_block(bytes: &[u8]) -> Option<usize>
     Some(marks.trailing_zeros() as usize)
 }
 
-// The places of escape characters, each as a bit.
+// The positions of escape characters, each as a bit.
 #[inline(always)]
 fn escape_marks(block: u8x32) -> u64
     ensures { result ≡ mask_l (map (λ c. not (is_visible c)) block) }
@@ -34,9 +34,9 @@ fn escape_marks(block: u8x32) -> u64
     block.simd_eq(u8x32::splat(ESCAPE)).to_bitmask()
 }
 
-/// How many parameters of a control sequence stand first, if another byte is among the first 16.
+/// The number of parameters of a control sequence, if another byte is among the first 16.
 ///
-/// Those of most colours are fewer.
+/// Most colours have fewer.
 #[inline(always)]
 pub(crate) fn parameters_in_block(bytes: &[u8]) -> Option<usize>
     ensures { IfSome result (λ n. n ≡ front_len is_parameter bytes.now) }
@@ -51,7 +51,7 @@ pub(crate) fn parameters_in_block(bytes: &[u8]) -> Option<usize>
     Some(marks.trailing_zeros() as usize)
 }
 
-// The places of bytes that are no parameters, each as a bit. Less 0x30 a parameter is below 16, and no other byte is.
+// The positions of bytes that are no parameters, each as a bit. Less 0x30 a parameter is below 16, and no other byte is.
 #[inline(always)]
 fn other_marks(block: u8x16) -> u64
     ensures { result ≡ mask_l (map (λ c. not (is_parameter c)) block) }

@@ -1,4 +1,4 @@
-//! How wide numbers are.
+//! The width of numbers.
 
 ghost use Rattle.std.specs.Prelude.{◌≡◌, ℕ, length};
 ghost use Rattle.std.specs.Fmt.{decimal};

@@ -1,7 +1,7 @@
 //! Columns of a text, and texts that are cut to some of them.
 //!
 //! A character has the columns that `unicode_width` gives it alone, a control character none, a sequence none. A cut text
-//! keeps every sequence. What is cut is cut while it is written, character by character, so that no memory is taken and
+//! keeps every sequence. A text is cut while it is written, character by character, so that no memory is taken and
 //! stretches that meet across two writes are one.
 
 ghost use Rattle.std.specs.Prelude.{◌≡◌, ℕ, ◌-◌, ◌^◌, ◌<◌, ◌≤◌, ◌++◌, List, false, true};
@@ -57,7 +57,7 @@ pub fn write_fitted<T: WriteText, W: WriteStr>(
     result
 }
 
-/// Writes a text of this width, or the front of it where there is less room.
+/// Writes a text of this width, or its front if there is less room.
 #[tactic(auto, using(std::proofs::lemmas::Bool::Decides::nat_tests))]
 pub fn write_front<T: WriteText, W: WriteStr>(
     w: &mut W,
@@ -76,7 +76,7 @@ pub fn write_front<T: WriteText, W: WriteStr>(
     write_fitted(w, part, 0, room)
 }
 
-/// Writes a text of this width, or the end of it where there is less room.
+/// Writes a text of this width, or its end if there is less room.
 #[tactic(auto, using(std::proofs::lemmas::Bool::Decides::nat_tests))]
 pub fn write_back<T: WriteText, W: WriteStr>(
     w: &mut W,

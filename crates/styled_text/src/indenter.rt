@@ -32,12 +32,12 @@ pub fn indented<W>(inner: &mut W) -> Indented<'_, W>
     }
 }
 
-/// An item whose text is indented where it is displayed, as an error of several lines.
+/// An item whose text is indented where it is displayed, like an error of several lines.
 #[derive(Clone, Copy, Debug, Drop)]
 pub struct DisplayIndented<T> {
     /// What is displayed.
     pub item: T,
-    /// What stands before each line that is not empty.
+    /// The prefix of each line that is not empty.
     pub indent: &'static str,
 }
 

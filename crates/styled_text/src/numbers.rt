@@ -8,7 +8,7 @@ use itoa::Buffer;
 use std::str;
 use writers::write_str::{WriteFault, WriteStr};
 
-/// The nearest whole number of units, ties up. No sum overflows, also at the greatest number.
+/// The nearest whole number of units, ties up. No sum overflows, even at the greatest number.
 pub fn round_to(unit: u128, n: u128) -> u128
     requires even { unit % 2 ≡ 0 }
     requires above { 1 < unit }
@@ -65,7 +65,6 @@ pub fn spaces_str(count: usize) -> &'static str
     }
 }
 
-/// Writes the given number of spaces.
 fn write_spaces<W: WriteStr>(w: &mut W, count: usize) -> Result<(), WriteFault>
     ensures { Puts W.meaning w.old (spaces count) result w.new }
 {
@@ -96,7 +95,7 @@ pub fn write_right<W: WriteStr>(w: &mut W, columns: usize, text: &str) -> Result
 
 /// Writes nanoseconds as seconds with three decimals, right-aligned in eight columns, between brackets, and a space.
 ///
-/// The nearest thousandth is written, ties go up.
+/// Rounds to the nearest thousandth, ties up.
 ///
 /// ```
 /// write_bracketed_seconds(&mut out, 5_000_000)?;
@@ -112,7 +111,7 @@ pub fn write_bracketed_seconds<W: WriteStr>(w: &mut W, nanos: u128) -> Result<()
     write_seconds_between(w, "[", 8, nanos, "s] ")
 }
 
-// The same of less than 9,999 seconds, which have four digits at most.
+// Less than 9,999 seconds have at most four digits.
 #[inline]
 #[tactic(auto, using(crate::proofs::lemmas::Decimals::decimal_laws))]
 fn write_short_seconds<W: WriteStr>(w: &mut W, nanos: u64) -> Result<(), WriteFault>
@@ -154,7 +153,7 @@ fn digit_or_space(number: u32, power: u32) -> u8
 
 /// Writes nanoseconds as seconds with three decimals, right-aligned in the given number of columns, between two texts.
 ///
-/// The nearest thousandth is written, ties go up.
+/// Rounds to the nearest thousandth, ties up.
 ///
 /// ```
 /// write_seconds_between(&mut out, "[", 8, 5_000_000, "s] ")?;
@@ -185,7 +184,6 @@ pub fn write_seconds<W: WriteStr>(w: &mut W, nanos: u128) -> Result<(), WriteFau
     write_decimals(w, thousandths)
 }
 
-// Writes nanoseconds as seconds with three decimals, right-aligned in the given number of columns.
 fn write_seconds_right<W: WriteStr>(
     w: &mut W,
     columns: usize,
@@ -202,7 +200,7 @@ fn write_seconds_right<W: WriteStr>(
     write_decimals(w, thousandths)
 }
 
-// Nanoseconds as seconds and thousandths of one, rounded to the nearest, ties up.
+// Nanoseconds as seconds and thousandths, rounded to the nearest, ties up.
 fn round_to_thousandths(nanos: u128) -> (u128, u32)
     ensures seconds { result.0 ≡ rounded 1000000 nanos / 1000 }
     ensures thousandths { result.1 ≡ rounded 1000000 nanos % 1000 }
@@ -216,7 +214,6 @@ fn round_to_thousandths(nanos: u128) -> (u128, u32)
     (rounded / 1000, (rounded % 1000) as u32)
 }
 
-// Writes a point and three digits.
 #[tactic(auto, using(crate::proofs::lemmas::Decimals::decimal_laws))]
 fn write_decimals<W: WriteStr>(w: &mut W, thousandths: u32) -> Result<(), WriteFault>
     requires { thousandths < 1000 }
@@ -256,7 +253,7 @@ pub fn write_right_joined<W: WriteStr>(
     w.write_str(fourth)
 }
 
-// How many of the columns four texts leave.
+// The columns that four texts leave.
 #[tactic(auto, using(crate::proofs::lemmas::Decimals::joined_columns))]
 fn columns_left(columns: usize, first: &str, second: &str, third: &str, fourth: &str) -> usize
     ensures { result ≡ columns - length (chars (first.now ++ (second.now ++ (third.now ++ fourth.now)))) }

@@ -1,4 +1,4 @@
-//! A character again and again, as in a bar.
+//! A repeated character, as in a bar.
 
 ghost use Rattle.std.specs.Prelude.{encode_utf8};
 ghost use Rattle.styled_text.specs.Names.{repeat, Puts};

@@ -6,7 +6,7 @@ ghost use Rattle.styled_text.specs.Names.{IsChunkEnd, IsChunk, VisitsChunks, hig
 pub use crate::style::Styles;
 use bstr::ByteSlice;
 
-/// Where the highlight of a slice ends: before its second line feed, or with the slice.
+/// The end of the highlight of a slice: before its second line feed, or with the slice.
 ///
 /// ```
 /// assert_eq!(highlight_end(b"foo\nbar\nbaz\n"), 7);
@@ -46,7 +46,7 @@ pub fn print_lines_in_chunks<F: FnMut(&str)>(text: &str, limit: usize, mut print
     visit_chunks(text, limit, &mut print);
 }
 
-// Calls `print` with each chunk, and does no more with it.
+// Calls `print` with each chunk, and nothing else.
 fn visit_chunks<F: FnMut(&str)>(text: &str, limit: usize, print: &mut F)
     requires { F.IsAlwaysCallable print.old }
     ensures { VisitsChunks (λ p x q. F.step p x tt q) limit text.now print.old print.new }
@@ -59,7 +59,7 @@ fn visit_chunks<F: FnMut(&str)>(text: &str, limit: usize, print: &mut F)
     }
 }
 
-// The first chunk of a text, and what follows it.
+// The first chunk of a text, and the rest.
 #[tactic(auto, using(crate::proofs::lemmas::Chunked::chunk_from_end))]
 fn split_chunk(text: &str, limit: usize) -> (&str, &str)
     requires { 0 < length text.now }
@@ -69,7 +69,6 @@ fn split_chunk(text: &str, limit: usize) -> (&str, &str)
     text.split_at(chunk_len(text.as_bytes(), limit))
 }
 
-// The length of the first chunk, in bytes.
 #[tactic(auto, using(crate::proofs::lemmas::Chunked::ends_far))]
 fn chunk_len(bytes: &[u8], limit: usize) -> usize
     ensures { IsChunkEnd limit bytes.now result }

@@ -11,7 +11,7 @@ use crate::trailing_newline::TrailingNewline;
 use gathered_pieces::GatheredPieces;
 use writers::write_str::{WriteFault, WriteStr};
 
-/// Writes a text without its escape sequences, and without one line feed that closes what is left.
+/// Writes a text without its escape sequences, and without a line feed that closes the rest.
 ///
 /// A sequence is scanned as a whole, and stretches between sequences are written together. It allocates nothing.
 #[tactic(auto, using(crate::proofs::lemmas::Pieces::fronts))]
@@ -26,7 +26,7 @@ pub fn write_stripped_text<W: WriteStr>(w: &mut W, text: &str) -> Result<(), Wri
     write_gathered(w, text)
 }
 
-// The same, where the text has a sequence.
+// For a text that has a sequence.
 fn write_gathered<W: WriteStr>(w: &mut W, text: &str) -> Result<(), WriteFault>
     ensures { Puts W.meaning w.old (without_trailing_newline (visible text.now)) result w.new }
 {
@@ -40,7 +40,7 @@ fn write_gathered<W: WriteStr>(w: &mut W, text: &str) -> Result<(), WriteFault>
     gathered.flush(w)
 }
 
-// What follows the first sequence of a text, which stands after so many bytes.
+// The text after its first sequence, which begins at byte `stretch`.
 #[inline(always)]
 #[tactic(auto, using(crate::proofs::lemmas::Pieces::fronts))]
 fn after_sequence(text: &str, stretch: usize) -> &str
@@ -56,7 +56,7 @@ fn after_sequence(text: &str, stretch: usize) -> &str
     rest
 }
 
-// The text before its first escape character, and what follows.
+// The text before its first escape character, and the rest.
 #[tactic(auto, using(crate::proofs::lemmas::Pieces::front_boundary))]
 fn split_escape(text: &str) -> (&str, &str)
     ensures front { result.0.now ≡ take (front_len is_visible text.now) text.now }

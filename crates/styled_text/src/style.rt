@@ -45,7 +45,7 @@ impl Style {
         Style::Plain
     }
 
-    /// What stands before a text in this style: ESC `[` code `m`, or nothing.
+    /// The prefix of a text in this style: ESC `[` code `m`, or nothing.
     pub fn prefix(self) -> &'static str
         ensures { result.now ≡ style_prefix self }
     {
@@ -62,7 +62,7 @@ impl Style {
         }
     }
 
-    /// What stands after a text in this style.
+    /// The suffix of a text in this style.
     pub fn suffix(self) -> &'static str
         ensures { result.now ≡ style_suffix self }
     {
@@ -98,7 +98,7 @@ impl Style {
         self.write_coloured(w, text)
     }
 
-    // The same of any style. A plain one has less to write.
+    // For any style. A plain one has less to write.
     #[tactic(auto, unfolding(crate::specs::Style::styled))]
     fn write_coloured<W: WriteStr>(self, w: &mut W, text: &str) -> Result<(), WriteFault>
         ensures { Puts W.meaning w.old (styled self text.now) result w.new }
@@ -216,7 +216,7 @@ pub fn write_plain<W: WriteStr>(w: &mut W, text: &str) -> Result<(), WriteFault>
     w.write_str(text)
 }
 
-/// Writes the parts in turn.
+/// Writes the parts in sequence.
 ///
 /// ```
 /// write_parts(&mut out, &[styles.pass.right(12, "Starting"), plain(" "), styles.count.paint("2")])?;
@@ -246,13 +246,13 @@ pub fn write_part<W: WriteStr>(w: &mut W, part: Part<'_>) -> Result<(), WriteFau
 /// The styles of names in lists.
 #[derive(Clone, Copy, Debug, Default, PartialEq, Eq)]
 pub struct ListStyles {
-    /// Of a binary's id.
+    /// The style of a binary's id.
     pub binary_id: Style,
-    /// Of a test's name.
+    /// The style of a test's name.
     pub test_name: Style,
-    /// Of the module path before a test's name.
+    /// The style of the module path before a test's name.
     pub module_path: Style,
-    /// Of numbers.
+    /// The style of numbers.
     pub count: Style,
 }
 
@@ -273,23 +273,23 @@ impl ListStyles {
 pub struct Styles {
     /// Whether the styles are colours.
     pub is_colorized: bool,
-    /// Of numbers and names.
+    /// Numbers and names.
     pub count: Style,
-    /// Of what passed.
+    /// What passed.
     pub pass: Style,
-    /// Of what is tried again.
+    /// What is retried.
     pub retry: Style,
-    /// Of what failed.
+    /// What failed.
     pub fail: Style,
-    /// Of what was skipped, and of warnings.
+    /// What was skipped, and warnings.
     pub skip: Style,
-    /// Of a setup script's id.
+    /// A setup script's id.
     pub script_id: Style,
-    /// Of the part of a run's id that no other run has.
+    /// The unique prefix of a run's id.
     pub run_id_prefix: Style,
-    /// Of the rest of a run's id.
+    /// The rest of a run's id.
     pub run_id_rest: Style,
-    /// Of names in lists.
+    /// Names in lists.
     pub list_styles: ListStyles,
 }
 

@@ -50,7 +50,7 @@ impl WriteText for Number {
     }
 }
 
-/// A text right-aligned in the given number of columns, the padding inside the style.
+/// A text right-aligned in the given number of columns, with the padding inside the style.
 #[derive(Clone, Copy)]
 pub struct Right<'a>(pub usize, pub Style, pub &'a str);
 
@@ -75,7 +75,7 @@ impl WriteText for Seconds {
     }
 }
 
-/// A text whose lines begin after a margin, unless they are empty.
+/// A text with a margin before each line that is not empty.
 #[derive(Clone, Copy, Drop)]
 pub struct Indent<'a, T>(pub &'a str, pub T);
 
@@ -91,7 +91,7 @@ impl<T: WriteText> WriteText for Indent<'_, T> {
     }
 }
 
-/// The same of all lines but the first.
+/// A text with a margin before each line but the first.
 #[derive(Clone, Copy, Drop)]
 pub struct IndentLater<'a, T>(pub &'a str, pub T);
 

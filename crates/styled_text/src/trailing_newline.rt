@@ -1,13 +1,13 @@
-//! A text that comes in pieces, without one line feed that closes it.
+//! A text that comes in pieces, without a line feed that closes it.
 
 ghost use Rattle.std.specs.Prelude.{◌≡◌, ◌++◌, false, OnOk};
 ghost use Rattle.styled_text.specs.Names.{without_trailing_newline, ends_in_line_feed, held, Puts};
 
 use writers::write_str::{WriteFault, WriteStr};
 
-/// Writes a text that comes in pieces, without one line feed that closes it.
+/// Writes a text that comes in pieces, without a line feed that closes it.
 ///
-/// A line feed at the end of a piece is held back until more follows. It allocates nothing: pieces go down as they are.
+/// A line feed at the end of a piece is held back until more follows. It allocates nothing: slices of the pieces are passed on.
 ///
 /// ```
 /// let mut trailing_newline = TrailingNewline::new();
@@ -33,7 +33,7 @@ impl TrailingNewline {
     ///
     /// # Errors
     ///
-    /// What the writer answered. A beginning of what was to be written was accepted.
+    /// The writer's fault. It has accepted a prefix of the text.
     #[tactic(auto, using(crate::proofs::lemmas::TrailingNewlines::held_laws))]
     pub fn write<W: WriteStr>(&mut self, w: &mut W, piece: &str) -> Result<(), WriteFault>
         ensures text { Puts W.meaning w.old (without_trailing_newline (held self.old.is_held ++ piece.now)) result w.new }
@@ -49,7 +49,6 @@ impl TrailingNewline {
     }
 }
 
-// Writes the line feed that is held back, if one is.
 fn write_held<W: WriteStr>(w: &mut W, is_held: bool) -> Result<(), WriteFault>
     ensures { Puts W.meaning w.old (held is_held) result w.new }
 {

@@ -10,7 +10,7 @@ use lib.Lanes.{chunk, put_chunk}
 use borrow.Rule.Slice.PartMut.{mid_of, put_mid, post_of}
 use Rattle.styled_text.specs.Names.{Text, front_len}
 
--- what a block holds is known of each of the 256 bytes
+-- what a block holds is known for each of the 256 bytes
 each_byte : (f : ℕ → ℕ) (p : ℕ → Bool) → agree_below (λ x. top 7 (f x)) p 256 ≡ true → (v : List ℕ) → Each1 (Fits w8) v → map (top 7) (map f v) ≡ map p v
 each_byte f p all [] fits = refl
 each_byte f p all (x ∷ xs) fits = ap₂ (λ a b. a ∷ b) (agree_below_at (λ y. top 7 (f y)) p 256 x all fits.0.fits) (each_byte f p all xs fits.1)
@@ -23,7 +23,7 @@ splat_left : (h : ℕ → ℕ → ℕ) (y : ℕ) (xs : List ℕ) → zip2 h (rep
 splat_left h y [] = refl
 splat_left h y (x ∷ xs) = ap (λ r. h y x ∷ r) (splat_left h y xs)
 
--- `simd_ge` is `simd_le` with its sides changed
+-- `simd_ge` is `simd_le` with its sides swapped
 pub from_splat : (h : ℕ → ℕ → ℕ) (f : ℕ → ℕ) (y n : ℕ) (v : List ℕ) {a : List ℕ} → length v ≡ n → a ≡ map f v → zip2 h (replicate n y) a ≡ map (λ x. h y (f x)) v
 from_splat h f y n v long p =
     ap (zip2 h (replicate n y)) p ∙ ap (λ k. zip2 h (replicate k y) (map f v)) (sym (length-map v f ∙ long)) ∙ splat_left h y (map f v) ∙ map-map (h y) f v

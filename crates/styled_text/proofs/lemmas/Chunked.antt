@@ -1,4 +1,4 @@
--- Chunks, from the places of line feeds (for `chunk_len`, `split_chunk`, `visit_chunks`).
+-- Chunks, from the positions of line feeds (for `chunk_len`, `split_chunk`, `visit_chunks`).
 use Rattle.std.proofs.Common.{◌≡◌, ◌≢◌, ℕ, ◌+◌, ◌-◌, ◌<◌, ◌==◌, inl, inr, [], ◌∷◌, ◌++◌, refl, sym, ap, ◌∙◌, arith, length, get_or, take, drop, min, length-append, length-take, length-drop, add-one, get_or-take, get_or-drop}
 use Rattle.std.proofs.Math.Seq.{take-suc, get_or-append_seam}
 use Rattle.std.proofs.lemmas.Bool.{cases_lt, eqb-true}
@@ -12,7 +12,7 @@ use Rattle.styled_text.proofs.lemmas.Feeds.{to_zero, boundary_after_feed}
 to_feed : (t : Text) (i : ℕ) → i < length t → get_or t i 0 ≡ 10 → take (i + 1) t ≡ take i t ++ 10 ∷ []
 to_feed t i h e = rw add-one (take-suc t i 0 h ∙ ap (λ c. take i t ++ c ∷ []) e)
 
--- where the line feed of a line that follows stands
+-- the line feed of a following line
 feed_place : (t line after : Text) (n : ℕ) → drop n t ≡ line ++ 10 ∷ after → (get_or t (n + length line) 0 ≡ 10) × (n + length line < length t)
 feed_place t line after n e = (
   sym (get_or-drop n t (length line) 0) ∙ ap (λ x. get_or x (length line) 0) e ∙ get_or-append_seam line 10 after 0,

@@ -29,7 +29,7 @@ module _ (start end : ℕ) where
       go more (Some m) = ap (λ x. encode_utf8 c ++ x) (more (moved_by end s c (Some m)))
       go more None = ap (λ x. cond (is_char_kept_by start end s c None) (encode_utf8 c) [] ++ x) (more (moved_by end s c None))
 
-  -- the place of the writer is the true one, or both are past the end
+  -- the position of the writer is the true one, or both are past the end
   abbrev IsPlace : ℕ → ℕ → Type 0
   IsPlace place pos = (place ≡ pos) ⊎ ((end < place) × (end < pos))
 
@@ -39,7 +39,7 @@ module _ (start end : ℕ) where
     | inr l ↦ (let within : nat_lt end place ≡ false = grind (arith, nat_tests) in rw within (inl (grind (arith, h))))
   ]
 
-  -- whether a character fits does not depend on which of the two places is asked
+  -- whether a character fits does not depend on which of the two positions is used
   same_fit : (place pos w : ℕ) → IsPlace place pos → (nat_le start place && nat_le (place + w) end) ≡ (nat_le start pos && nat_le (pos + w) end)
   same_fit place pos w h = grind (arith, nat_tests)
 
@@ -196,7 +196,7 @@ module _ {W : Type 0} {m : Meaning W} (laws : WriterLaws m) where
   same_name a b t (Ok x) p = p.same
   same_name a b t (Err e) p = p.same
 
-  -- through a writer that is given back
+  -- through a writer that is returned
   pub text_fitted : (old new : W) (a b : Fitted W) (t : Text) (start end : ℕ) (r : Result (Unit {0}) WriteFault) → IsUtf8 t → a.inner.now ≡ old → a.start ≡ start → a.end ≡ end
       → a.scan.mode ≡ mode.Text → a.scan.place ≡ 0 → a.scan.is_open ≡ false → Puts (fitted_meaning m) a t r b → (b.inner.ghost_name ≡ a.inner.ghost_name → new ≡ b.inner.now) → Puts m old (fit t start end) r new
   text_fitted old new a b t start end r u n s e k p o h back =

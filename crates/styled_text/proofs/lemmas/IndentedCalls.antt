@@ -71,7 +71,7 @@ module _ {W : Type 0} (took : W → Text → W → Type 0) where
   written_calls : (f g : Formatter W) (t : Text) → IsPlainFormatter f → WritesInCalls writes f t g → HasWritten took f t g
   written_calls f g t plain h = subst (λ x. HasWritten took f x g) h.whole (written_steps h.parts f g plain h.calls)
 
-  -- what an item displays, through a formatter that is given back
+  -- what an item displays, through a formatter that is returned
   pub displayed : (f new : Formatter W) (a b : Indented (Formatter W)) (p : Text) (o : Option Text) (r : Result (Unit {0}) Error) → a.inner.now ≡ f → a.needs_indent ≡ true → a.indentation.now ≡ p
       → OnOk r (WritesText (IndentedTakes writes) a o b) → (b.inner.ghost_name ≡ a.inner.ghost_name → new ≡ b.inner.now) → DisplaysOnOk took f r (option_map (indent p true) o) new
   displayed f new a b p None r e n i h back = tt

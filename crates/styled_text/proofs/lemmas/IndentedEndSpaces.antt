@@ -110,7 +110,7 @@ end_spaces-by_lines : IsByLines without_end_spaces
 unfolding without_end_spaces
 end_spaces-by_lines = by_lines without_end_spaces refl end_spaces-line line-end_spaces
 
--- lines that are alike in turn
+-- lines that are alike one by one
 abbrev AreEqualButEndSpaces : List Text → List Text → Type 0
 AreEqualButEndSpaces ls ms = map without_end_spaces ls ≡ map without_end_spaces ms
 
@@ -139,7 +139,7 @@ visible-indented_lines : (p : Text) (b : Bool) (ls : List Text) → HasNoEscape 
 visible-indented_lines p b [] h blank = refl
 visible-indented_lines p b (l ∷ ls) h blank = ap₂ (λ x xs. x ∷ xs) (visible-indented_line p b l h blank) (visible-indented_lines p true ls h blank)
 
--- what is visible of an indented text is alike the indented visible text
+-- the visible part of an indented text is alike the indented visible text
 pub indent-visible : (p : Text) (b : Bool) (t : Text) → HasNoEscape p → IsBlank p → IsEqualButEndSpaces (visible (indent p b t)) (indent p b (visible t))
 unfolding indent
 indent-visible p b t h blank =

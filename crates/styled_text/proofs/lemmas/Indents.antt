@@ -73,7 +73,7 @@ after-ends b t r line h =
     tells ∙ sym (after-onward b t ∙ after-line b t (Line-from t line))
 
 module _ {W : Type 0} {m : Meaning W} (laws : WriterLaws m) (t : Text) (line : IsOneLine t) where
-  -- what stands before the line is stopped
+  -- the margin is stopped
   pub margin_stopped : (a b : Indented W) (e : WriteFault) → PutsMargin m a t (Err e) b → IndentedStops m a t e b
   margin_stopped a b e p = record {
     below = rw (indent-line a.indentation.now a.needs_indent t line) (laws.stops_within _ _ _ t e p.below);

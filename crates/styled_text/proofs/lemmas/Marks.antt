@@ -1,4 +1,4 @@
--- The characters of a text with what the scan says of each: that a sequence holds it, or that none does (for the lemmas of Closed, FitMarks).
+-- The characters of a text, each marked by whether a sequence holds it (for the lemmas of Closed, FitMarks).
 use Rattle.std.proofs.Common.{◌≡◌, ℕ, zero, suc, ◌+◌, ◌≤◌, Bool, true, false, cond, ◌==◌, inl, inr, List, [], ◌∷◌, ◌++◌, refl, sym, ap, ◌∙◌, arith, length, take, drop, Some, is_some, unwrap_or, chars, encode_utf8, encode_utf8_all, lit<, nat_lt, subst, ◌/◌}
 use Rattle.std.proofs.Math.Seq.{take-append-add, drop-append-add}
 use Rattle.std.proofs.lemmas.Bool.{cases_Bool, and_parts, cases_lt}
@@ -85,7 +85,7 @@ high_front : (bs t : Text) → AreHigh bs → front_len is_visible (bs ++ t) ≡
 high_front [] t h = omega arith
 high_front (b ∷ bs) t h = grind (arith, nat_tests, h.0, high_front bs t h.1)
 
--- the characters with what the scan says of each
+-- the characters with their marks
 abbrev pub Mark : Type 0
 Mark = Bool × ℕ
 
@@ -93,7 +93,7 @@ abbrev pub marks : Mode → List ℕ → List Mark
 marks m [] = []
 marks m (c ∷ cs) = (is_some (advanced m c), c) ∷ marks (mode_after m c) cs
 
--- the same from pieces
+-- from pieces
 abbrev pub tagged : Bool → List ℕ → List Mark
 tagged b [] = []
 tagged b (c ∷ cs) = (b, c) ∷ tagged b cs
@@ -103,7 +103,7 @@ piece_marks [] = []
 piece_marks (SequenceText s ∷ ps) = tagged true (chars s) ++ piece_marks ps
 piece_marks (StretchText s ∷ ps) = tagged false (chars s) ++ piece_marks ps
 
--- how many bytes of what follows belong to the sequence that the scan stands in
+-- how many of the following bytes belong to the current sequence
 abbrev pending : Mode → Text → ℕ
 pending mode.Text t = 0
 pending (mode.Sequence s) t = rest_len s t
@@ -237,6 +237,6 @@ marks-view m (c ∷ cs) h =
     let both = and_parts (scalar c) (all_scalars cs) h in
     mode_step m c (encode_utf8_all cs) both.0 ∙ ap (λ x. (is_some (advanced m c), c) ∷ x) (marks-view (mode_after m c) cs both.1)
 
--- the scan of a text says what its pieces say
+-- the marks from the scan of a text are those from its pieces
 pub marks-pieces : (t : Text) → IsUtf8 t → marks mode.Text (chars t) ≡ piece_marks (pieces t)
 marks-pieces t u = sym (marks-view mode.Text (chars t) (scalars-chars t u)) ∙ ap (view_at 0) (encodes-chars t u) ∙ view_at-zero t

@@ -26,7 +26,7 @@ pub boundary : (c : ℕ) (t : Text) (n : ℕ) → IsUtf8 (c ∷ t) → IsCut c t
 boundary c t n u (h, inl a) = IsCharBoundary-after_ascii (c ∷ t) n u (omega arith) a
 boundary c t n u (h, inr b) = (omega arith, rw add-one (λ x y. absurd (omega (arith, b, x, y))))
 
--- the rest has the pieces that are left
+-- the rest has the remaining pieces
 pub pieces_after-drop : (n : ℕ) (t : Text) → pieces_after n t ≡ pieces (drop n t)
 unfolding pieces_after
 pieces_after-drop zero t = refl
@@ -107,17 +107,17 @@ front_ascii (c ∷ t) l = grind (arith, nat_tests, front_ascii t)
 pub front_boundary : (t : Text) → IsCharBoundary t (front_len is_visible t)
 front_boundary t = (front_len-le is_visible t, λ l a. absurd (omega (arith, front_ascii t l)))
 
--- and what stands before it has no escape character
+-- and the text before it has no escape character
 pub front_free : (t : Text) → HasNoEscape (take (front_len is_visible t) t)
 front_free [] = refl
 front_free (c ∷ t) = elim (cases_Bool (c == 27)) [ inl y ↦ rw y refl | inr n ↦ rw n (rw n (front_free t)) ]
 
--- it begins a sequence, and what follows that is visible
+-- it begins a sequence, and the text after that is visible
 pub visible-sequence : (t after : Text) (c : ℕ) → t ≡ c ∷ after → c ≡ 27 → visible t ≡ visible (drop (sequence_len after + 1) t)
 unfolding visible_after
 visible-sequence t after c e i = rw (e, i, add-one) (visible_after-drop (sequence_len after) after)
 
--- also where no escape character is found
+-- also if there is no escape character
 pub visible-front : (t : Text) → length (drop (front_len is_visible t) t) ≡ 0 → visible t ≡ t
 unfolding visible_after
 visible-front [] h = refl

@@ -1,4 +1,4 @@
--- A text in pieces, without one line feed that closes it (for `TrailingNewline::write`, `StrippedPieces::write`, `split_trailing_newline`, `write_stripped_pieces` and others).
+-- A text in pieces, without a line feed that closes it (for `TrailingNewline::write`, `split_trailing_newline`, `GatheredPieces::write` and others).
 use Rattle.std.proofs.Common.{◌≡◌, ◌≢◌, ℕ, ◌<◌, Bool, true, false, inl, inr, [], ◌∷◌, ◌++◌, refl, sym, ap, ◌∙◌, arith, length, append-nil, append_assoc, Result, Ok, Err, OnOk, subst, MatchResult}
 use Rattle.std.proofs.lemmas.Bool.Decides.{eqb_tells, nat_tests}
 use Rattle.std.proofs.lemmas.List.{nil_from_length}
@@ -47,7 +47,7 @@ pub ends_in_line_feed-append : (t u : Text) → ends_in_line_feed (t ++ u) ≡ e
 ends_in_line_feed-append t [] = ap ends_in_line_feed (append-nil t) ∙ sym (held-still (ends_in_line_feed t))
 ends_in_line_feed-append t (d ∷ u) = ends_in_line_feed-after t d u ∙ sym (ends_in_line_feed-after (held (ends_in_line_feed t)) d u)
 
--- a piece that is not empty, after what is held back
+-- a piece that is not empty, after a line feed that is held back
 pub held-before : (b : Bool) (t : Text) → 0 < length t → without_trailing_newline (held b ++ t) ≡ held b ++ without_trailing_newline t
 held-before b [] h = absurd (omega arith)
 held-before b (c ∷ t) h = without_trailing_newline-after (held b) c t
@@ -56,7 +56,7 @@ pub held-beyond : (b : Bool) (t : Text) → 0 < length t → ends_in_line_feed (
 held-beyond b [] h = absurd (omega arith)
 held-beyond b (c ∷ t) h = ends_in_line_feed-after (held b) c t
 
--- what `strip_suffix` says
+-- the cases of `strip_suffix`
 pub feed_cut : (t front : Text) → t ≡ front ++ (10 ∷ []) → (without_trailing_newline t ≡ front) × (ends_in_line_feed t ≡ true)
 unfolding without_trailing_newline ends_in_line_feed
 feed_cut t front e = (ap without_trailing_newline e ∙ without_trailing_newline-after front 10 [] ∙ append-nil front, ap ends_in_line_feed e ∙ ends_in_line_feed-after front 10 [])
@@ -125,7 +125,7 @@ module _ {S : Type 0} {m : Meaning S} (laws : WriterLaws m) where
   begun a b h k gathered piece rest (Ok x) e p q = rw e (piece_written a b h k piece rest p q)
   begun a b h k gathered piece rest (Err f) e p q = rw e (piece_stopped a b h piece rest f p)
 
-  -- two steps in turn
+  -- two steps in sequence
   pub carried_on : (a b c : S) (t u v : Text) (r : Result (Unit {0}) WriteFault) → Owes m a t b u → MatchResult r (λ _. Owes m b u c v) (λ e. m.stops b u e c) → MatchResult r (λ _. Owes m a t c v) (λ e. m.stops a t e c)
   carried_on a b c t u v (Ok x) o p = λ s d q. o s d (p s d q)
   carried_on a b c t u v (Err e) o p = o (Err e) c p

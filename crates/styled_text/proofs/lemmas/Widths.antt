@@ -43,7 +43,7 @@ kept_chars-columns start end pos [] = omega arith
 kept_chars-columns start end pos (c ∷ cs) =
     grind (arith, nat_tests, kept_chars-columns start end (pos + char_columns c) cs, columns_of-cons c cs, columns_of-cons c (kept_chars start end (pos + char_columns c) cs))
 
--- of the characters of a text: what holds of nothing and of the characters that are kept
+-- the characters of a text: what holds of nothing and of the kept characters
 module _ (start end pos : ℕ) (s : Text) where
   kept_stretch-any : (P : Text → Type 0) → P [] → P (encode_utf8_all (kept_chars start end pos (chars s))) → P (kept_stretch start end pos s)
   kept_stretch-any P none some = elim (cases_lt pos end) [ inl h ↦ rw (kept_stretch-before start end pos s h) some | inr h ↦ rw (kept_stretch-past start end pos s h) none ]

@@ -6,7 +6,7 @@ use super::scan_state::char_columns;
 use crate::escapes::{Mode, advance};
 use writers::write_str::{WriteFault, WriteStr};
 
-/// Counts the columns of what is written to it, up to `u128::MAX`. Nothing else becomes of it, and no write fails.
+/// Counts the columns of what is written to it, up to `u128::MAX`. It keeps nothing else, and no write fails.
 #[derive(Drop)]
 pub(super) struct ColumnCounter {
     columns: u128,
@@ -18,7 +18,7 @@ impl ColumnCounter {
     ghost use Rattle.std.specs.Prelude.{◌≡◌, ◌+◌};
     ghost use Rattle.styled_text.specs.Names.{saturated, columns_counted, advanced, mode_after};
 
-    /// Begins to count.
+    /// Starts to count.
     pub(super) fn new() -> ColumnCounter
         ensures columns { result.columns ≡ 0 }
         ensures mode { result.mode ≡ Mode.Text }
@@ -36,7 +36,6 @@ impl ColumnCounter {
         self.columns
     }
 
-    // Counts a character.
     fn count(&mut self, c: char)
         ensures mode { self.new.mode ≡ mode_after self.old.mode c }
         ensures columns { self.new.columns ≡ saturated (self.old.columns + columns_counted c (advanced self.old.mode c)) }

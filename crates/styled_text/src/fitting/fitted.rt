@@ -6,7 +6,7 @@ use super::scan_state::ScanState;
 use crate::escapes::Mode;
 use writers::write_str::{WriteFault, WriteStr};
 
-/// Lets through what lies between two columns of what is written, and every sequence.
+/// Keeps what lies between two columns of what is written, and every sequence.
 #[derive(Drop)]
 pub(super) struct Fitted<'a, W> {
     inner: &'a mut W,
@@ -53,7 +53,6 @@ impl<'a, W> Fitted<'a, W> {
 impl<W: WriteStr> Fitted<'_, W> {
     ghost use Rattle.styled_text.specs.Fitted.{PutsChar};
 
-    // Writes a character if it is kept.
     fn put(&mut self, c: char) -> Result<(), WriteFault>
         ensures { PutsChar W.meaning self.old c result self.new }
     {

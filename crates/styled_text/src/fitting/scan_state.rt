@@ -1,4 +1,4 @@
-//! Where the scan of a text that is cut stands, and the columns of a character.
+//! The state of a scan of a text that is cut, and the columns of a character.
 
 ghost use Rattle.std.specs.Prelude.{◌≡◌, ◌≤◌, ◌<◌, ◌^◌};
 ghost use Rattle.styled_text.specs.Names.{char_columns, moved, is_char_kept};
@@ -6,19 +6,19 @@ ghost use Rattle.styled_text.specs.Names.{char_columns, moved, is_char_kept};
 use crate::escapes::{Mode, advance};
 use unicode_width::UnicodeWidthChar;
 
-/// Where a scan stands between two characters.
+/// The state of a scan between two characters.
 #[derive(Clone, Copy)]
 pub(super) struct ScanState {
     /// Inside or outside sequences.
     pub(super) mode: Mode,
-    /// The columns before this place, or some place past the end.
+    /// The columns before this position, or some position past the end.
     pub(super) place: u128,
     /// Whether it is in a stretch that began before the end.
     pub(super) is_open: bool,
 }
 
 impl ScanState {
-    /// Where the scan stands after a character, and whether that is kept between these two columns.
+    /// The state after a character, and whether that is kept between these two columns.
     pub(super) fn step(self, start: u128, end: u128, c: char) -> (ScanState, bool)
         requires { end < 2 ^ 127 }
         ensures moved { result.0 ≡ moved end self c }

@@ -1,6 +1,6 @@
 //! The writer that indents.
 //!
-//! It stands in a module of its own, since its name and that of the function `indented` differ only in case.
+//! It has its own module, since its name and that of the function `indented` differ only in case.
 
 ghost use Rattle.std.specs.Prelude.{◌≡◌, false, OnOk};
 ghost use Rattle.styled_text.specs.Names.{PutsMargin, TakesMargin, IndentedTakes, indented_meaning, indented_laws, IsOneLine, Puts};
@@ -12,7 +12,7 @@ use writers::write_str::{WriteFault, WriteStr};
 /// Indents each line of what is written to the writer below.
 ///
 /// A line that is not empty gets the indentation before its first character, an empty one gets none. It allocates nothing:
-/// pieces of the source go down as they are.
+/// slices of the source are passed on.
 #[derive(Drop)]
 pub struct Indented<'a, W> {
     pub(super) inner: &'a mut W,
@@ -37,7 +37,7 @@ impl<'a, W> Indented<'a, W> {
         self
     }
 
-    /// Leaves the first line as it is, where something stands before it already.
+    /// Does not indent the first line, if something precedes it.
     ///
     /// ```
     /// indented(&mut out).skip_initial().write_str("a\nb")?;
@@ -63,7 +63,6 @@ impl<'a, W> Indented<'a, W> {
 }
 
 impl<W: WriteStr> Indented<'_, W> {
-    // Writes the indentation, where it stands before this line.
     #[tactic(auto, using(crate::proofs::lemmas::Indents::first_margin))]
     fn write_margin(&mut self, line: &str) -> Result<(), WriteFault>
         requires { IsOneLine line.now }
@@ -75,7 +74,6 @@ impl<W: WriteStr> Indented<'_, W> {
         self.inner.write_str(self.indentation)
     }
 
-    // Writes a line, with its line feed if it has one.
     fn write_line(&mut self, line: &str) -> Result<(), WriteFault>
         requires { IsOneLine line.now }
         ensures { Puts (indented_meaning W.meaning) self.old line.now result self.new }
@@ -109,7 +107,7 @@ impl<W: WriteStr> WriteStr for Indented<'_, W> {
 }
 
 impl<W: fmt::Write> Indented<'_, W> {
-    // As `write_margin`, over a destination of `fmt`.
+    // `write_margin` for a destination of `fmt`.
     #[tactic(auto, using(crate::proofs::lemmas::IndentedCalls::margin_laws))]
     fn fmt_margin(&mut self, line: &str) -> fmt::Result
         requires { IsOneLine line.now }
@@ -121,7 +119,7 @@ impl<W: fmt::Write> Indented<'_, W> {
         self.inner.write_str(self.indentation)
     }
 
-    // As `write_line`, over a destination of `fmt`.
+    // `write_line` for a destination of `fmt`.
     fn fmt_line(&mut self, line: &str) -> fmt::Result
         requires { IsOneLine line.now }
         ensures { OnOk result (IndentedTakes W.write_str_gives self.old line.now self.new) }
@@ -133,7 +131,7 @@ impl<W: fmt::Write> Indented<'_, W> {
     }
 }
 
-/// The same over a destination of `fmt`. Nothing is said of what a failure leaves, as `fmt` says nothing of it.
+/// For a destination of `fmt`. What a failure leaves is unspecified, as it is by `fmt`.
 impl<W: fmt::Write> fmt::Write for Indented<'_, W> {
     ghost write_str_gives = { IndentedTakes W.write_str_gives };
 

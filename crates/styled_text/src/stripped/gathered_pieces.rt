@@ -1,4 +1,4 @@
-//! Pieces of a text that are written together, without one line feed that closes the text.
+//! Pieces of a text that are written together, without a closing line feed.
 
 ghost use Rattle.std.specs.Prelude.{◌≡◌, [], false, take, OnOk};
 ghost use Rattle.styled_text.specs.Names.{IsCharBoundary, unwritten, Carries};
@@ -26,7 +26,7 @@ impl GatheredPieces {
         }
     }
 
-    /// Gathers the first bytes of a text, and writes where there is no room.
+    /// Gathers the first bytes of a text, and writes if they do not fit.
     #[inline(always)]
     pub(super) fn write_front<W: WriteStr>(
         &mut self,
@@ -44,7 +44,7 @@ impl GatheredPieces {
         self.write(w, piece)
     }
 
-    // Gathers the next piece, and writes where there is no room.
+    // Gathers the next piece, and writes if it does not fit.
     fn write<W: WriteStr>(&mut self, w: &mut W, piece: &str) -> Result<(), WriteFault>
         ensures { Carries W.meaning w.old (unwritten self.old) piece.now result w.new (unwritten self.new) }
     {
@@ -66,7 +66,7 @@ impl GatheredPieces {
         Ok(())
     }
 
-    // Gathers a first piece, or writes one that is longer than the room.
+    // Gathers a first piece, or writes one that is longer than the buffer.
     fn begin<W: WriteStr>(&mut self, w: &mut W, piece: &str) -> Result<(), WriteFault>
         requires { self.old.pending ≡ [] }
         ensures { Carries W.meaning w.old (unwritten self.old) piece.now result w.new (unwritten self.new) }

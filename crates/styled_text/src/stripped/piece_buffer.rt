@@ -12,7 +12,7 @@ const CAPACITY: usize = 1024;
 
 /// Pieces of a text that are gathered, joined.
 ///
-/// They lie in the value itself, which allocates nothing.
+/// They are in the value itself, which allocates nothing.
 #[derive(Drop)]
 pub(super) struct PieceBuffer {
     bytes: [u8; CAPACITY],
@@ -49,7 +49,7 @@ impl PieceBuffer {
         unsafe { str::from_utf8_unchecked(&self.bytes[..self.len]) }
     }
 
-    /// Whether a piece has room.
+    /// Whether a piece fits.
     pub(super) fn has_room(&self, piece: &str) -> bool
         ensures { IsTrue result ↔ (length self.now + length piece.now ≤ 1024) }
     {
@@ -66,8 +66,8 @@ impl PieceBuffer {
         self.len = end;
     }
 
-    /// Gathers the first bytes of a text by a block of 16, and answers whether it did: they must fit into a block, and the
-    /// text and the room must hold one. To strip a coloured line costs a tenth less than with a copy of their number.
+    /// Gathers the first bytes of a text as a block of 16, and returns whether it did: they must fit into a block, and the
+    /// text and the buffer must hold one. Stripping a coloured line costs a tenth less than with a copy of exactly these bytes.
     #[inline(always)]
     pub(super) fn push_in_block(&mut self, text: &str, count: usize) -> bool
         requires { IsCharBoundary text.now count }

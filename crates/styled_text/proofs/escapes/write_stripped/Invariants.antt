@@ -1,7 +1,7 @@
 use Rattle.styled_text.specs.Names.{pieces, stretches, Owes}
 use Rattle.styled_text.proofs.escapes.write_stripped.Given as goal
 
--- the stretches that are left are owed
+-- the remaining stretches are owed
 abbrev pub invariant-loop-piece : goal.invariant-loop-piece
 invariant-loop-piece g l = record {
   can_next : (goal.iterator-loop-piece g).can_next l.piece-iterator;

@@ -3,7 +3,7 @@ use Rattle.styled_text.specs.Names.{repeat, Text}
 use Rattle.writers.proofs.lemmas.Steps.{owes_accepted, owes_stopped}
 use Rattle.styled_text.proofs.repeated.write_repeated.Goals as goal
 
--- the first one, and those that are left
+-- the first one, and the remaining ones
 repeat_first : (n : ℕ) (t : Text) → 0 < n → repeat n t ≡ t ++ repeat (n - 1) t
 repeat_first zero t some = absurd (omega arith)
 repeat_first (suc n) t some = let e : n ≡ suc n - 1 = omega arith in ap (λ k. t ++ repeat k t) e

@@ -4,7 +4,7 @@ use denote.Shadow.{shadow}
 use Rattle.styled_text.specs.Names.{without_trailing_newline, visible, unwritten, Owes}
 use Rattle.styled_text.proofs.stripped.write_gathered.Given as goal
 
--- what is gathered and what is visible of the rest are owed
+-- what is gathered and the visible rest are owed
 abbrev pub invariant-loop-rest : goal.invariant-loop-rest
 invariant-loop-rest g l = record {
   text : shadow (Utf8 l.rest);

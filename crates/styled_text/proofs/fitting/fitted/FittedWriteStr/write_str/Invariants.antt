@@ -1,7 +1,7 @@
 use Rattle.styled_text.specs.Names.{IsUtf8, chars_rest, fitted_meaning, Owes}
 use Rattle.styled_text.proofs.fitting.fitted.FittedWriteStr.write_str.Given as goal
 
--- the characters that are left are owed
+-- the remaining characters are owed
 abbrev pub invariant-loop-c : goal.invariant-loop-c
 invariant-loop-c g l = record {
   can_next : (goal.iterator-loop-c g).can_next l.c-iterator;

@@ -4,7 +4,7 @@ use denote.Shadow.{shadow}
 use Rattle.styled_text.specs.Indentation.{IndentedTakes}
 use Rattle.styled_text.proofs.indenter.indentation.IndentedWrite.write_str.Given as goal
 
--- to take what is left is to take the whole text
+-- taking the rest is taking the whole text
 abbrev pub invariant-loop-rest : goal.invariant-loop-rest
 invariant-loop-rest g l = record {
   text : shadow (Utf8 l.rest);

@@ -4,7 +4,7 @@ use denote.Shadow.{shadow}
 use Rattle.styled_text.specs.Names.{indented_meaning, Owes}
 use Rattle.styled_text.proofs.indenter.indentation.IndentedWriteStr.write_str.Given as goal
 
--- what is left is owed
+-- the rest is owed
 abbrev pub invariant-loop-rest : goal.invariant-loop-rest
 invariant-loop-rest g l = record {
   text : shadow (Utf8 l.rest);
