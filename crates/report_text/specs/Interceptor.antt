@@ -1,4 +1,4 @@
--- What is said where an interceptor would get more than one test.
+-- The message if an interceptor would get more than one test.
 use Rattle.std.specs.Prelude.{ℕ, ◌-◌, false, List, [], ◌++◌, None, length, nat_lt, if◌then◌else◌, codes}
 use Rattle.styled_text.specs.Names.{decimal, flat_map, plain, styled, Text, Style, ListStyles}
 use Rattle.run_model.specs.Names.{NextestRunMode, OwnedTestInstanceId}
@@ -30,7 +30,7 @@ and_words = codes "\n  ... and "
 unfoldable pub rest_text : NextestRunMode → ℕ → Style → Text
 rest_text mode count s = plain and_words ++ (styled s (decimal count) ++ (plain (codes " more ") ++ plain (tests_word mode count)))
 
--- the same where there are such tests
+-- if there are any
 unfoldable pub unlisted_text : NextestRunMode → ℕ → ℕ → Style → Text
 unlisted_text mode count listed s = if nat_lt listed count then rest_text mode (count - listed) s else []
 

@@ -1,4 +1,4 @@
--- Results that are handed in without escape characters.
+-- Results without escape characters.
 use Rattle.run_model.specs.Names.{ExecutionResultDescription, FailureDescription}
 use Rattle.run_model.specs.declared.status.ExecutionResultDescription.TheVariants as outcome
 use Rattle.run_model.specs.declared.status.FailureDescription.TheVariants.{ExitCode, Abort}

@@ -6,11 +6,11 @@ use Rattle.styled_text.specs.Names.{is_ascii_alphanumeric, flat_map, join_by, li
 abbrev pub is_unquoted_byte : ℕ → Bool
 is_unquoted_byte c = is_ascii_alphanumeric c || list_any (λ d. d == c) (codes "_-=/,.+:@")
 
--- a word that stands as it is: it is not empty, and each of its bytes means itself
+-- a word that needs no quotes: it is not empty, and each of its bytes means itself
 abbrev pub is_unquoted : Text → Bool
 is_unquoted t = not (length t == 0) && list_all is_unquoted_byte t
 
--- a quote ends the quoted text, stands behind a backslash, and begins the quoted text again
+-- a quote ends the quoted text, follows a backslash, and begins the quoted text again
 abbrev pub quoted_byte : ℕ → Text
 quoted_byte c = if c == 39 then codes "'\\''" else c ∷ []
 

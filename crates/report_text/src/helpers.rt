@@ -1,7 +1,7 @@
 //! Words, numbers, durations and names as a report shows them.
 //!
-//! Each type whose text is its own has `write_to`, which allocates nothing and has one clause: the text that was written, or a beginning of
-//! it where a fault came. Its `Display` shows that very text.
+//! Each type with a text has `write_to`, which allocates nothing and has one clause: the text that was written, or a prefix of
+//! it after a fault. Its `Display` shows the same text.
 
 pub mod failure;
 pub mod instance;

@@ -12,7 +12,7 @@ duration_text n =
     if nat_le n 60_000_000_000 then seconds 2 n ++ codes "s"
     else (decimal (n / 60_000_000_000) ++ codes "m ") ++ (seconds 2 (n % 60_000_000_000) ++ codes "s")
 
--- whole seconds: those that have passed, or one more where a whole millisecond has passed since
+-- whole seconds: those that have passed, or one more if a whole millisecond has passed since
 abbrev pub whole_seconds : DurationRounding → ℕ → ℕ
 whole_seconds Floor n = n / 1_000_000_000
 whole_seconds Ceiling n = if nat_lt 0 (n / 1_000_000 % 1000) then n / 1_000_000_000 + 1 else n / 1_000_000_000
@@ -38,7 +38,7 @@ unit_nanos Millisecond = 1_000_000
 unit_nanos Microsecond = 1000
 unit_nanos Nanosecond = 1
 
--- what stands for a unit
+-- the name of a unit
 abbrev pub unit_name : TimeUnit → Text
 unit_name Year = codes "y"
 unit_name Month = codes "mo"

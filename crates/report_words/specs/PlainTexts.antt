@@ -6,7 +6,7 @@ use Rattle.run_names.specs.declared.abort.AbortDescription.{AbortDescription}
 use Rattle.run_names.specs.declared.abort.AbortDescription.TheVariants.{UnixSignal, WindowsNtStatus, WindowsJobObject}
 use Rattle.run_names.specs.declared.name.TestInstanceId.{TestInstanceId}
 
--- what holds of a value, where there is one
+-- what holds of a value, if there is one
 abbrev pub HoldsIf : {X : Type 0} → (X → Type 0) → Option X → Type 0
 HoldsIf p None = Unit {0}
 HoldsIf p (Some x) = p x

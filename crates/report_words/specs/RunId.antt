@@ -23,7 +23,7 @@ abbrev pub warning_without : Option (List ℕ) → Option Text
 warning_without None = Some (codes "__NEXTEST_FORCE_RUN_ID is set but invalid (expected UUID), generating random ID")
 warning_without (Some id) = None
 
--- a warning where there is a text that does not parse
+-- a warning if there is a text that does not parse
 abbrev pub run_id_warning : Option Text → Option Text
 run_id_warning None = None
 run_id_warning (Some text) = warning_without (parsed text)

@@ -7,7 +7,7 @@ abbrev pub hbar_character : Bool → ℕ
 hbar_character true = 0x2500
 hbar_character false = 45
 
--- a bar of so many characters
+-- a bar of n characters
 unfoldable pub hbar_text : Bool → ℕ → Text
 hbar_text is_unicode width = repeat width (encode_utf8 (hbar_character is_unicode))
 

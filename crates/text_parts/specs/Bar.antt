@@ -1,4 +1,4 @@
--- The bar that parts a report.
+-- The bar that separates the sections of a report.
 use Rattle.std.specs.Prelude.{codes}
 use Rattle.report_words.specs.Names.{Fixed, Line, Verbatim, words, ◌⧺◌, hbar_text, ThemeCharacters}
 use Rattle.report_words.proofs.lemmas.FreeWords.{free-hbar_text}

@@ -1,4 +1,4 @@
--- What an attempt came to, in words.
+-- The result of an attempt, in words.
 use Rattle.std.specs.Prelude.{ℤ, Bool, true, false, Option, None, Some, [], ◌++◌, codes, refl}
 use Rattle.styled_text.specs.Names.{signed_decimal, Text, plain, HasNoEscape}
 use Rattle.run_model.specs.Names.{AbortDescription, ExecutionResultDescription, FailureDescription, LeakTimeoutResult, SlowTimeoutResult}
@@ -10,7 +10,7 @@ use Rattle.run_model.specs.declared.status.SlowTimeoutResult.TheVariants as slow
 use Rattle.report_words.specs.Parts.{Parts, Fixed, Open, Count, Pass, Fail, Skip, words, toned, Toned, Verbatim, ◌⧺◌, choice, plainly, drawn_given}
 use Rattle.report_words.proofs.lemmas.FreeWords.{free-signed}
 
--- that a process left handles open, where it did
+-- a process left handles open, if it did
 unfoldable pub leaked_note : Bool → Text
 leaked_note false = []
 leaked_note true = plain (codes " (leaked handles)")
@@ -28,7 +28,7 @@ unfoldable pub exit_code_info : ℤ → Bool → Fixed Open
 exit_code_info code leaked =
     toned Fail (codes "failed") ⧺ words (codes " with exit code ") ⧺ Toned Count (signed_decimal code) (free-signed code) ⧺ leaked_part leaked
 
--- the name of a signal, where it has one
+-- the name of a signal, if it has one
 unfoldable pub signal_name : Option Text → Text
 signal_name None = []
 signal_name (Some name) = plain (codes ": SIG") ++ plain name

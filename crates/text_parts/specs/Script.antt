@@ -14,7 +14,7 @@ pub record Script : Type 0 where
   pub program : Text
   pub args : List Text
 
--- what the code hands on of it
+-- as the code has it
 abbrev pub script_of : ScriptInstance → Script
 script_of x = record { stress_index = x.stress_index; script_id = x.script_id.now; program = x.program.now; args = x.args.now }
 

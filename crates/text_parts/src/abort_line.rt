@@ -1,4 +1,4 @@
-//! The line that follows the line of a test whose process was ended from outside, on Windows.
+//! The line after the line of a test whose process was aborted, on Windows.
 
 ghost use Rattle.text_parts.specs.Names.{nt_status_text, nt_message, line_of_abort, line_of_failure, abort_line};
 ghost use Rattle.styled_text.specs.Names.{styled, Puts};
@@ -12,7 +12,7 @@ use styled_text::text::{IndentLater, Toned};
 use writers::text::WriteText;
 use writers::write_str::{WriteFault, WriteStr};
 
-/// Writes what is said of an abort after the line of its test. A signal is told by the line itself.
+/// Writes the line about an abort after the line of its test. A signal is named in the line itself.
 #[tactic(auto, unfolding(crate::specs::AbortLine::abort_line))]
 #[inline(always)]
 pub fn write_abort_line<W: WriteStr>(
@@ -97,7 +97,7 @@ impl WriteText for NtStatus {
     }
 }
 
-// What the system says of a status, if it is known, with later lines that begin as the first does.
+// The message of a status, if it is known, with later lines indented like the first.
 #[derive(Clone, Copy)]
 struct NtMessage<'a>(&'a Option<DescriptionText>);
 

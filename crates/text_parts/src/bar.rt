@@ -1,4 +1,4 @@
-//! The bar that parts a report.
+//! The bar that separates the sections of a report.
 
 ghost use Rattle.std.specs.Prelude.{◌++◌, codes};
 ghost use Rattle.styled_text.specs.Style.{plain};

@@ -1,4 +1,4 @@
-//! What an attempt came to, in words.
+//! The result of an attempt, in words.
 
 ghost use Rattle.report_words.specs.Parts.{paint};
 ghost use Rattle.writers.specs.Writer.{Puts};
@@ -73,7 +73,7 @@ fn write_failure_info<W: WriteStr>(
     }
 }
 
-// Only a signal is told; what ended a process on Windows is said after the line of its test.
+// Only a signal is named; what ended a process on Windows is in the line after the test's.
 #[tactic(auto, unfolding(crate::specs::InfoResult::signal_info, crate::specs::InfoResult::aborted_info))]
 fn write_abort_info<W: WriteStr>(
     w: &mut W,
@@ -103,7 +103,7 @@ fn write_abort_info<W: WriteStr>(
     }
 }
 
-// The name of a signal, where it has one.
+// The name of a signal, if it has one.
 #[derive(Clone, Copy)]
 struct SignalName<'a>(&'a Option<DescriptionText>);
 
@@ -119,7 +119,7 @@ impl WriteText for SignalName<'_> {
     }
 }
 
-// That handles were left open, where they were.
+// Says that handles were left open, if they were.
 #[derive(Clone, Copy)]
 struct LeakedNote(bool);
 

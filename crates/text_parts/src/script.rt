@@ -1,4 +1,4 @@
-//! Which setup script a line speaks of.
+//! The setup script that a line is about.
 
 ghost use Rattle.report_words.specs.Parts.{paint};
 ghost use Rattle.text_parts.specs.Script.{script_of, shown_script};

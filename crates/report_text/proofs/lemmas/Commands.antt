@@ -5,7 +5,7 @@ use Rattle.std.proofs.lemmas.List.{drop_more}
 use Rattle.report_text.specs.Quoting.{shell_word, shell_words}
 
 module _ {W : Type 0} (text : W → Text) where
-  -- what is written of each word after a separator
+  -- a word after a separator
   abbrev pub word_after : Text → W → Text
   word_after separator word = separator ++ shell_word (text word)
 

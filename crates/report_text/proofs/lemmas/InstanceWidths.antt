@@ -67,11 +67,11 @@ fits_width width count_style id_style s stress counter id name a b c d h =
       complete = parts-sequences (stress_prefix count_style stress ∷ counter_prefix counter ∷ id_prefix id_style id ∷ []) (test_name_text s name) width fronts last;
     }
 
--- what is left of a room by a width that was counted
+-- the room that a counted width leaves
 room_left : (room left counted columns : ℕ) → room < 2 ^ 127 → counted ≡ saturated columns → left ≡ room - counted → left ≡ room - columns
 room_left room left counted columns h k e = omega arith
 
--- the four parts in turn
+-- the four parts in sequence
 pub parts_put : {W : Type 0} {m : Meaning W} (laws : WriterLaws m) (w₀ w₁ w₂ w₃ w₄ : W) (r : Result (Unit {0}) WriteFault) (a b d name : Text) (width r₁ r₂ r₃ ka kb kd : ℕ) → width < 2 ^ 64
     → ka ≡ saturated (columns a) → kb ≡ saturated (columns b) → kd ≡ saturated (columns d) → r₁ ≡ width - ka → r₂ ≡ r₁ - kb → r₃ ≡ r₂ - kd
     → m.accepts w₀ (shrunk false a width) w₁ → m.accepts w₁ (shrunk false b r₁) w₂ → m.accepts w₂ (shrunk false d r₂) w₃ → Puts m w₃ (shrunk true name r₃) r w₄ → Puts m w₀ (shrunk_parts (a ∷ b ∷ d ∷ []) name width) r w₄

@@ -44,7 +44,7 @@ unfolding chars
 chars-le [] = omega arith
 chars-le (b ∷ bs) = omega (arith, chars_after-le (continuation_len b) (lead_bits b) bs)
 
--- three columns a byte at most, whatever the bytes are
+-- at most three columns a byte, whatever the bytes are
 columns-le : (t : Text) → columns t ≤ 3 * length t
 columns-le t = omega (arith, columns_of-le (chars (visible t)), chars-le (visible t), visible_after-le 0 t)
 
@@ -67,6 +67,6 @@ name-le s name = go (last_colons name)
     go None = omega (arith, length-append (part_text (Styled s.test_name name)) [], styled-le s.test_name name)
     go (Some i) = paint-le s.module_path s.test_name (take i name) (drop (i + 2) name) (length name) (omega (arith, length-take i name)) (omega (arith, length-drop (i + 2) name))
 
--- a name in memory is not so wide
+-- a name in memory is not that wide
 pub name_columns : (s : ListStyles) (name : Text) → length name < 2 ^ 64 → columns (test_name_text s name) < 2 ^ 127
 name_columns s name h = omega (arith, columns-le (test_name_text s name), name-le s name)

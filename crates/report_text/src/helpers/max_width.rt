@@ -1,6 +1,6 @@
 //! A test that is cut to a greatest width.
 //!
-//! Its four parts take of the width in turn: the iteration of a stress run, the counter and the binary's id, each cut at
+//! Its four parts take from the width in this order: the iteration of a stress run, the counter and the binary's id, each cut at
 //! its end, and the name, cut at its beginning. So nothing is left after a part that is cut.
 
 ghost use Rattle.std.specs.Prelude.{◌<◌, ◌^◌, ◌∷◌, []};

@@ -72,7 +72,7 @@ impl DisplayScriptInstance {
         }
     }
 
-    /// Writes what it shows.
+    /// Writes the script.
     #[tactic(auto, unfolding(crate::specs::Instance::script_text))]
     pub fn write_to<W: WriteStr>(&self, w: &mut W) -> Result<(), WriteFault>
         ensures { Puts W.meaning w.old (script_text self.now.script_id_style self.now.count_style self.now.stress_index self.now.script_id (string_bytes self.now.full_command)) result w.new }

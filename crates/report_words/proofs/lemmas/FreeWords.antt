@@ -114,7 +114,7 @@ unfolding hbar_text lib.Utf8.encode
 free-hbar_text true n = repeat_free n _ refl
 free-hbar_text false n = repeat_free n _ refl
 
--- what is visible of a text is so whatever the text holds
+-- a visible text holds no escape character, whatever the text holds
 pub free-visible : (t : Text) → HasNoEscape (visible t)
 free-visible t = visible_after-free 0 t
 

@@ -12,7 +12,7 @@ use Rattle.styled_text.proofs.lemmas.LineSequences.{visible-line}
 use Rattle.styled_text.proofs.lemmas.Widths.{free_front}
 use Rattle.std.proofs.lemmas.List.{append_cancel_right}
 
--- what is handed in holds no escape character
+-- words from outside hold no escape character
 abbrev pub AreFreeGiven : {a : Bool} {d : End} → Bool → Parts a d → Type 0
 AreFreeGiven k (given t) = HasNoEscape t
 AreFreeGiven k (given_toned tone t) = HasNoEscape t
@@ -42,7 +42,7 @@ in_tone k ScriptId t h = colour_pair-styled k _ t h
 in_tone k RunIdPrefix t h = colour_pair-styled k _ t h
 in_tone k RunIdRest t h = colour_pair-styled k _ t h
 
--- the text ends so
+-- the text has this end
 abbrev pub EndsBy : End → Text → Type 0
 EndsBy Line t = EndsLine t
 EndsBy Open t = Unit {0}
@@ -121,7 +121,7 @@ ends s (loosely x) = inr (ends s x)
 ends s (drawn_given f) = tt
 ends s (drawn_given_line f whole) = whole s
 
--- lines that end in a line feed are alike where what stands before it is
+-- lines that end in a line feed are alike if what precedes it is
 unfed : (k : Bool) (c u : Text) → IsColourPair k (c ++ 10 ∷ []) (u ++ 10 ∷ []) → IsColourPairOfLine k c u
 unfolding without_end_spaces visible_after
 unfed k c u h = record {
@@ -141,7 +141,7 @@ each-pair_all : {X : Type 0} (k : Bool) (f g : X → Text) (P : X → Type 0) (x
 each-pair_all k f g P [] all h = colour_pair-none k
 each-pair_all k f g P (x ∷ xs) all h = colour_pair-append k _ _ _ _ (h x all.0) (each-pair_all k f g P xs all.1 h)
 
--- the parts in colour are the plain ones, where what is handed in is free of escape characters
+-- the parts in colour are the plain ones, if words from outside hold no escape character
 pub in_colour : {a : Bool} {d : End} (k : Bool) (x : Parts a d) → AreFree k x → IsColourPair k (paint (styles_of true) x) (paint (styles_of false) x)
 unfolding plain
 in_colour k none h = colour_pair-none k

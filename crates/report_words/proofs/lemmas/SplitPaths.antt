@@ -30,7 +30,7 @@ pub colon_parts : (t : Text) (r : Option (Bor Text × Bor Text)) → IsSplitOnce
 colon_parts t None h = one_path t (split_parts 58 t None h (lit< tt))
 colon_parts t (Some x) h = let p = split_parts 58 t (Some x) h (lit< tt) in ap between_colons p.0 ∙ first_path x.0.now x.1.now p.1
 
--- what stands after a colon is shorter
+-- the text after a colon is shorter
 pub after_shorter : (t : Text) (r : Option (Bor Text × Bor Text)) → IsSplitOnceResult 58 t r → IfSome r (λ x. length x.1.now < length t)
 after_shorter t None h = tt
 after_shorter t (Some x) h =

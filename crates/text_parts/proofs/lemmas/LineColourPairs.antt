@@ -1,4 +1,4 @@
--- The tests and setup scripts that lines speak of, handed in without escape characters (for all lines of units).
+-- The tests and setup scripts of lines, without escape characters (for all lines of units).
 use Rattle.std.proofs.Common.{◌≢◌, ◌∷◌, ℕ, Bool, true, false, arith, Option, None, Some}
 use Rattle.run_model.specs.Names.{TestInstanceId, RunStats, StressIndex}
 use Rattle.text_parts.specs.Names.{HasPlainCounter, padded_instance, instance_end, untimed_end, IsPlainScript, Script, shown_script, counter_where, finished_counter, next_where, started_counter}
@@ -39,7 +39,7 @@ plain-padded_counter s = go s.counter_width
     go None = tt
     go (Some width) = plain-hbar s.theme_characters.is_unicode
 
--- nor does a test in a line
+-- nor does a test of a line
 abbrev pub IsPlainTest : CountedInstance → Type 0
 IsPlainTest test = HasPlainCounter test.counter × IsPlainInstance test.instance
 

@@ -1,4 +1,4 @@
--- The output of an attempt or of a setup script, where what is handed in is plain (for the lines that it follows).
+-- The output of an attempt or of a setup script, without escape characters (for the lines that it follows).
 use Rattle.std.proofs.Common.{◌≡◌, Bool, true, false, refl}
 use Rattle.run_model.specs.Names.{ExecutionResultDescription, UnitKind, Written}
 use Rattle.run_model.specs.declared.status.ExecutionResultDescription.TheVariants as outcome
@@ -12,7 +12,7 @@ use Rattle.report_words.proofs.lemmas.PartsInColour.{AreFree}
 use Rattle.unit_report.proofs.lemmas.UnitColourPairs.{IsColourPairOfLayout, colour_pair-bars, colour_pair-execution_output}
 use Rattle.text_parts.proofs.lemmas.ResultColourPairs.{free-info_text}
 
--- a layout in a style and in none
+-- a layout with a style and without
 colour_pair-layout_in : (k : Bool) (kind : UnitKind) (b : Bool) (theme : ThemeCharacters) (s : Style) → IsColourPairOfLayout k (layout_in kind b theme s) (layout_in kind b theme style.Plain)
 unfolding without_end_spaces
 colour_pair-layout_in k kind true theme s = record { stdout = colour_pair-bars k _ _ _ _ _; stderr = colour_pair-bars k _ _ _ _ _; combined = colour_pair-bars k _ _ _ _ _; exec_fail = colour_pair-bars k _ _ _ _ _; margin = refl; free = refl; blank = refl }
@@ -29,7 +29,7 @@ plain_style outcome.ExecFail false = refl
 plain_style (outcome.Timeout slow.Pass) false = refl
 plain_style (outcome.Timeout slow.Fail) false = refl
 
--- the output and what is said after it
+-- the output and the line after it
 pub free-unit_output : (k : Bool) (s : Settings) (kind : UnitKind) (is_retry : Bool) (x : ExecutionResultDescription) (w : Written) → IsPlainResult x → IsPlainWritten k w
     → AreFree k (unit_output s kind is_retry x w)
 unfolding unit_output info_line shown_info_line

@@ -1,4 +1,4 @@
--- Results in words, handed in without escape characters (for the lines and the outputs of tests).
+-- Results in words, without escape characters (for the lines and the outputs of tests).
 use Rattle.std.proofs.Common.{Bool, true, false, refl, Option, None, Some}
 use Rattle.run_names.specs.declared.abort.AbortDescription.TheVariants.{UnixSignal, WindowsNtStatus, WindowsJobObject}
 use Rattle.run_model.specs.declared.status.ExecutionResultDescription.{ExecutionResultDescription}
