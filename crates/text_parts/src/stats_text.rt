@@ -85,8 +85,8 @@ impl WriteText for PassedNotes<'_> {
         let has_no_slow = stats.passed_slow == 0;
         let has_no_flaky = stats.flaky == 0;
         let has_no_leaky = stats.leaky == 0;
-        let is_first = has_no_slow && has_no_flaky;
-        let is_empty = has_no_slow && (has_no_flaky && has_no_leaky);
+        let is_first = has_no_slow & has_no_flaky;
+        let is_empty = has_no_slow & (has_no_flaky & has_no_leaky);
         (
             PassedNote(styles, true, stats.passed_slow, "slow"),
             PassedNote(styles, has_no_slow, stats.flaky, "flaky"),

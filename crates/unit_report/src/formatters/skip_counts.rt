@@ -3,7 +3,7 @@
 ghost use Rattle.std.specs.Prelude.{◌≡◌};
 ghost use Rattle.writers.specs.Writer.{Puts};
 ghost use Rattle.report_words.specs.Parts.{paint};
-ghost use Rattle.unit_report.specs.SkipCounts.{filter_name, has_no_filtered, included_text, skip_counts_text, skip_reason, skipped_tests_in, tests_and_binaries, tests_text, via_filter};
+ghost use Rattle.unit_report.specs.SkipCounts.{filter_name, included_text, skip_counts_text, skip_reason, skipped_tests_in, tests_and_binaries, tests_text, via_filter};
 
 use report_words::plural::{binaries_str, tests_str};
 use run_model::config::{CompiledDefaultFilter, CompiledDefaultFilterSection, NextestRunMode};
@@ -104,28 +104,20 @@ fn write_included<W: WriteStr>(w: &mut W, reason: &SkipReason<'_>) -> Result<(),
         ..
     } = *reason;
     let has_no_rerun = counts.skipped_tests_rerun == 0;
-    let has_no_filtered = has_no_filtered(counts);
+    let tests = counts.skipped_tests_default_filter;
+    let binaries = counts.skipped_binaries_default_filter;
+    let has_no_filtered = (tests == 0) & (binaries == 0);
+    let is_empty = has_no_rerun & has_no_filtered;
+    let is_one = has_no_rerun | has_no_filtered;
     let rerun = Tests(styles, mode, counts.skipped_tests_rerun);
-    let filtered = Skipped(
-        styles,
-        mode,
-        counts.skipped_tests_default_filter,
-        counts.skipped_binaries_default_filter,
-    );
+    let filtered = Skipped(styles, mode, tests, binaries);
     let included = (
         ", including ",
         Unless(has_no_rerun, (rerun, " that already passed")),
-        Unless(has_no_rerun || has_no_filtered, ", and "),
+        Unless(is_one, ", and "),
         Unless(has_no_filtered, (filtered, ViaFilter(styles, filter))),
     );
-    Unless(has_no_rerun && has_no_filtered, included).write_to(w)
-}
-
-// Whether the default filter leaves nothing out.
-fn has_no_filtered(counts: &SkipCounts) -> bool
-    ensures { result ≡ has_no_filtered counts.now }
-{
-    counts.skipped_tests_default_filter == 0 && counts.skipped_binaries_default_filter == 0
+    Unless(is_empty, included).write_to(w)
 }
 
 // The name of the default filter after " via ".
