@@ -2,15 +2,14 @@
 
 ghost use Rattle.std.specs.Prelude.{◌≡◌};
 ghost use Rattle.std.specs.IoError.{error_kind};
-ghost use Rattle.console_reporter.specs.ReportErrors.{error_of_io, error_of_run, error_of_write};
-ghost use Rattle.console_reporter.specs.declared.error.ReportError.{ReportError};
+ghost use Rattle.console_reporter.specs.Names.{error_of_io, error_of_run, error_of_write, ReportError};
 
 use crate::imp::{RunFault, WriteEventError};
-use plain_text::write_str::WriteFault;
 use run_model::memory::OutOfMemory;
 use std::alloc::{AllocError, AllocFailed};
 use std::io;
 use thiserror::Error;
+use writers::write_str::WriteFault;
 
 /// Why a program could not make its report. Each fault of this library converts into it with `?`, so a `main` can have it as its error.
 ///

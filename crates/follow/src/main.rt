@@ -4,7 +4,6 @@
 //! producer that died must not look like a success. What goes wrong is one line on standard error and the status.
 #![tactic(auto)]
 
-use plain_text::write_str::RetryInterrupted;
 use scenes::args::{Options, args_or_input};
 use scenes::fault::{Fault, Program};
 use scenes::follow::{RunOutcome, follow_scene};
@@ -14,6 +13,7 @@ use scenes::process::{
 use std::fs::{self, File, Metadata};
 use std::io::{self, Read};
 use std::process::ExitCode;
+use writers::write_str::RetryInterrupted;
 
 fn main(rt: HostRuntime) -> ExitCode {
     fill_standard_descriptors(&rt);

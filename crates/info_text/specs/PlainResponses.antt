@@ -1,14 +1,11 @@
 -- What is handed in for the answers of units without escape characters.
 use Rattle.std.specs.Prelude.{Bool}
-use Rattle.run_model.specs.declared.info.InfoResponse.{InfoResponse}
+use Rattle.run_model.specs.Names.{InfoResponse, UnitState}
 use Rattle.run_model.specs.declared.info.InfoResponse.TheVariants.{SetupScript, Test}
-use Rattle.run_model.specs.declared.info.UnitState.{UnitState}
 use Rattle.run_model.specs.declared.info.UnitState.TheVariants.{Running, Exiting, Terminating, Exited, DelayBeforeNextAttempt}
-use Rattle.plain_text.specs.Escapes.{HasNoEscape}
+use Rattle.styled_text.specs.Escapes.{HasNoEscape}
 use Rattle.report_words.specs.PlainTexts.{HoldsIf, IsPlainInstance}
-use Rattle.report_text.specs.PlainResults.{IsPlainResult}
-use Rattle.unit_report.specs.PlainOutputs.{IsPlainWritten}
-use Rattle.text_parts.specs.Script.{IsPlainScript}
+use Rattle.text_parts.specs.Names.{IsPlainResult, IsPlainWritten, IsPlainScript}
 use Rattle.info_text.specs.Response.{answering_script}
 use Rattle.info_text.specs.State.{signal_of}
 

@@ -1,36 +1,18 @@
 -- The answer of a unit that is asked what it is doing.
 use Rattle.std.specs.Prelude.{◌≡◌, ℕ, ◌+◌, ◌-◌, ◌==◌, Bool, true, false, ◌&&◌, ◌||◌, Option, None, Some, [], ◌++◌, length, codes, nat_lt, if◌then◌else◌, refl}
-use Rattle.std.specs.Fmt.{decimal}
-use Rattle.run_model.specs.Infos.{has_valid_output}
-use Rattle.run_model.specs.Outputs.{has_errors, has_loaded_output}
-use Rattle.run_model.specs.declared.info.InfoResponse.{InfoResponse}
+use Rattle.styled_text.specs.Names.{decimal, HasNoEscape, plain, Text, spaces, Styles}
+use Rattle.run_model.specs.Names.{has_valid_output, has_errors, has_loaded_output, InfoResponse, SetupScriptInfoResponse, TestInfoResponse, UnitState, RetryData, UnitKind, Written}
 use Rattle.run_model.specs.declared.info.InfoResponse.TheVariants.{SetupScript, Test}
-use Rattle.run_model.specs.declared.info.SetupScriptInfoResponse.{SetupScriptInfoResponse}
-use Rattle.run_model.specs.declared.info.TestInfoResponse.{TestInfoResponse}
-use Rattle.run_model.specs.declared.info.UnitState.{UnitState}
 use Rattle.run_model.specs.declared.info.UnitState.TheVariants.{Running, Exiting, Terminating, Exited, DelayBeforeNextAttempt}
-use Rattle.run_model.specs.declared.status.RetryData.{RetryData}
-use Rattle.run_names.specs.declared.unit.UnitKind.{UnitKind}
 use Rattle.run_names.specs.declared.unit.UnitKind.TheVariants as unit
-use Rattle.plain_text.specs.Escapes.{HasNoEscape}
-use Rattle.plain_text.specs.Style.{plain}
-use Rattle.plain_text.specs.Texts.{Text, spaces}
-use Rattle.plain_text.proofs.lemmas.Closed.{spaces_free}
-use Rattle.plain_text.proofs.lemmas.Widths.{free_both}
-use Rattle.report_words.specs.Parts.{Parts, Fixed, Line, Lines, Open, Count, none, words, Word, Verbatim, number, ◌⧺◌, choice, indented_line, drawn_given_line}
-use Rattle.report_words.specs.Theme.{hbar_text}
+use Rattle.styled_text.proofs.lemmas.Closed.{spaces_free}
+use Rattle.styled_text.proofs.lemmas.Widths.{free_both}
+use Rattle.report_words.specs.Names.{Parts, Fixed, Line, Lines, Open, Count, none, words, Word, Verbatim, number, ◌⧺◌, choice, indented_line, drawn_given_line, hbar_text, ThemeCharacters}
 use Rattle.report_words.proofs.lemmas.FreeWords.{free-hbar_text, free-if}
-use Rattle.report_words.specs.declared.theme.ThemeCharacters.{ThemeCharacters}
-use Rattle.plain_text.specs.declared.style.Styles.{Styles}
-use Rattle.unit_report.specs.UnitOutput.{OutputLayout, execution_output}
+use Rattle.text_parts.specs.Names.{OutputLayout, execution_output, instance_end, Script, shown_script, CountedInstance, Settings}
 use Rattle.unit_report.proofs.lemmas.UnitColourPairs.{ends-execution_output}
 use Rattle.unit_report.specs.declared.unit_output.header.OutputHeader.TheVariants.{Label}
 use Rattle.unit_report.specs.declared.unit_output.header.OutputName.TheVariants as name
-use Rattle.run_model.specs.Attempts.{Written}
-use Rattle.text_parts.specs.Instance.{instance_end}
-use Rattle.text_parts.specs.Script.{Script, shown_script}
-use Rattle.text_parts.specs.declared.instance.CountedInstance.{CountedInstance}
-use Rattle.text_parts.specs.declared.settings.Settings.{Settings}
 use Rattle.info_text.specs.State.{state_text}
 use Rattle.info_text.specs.declared.state.InfoUnit.{InfoUnit}
 

@@ -1,8 +1,6 @@
 -- Durations within lines.
 use Rattle.std.specs.Prelude.{ℕ, ◌++◌}
-use Rattle.plain_text.specs.Numbers.{seconds}
-use Rattle.plain_text.specs.Style.{plain}
-use Rattle.plain_text.specs.Texts.{Text}
+use Rattle.styled_text.specs.Names.{seconds, plain, Text}
 use Rattle.report_words.proofs.lemmas.FreeWords.{free-seconds}
 use Rattle.report_words.specs.Parts.{Fixed, Open, Word}
 

@@ -1,10 +1,8 @@
 -- That all units are asked what they are doing, and that no further answers are waited for.
 use Rattle.std.specs.Prelude.{ℕ, ◌==◌, codes}
 use Rattle.run_model.specs.declared.stats.RunStats.{RunStats}
-use Rattle.report_words.specs.declared.theme.ThemeCharacters.{ThemeCharacters}
-use Rattle.report_words.specs.Parts.{Fixed, Line, Lines, Count, Skip, none, words, toned, number, ◌⧺◌, choice}
-use Rattle.text_parts.specs.Bar.{bar_line}
-use Rattle.text_parts.specs.StatsText.{failure_tone, progress_message}
+use Rattle.report_words.specs.Names.{ThemeCharacters, Fixed, Line, Lines, Count, Skip, none, words, toned, number, ◌⧺◌, choice}
+use Rattle.text_parts.specs.Names.{bar_line, failure_tone, progress_message}
 use Rattle.info_text.specs.Seconds.{seconds_part}
 
 -- so many units are asked; they stand for those that run. The line tells the counts of the run and how long it has taken

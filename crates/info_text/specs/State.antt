@@ -1,29 +1,15 @@
 -- What a unit is doing, in the lines of its answer.
 use Rattle.std.specs.Prelude.{ℕ, Bool, false, Option, None, Some, [], ◌++◌, codes, nat_lt, if◌then◌else◌, refl}
-use Rattle.std.specs.Fmt.{decimal}
-use Rattle.std.specs.Option.{is_some, option_map}
-use Rattle.run_model.specs.Infos.{terminate_reason_text}
-use Rattle.run_model.specs.declared.info.UnitState.{UnitState}
+use Rattle.styled_text.specs.Names.{decimal, is_some, option_map, HasNoEscape, seconds, plain, Text}
+use Rattle.run_model.specs.Names.{terminate_reason_text, UnitState, UnitTerminateMethod, UnitTerminateReason, UnitTerminatingState, ExecutionResultDescription, RetryData, NextestRunMode, Nanos}
 use Rattle.run_model.specs.declared.info.UnitState.TheVariants.{Running, Exiting, Terminating, Exited, DelayBeforeNextAttempt}
-use Rattle.run_model.specs.declared.info.UnitTerminateMethod.{UnitTerminateMethod}
 use Rattle.run_model.specs.declared.info.UnitTerminateMethod.TheVariants.{Signal}
-use Rattle.run_model.specs.declared.info.UnitTerminateReason.{UnitTerminateReason}
 use Rattle.run_model.specs.declared.info.UnitTerminateReason.TheVariants as terminate
-use Rattle.run_model.specs.declared.info.UnitTerminatingState.{UnitTerminatingState}
-use Rattle.run_model.specs.declared.status.ExecutionResultDescription.{ExecutionResultDescription}
-use Rattle.run_model.specs.declared.status.RetryData.{RetryData}
-use Rattle.run_names.specs.declared.config.NextestRunMode.{NextestRunMode}
-use Rattle.run_names.specs.declared.time.Nanos.{Nanos}
-use Rattle.plain_text.specs.Escapes.{HasNoEscape}
-use Rattle.plain_text.specs.Numbers.{seconds}
-use Rattle.plain_text.specs.Style.{plain}
-use Rattle.plain_text.specs.Texts.{Text}
-use Rattle.plain_text.proofs.lemmas.Closed.{decimal_free}
-use Rattle.plain_text.proofs.lemmas.Widths.{free_both}
+use Rattle.styled_text.proofs.lemmas.Closed.{decimal_free}
+use Rattle.styled_text.proofs.lemmas.Widths.{free_both}
 use Rattle.report_words.proofs.lemmas.FreeWords.{free-seconds}
 use Rattle.report_words.specs.Parts.{Parts, Fixed, Line, Lines, Open, Tone, Count, Fail, Pass, Skip, none, words, Verbatim, toned, Toned, number, given, ◌⧺◌, choice, loosely, openly, plainly}
-use Rattle.unit_report.specs.UnitKind.{unit_part}
-use Rattle.text_parts.specs.InfoResult.{info_text}
+use Rattle.text_parts.specs.Names.{unit_part, info_text}
 use Rattle.info_text.specs.Seconds.{seconds_between, seconds_part}
 use Rattle.info_text.specs.declared.state.InfoUnit.{InfoUnit}
 

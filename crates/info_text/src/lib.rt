@@ -5,6 +5,5 @@
 #![tactic(auto)]
 
 pub mod response;
-pub mod seconds;
 pub mod start;
 pub mod state;

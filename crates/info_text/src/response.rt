@@ -1,32 +1,31 @@
 //! The answer of a unit that is asked what it is doing.
 
 ghost use Rattle.std.specs.Prelude.{◌≡◌, ◌+◌, false};
-ghost use Rattle.plain_text.specs.Indent.{indent};
-ghost use Rattle.plain_text.specs.Writer.{Puts};
-ghost use Rattle.unit_report.specs.UnitOutput.{layout_of};
-ghost use Rattle.text_parts.specs.Script.{script_of};
-ghost use Rattle.plain_text.specs.Texts.{spaces};
+ghost use Rattle.styled_text.specs.Names.{indent, Puts, spaces};
+ghost use Rattle.text_parts.specs.Names.{layout_of, script_of};
 ghost use Rattle.report_words.specs.Parts.{paint};
-ghost use Rattle.info_text.specs.Response.{HasAnswerOutput, HasValidOutput, answer, answering_script, answering_test, info_layout, info_response_text, is_delay, number_padding, response_number, script_answer, script_unit, separator, test_answer, test_unit, told_attempt, unit_answer, valid_output};
+ghost use Rattle.info_text.specs.Response.{HasAnswerOutput, HasValidOutput, answer, answering_script, answering_test, info_layout, info_response_text, is_delay, number_padding, script_answer, script_unit, separator, test_answer, test_unit, told_attempt, unit_answer, valid_output};
 
 use crate::state::{InfoUnit, write_state};
-use plain_text::indenter::indented;
-use plain_text::numbers::spaces_str;
-use plain_text::style::{Styles, write_plain};
-use plain_text::write_str::{WriteFault, WriteStr};
 use report_text::helpers::{ThemeCharacters, decimal_char_width};
 use run_model::info::{InfoResponse, SetupScriptInfoResponse, TestInfoResponse, UnitState};
 use run_model::output::{ChildExecutionOutputDescription, LiveSpec};
 use run_model::status::RetryData;
 use run_model::unit::UnitKind;
-use text_parts::instance::{CountedInstance, write_instance_end};
-use text_parts::script::ScriptInstance;
+use styled_text::indenter::indented;
+use styled_text::numbers::spaces_str;
+use styled_text::style::Styles;
+use styled_text::text::Number;
+use text_parts::instance::{CountedInstance, InstanceEnd};
+use text_parts::script::{ScriptInstance, ShownScript};
 use text_parts::settings::Settings;
 use unit_report::unit_output::{ChildOutputSpec, OutputHeader, OutputName};
+use writers::text::WriteText;
+use writers::write_str::{WriteFault, WriteStr};
 
 /// Writes the answer of a unit. `index` is its place among all, from 0. Output of the unit must not have been left
 /// unread.
-#[tactic(auto, unfolding(crate::specs::Response::info_response_text))]
+#[tactic(auto, unfolding(crate::specs::Response::info_response_text, crate::specs::Response::response_number))]
 pub fn write_info_response<W: WriteStr>(
     w: &mut W,
     settings: &Settings,
@@ -37,44 +36,37 @@ pub fn write_info_response<W: WriteStr>(
     requires { HasAnswerOutput response.now }
     ensures { Puts W.meaning w.old (paint settings.now.styles (info_response_text settings.now index total response.now)) result w.new }
 {
-    write_separator(w, settings.theme_characters, index)?;
-    write_response_number(w, &settings.styles, index as u128 + 1, total)?;
+    let styles = &settings.styles;
+    let number = index as u128 + 1;
+    let response_number = (
+        "\n* ",
+        Number(styles.count, number),
+        "/",
+        Number(styles.count, total as u128),
+        ": ",
+        number_padding(number, total),
+    );
+    Separator(settings.theme_characters, index).write_to(w)?;
+    response_number.write_to(w)?;
     write_indented(w, settings, response)?;
-    write_plain(w, "\n")
+    "\n".write_to(w)
 }
 
-// Writes a bar before each answer but the first. It is shorter than those round all answers.
-#[tactic(auto, unfolding(crate::specs::Response::separator))]
-fn write_separator<W: WriteStr>(
-    w: &mut W,
-    theme_characters: ThemeCharacters,
-    index: usize,
-) -> Result<(), WriteFault>
-    ensures { Puts W.meaning w.old (separator theme_characters index) result w.new }
-{
-    if index == 0 {
-        return Ok(());
+// A bar before each answer but the first. It is shorter than those round all answers.
+#[derive(Clone, Copy)]
+struct Separator(ThemeCharacters, usize);
+
+impl WriteText for Separator {
+    ghost text = { λ s. separator s.0 s.1 };
+
+    #[tactic(auto, unfolding(crate::specs::Response::separator))]
+    fn write_to<W: WriteStr>(&self, w: &mut W) -> Result<(), WriteFault> {
+        if self.1 == 0 {
+            return Ok(());
+        }
+        self.0.write_hbar(w, 8)?;
+        "\n".write_to(w)
     }
-    theme_characters.write_hbar(w, 8)?;
-    write_plain(w, "\n")
-}
-
-// Writes which of the answers it is. The number is counted from 1, and may be above the greatest of its type.
-#[tactic(auto, unfolding(crate::specs::Response::response_number))]
-fn write_response_number<W: WriteStr>(
-    w: &mut W,
-    styles: &Styles,
-    number: u128,
-    total: usize,
-) -> Result<(), WriteFault>
-    ensures { Puts W.meaning w.old (paint styles.now (response_number number total)) result w.new }
-{
-    write_plain(w, "\n* ")?;
-    styles.count.write_number(w, number)?;
-    write_plain(w, "/")?;
-    styles.count.write_number(w, total as u128)?;
-    write_plain(w, ": ")?;
-    write_plain(w, number_padding(number, total))
 }
 
 // The spaces after that number, which stands as wide as `status: ` where it has room.
@@ -129,8 +121,8 @@ fn write_script_answer<W: WriteStr>(
     requires { HasValidOutput response.now.state response.now.output }
     ensures { Puts W.meaning w.old (paint settings.now.styles (script_answer settings.now response.now)) result w.new }
 {
-    script_of_response(response).write_to(w, &settings.styles)?;
-    write_plain(w, "\n")?;
+    let script = script_of_response(response);
+    (ShownScript(&settings.styles, &script), "\n").write_to(w)?;
     write_unit_answer(
         w,
         settings,
@@ -173,7 +165,8 @@ fn write_test_answer<W: WriteStr>(
     requires { HasValidOutput response.now.state response.now.output }
     ensures { Puts W.meaning w.old (paint settings.now.styles (test_answer settings.now response.now)) result w.new }
 {
-    write_instance_end(w, &settings.styles, &test_of_response(response))?;
+    let test = test_of_response(response);
+    InstanceEnd(&settings.styles, &test).write_to(w)?;
     write_unit_answer(
         w,
         settings,

@@ -4,7 +4,6 @@
 //! that did not end. What goes wrong is one line on standard error and the status.
 #![tactic(auto)]
 
-use plain_text::write_str::RetryInterrupted;
 use recorded::{Metered, RecordedOutputs, RecordedRun};
 use scenes::args::{Options, words};
 use scenes::fault::{Fault, Program};
@@ -16,6 +15,7 @@ use std::fs::{self, File, Metadata};
 use std::io::{self, ErrorKind};
 use std::path::Path;
 use std::process::ExitCode;
+use writers::write_str::RetryInterrupted;
 
 fn main(rt: HostRuntime) -> ExitCode {
     fill_standard_descriptors(&rt);

@@ -4,7 +4,6 @@
 //! status, and nothing stands on standard output unless the whole scene was accepted and PATH was made or emptied.
 #![tactic(auto)]
 
-use plain_text::write_str::RetryInterrupted;
 use scenes::args::{Options, words};
 use scenes::fault::{Fault, Program};
 use scenes::process::{arguments, create_store, fill_standard_descriptors, report_fault};
@@ -13,6 +12,7 @@ use std::fs::File;
 use std::io;
 use std::mem::ManuallyDrop;
 use std::process::ExitCode;
+use writers::write_str::RetryInterrupted;
 
 fn main(rt: HostRuntime) -> ExitCode {
     fill_standard_descriptors(&rt);

@@ -1,8 +1,7 @@
 //! The ids of the binaries whose tests are kept.
 
 ghost use Rattle.std.specs.Prelude.{◌≡◌, IfOk};
-ghost use Rattle.std.specs.Cmp.Lexicographic.{slice_cmp};
-ghost use Rattle.std.specs.Ordering.{nat_cmp};
+ghost use Rattle.styled_text.specs.Names.{slice_cmp, nat_cmp};
 
 use run_model::memory::OutOfMemory;
 use run_model::name::RustBinaryId;

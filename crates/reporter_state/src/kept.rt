@@ -1,21 +1,16 @@
 //! The entries of a summary, and their order.
 
 ghost use Rattle.std.specs.Prelude.{◌≡◌, List, [], ◌∷◌, ◌++◌, OnOk, OnErr};
-ghost use Rattle.plain_text.specs.Writer.{Puts};
-ghost use Rattle.test_text.specs.StatusLine.{status_line};
-ghost use Rattle.test_text.specs.declared.status_line.StatusLineKind.{StatusLineKind};
+ghost use Rattle.writers.specs.Writer.{Puts};
+ghost use Rattle.reporter_state.specs.Names.{status_line, StatusLineKind, final_text, shown_entries, final_order, IsFinalOrder, borrowed_test, FinalOutputEntry};
 ghost use Rattle.report_words.specs.Parts.{paint};
-ghost use Rattle.reporter_state.specs.Entries.{final_text, shown_entries, final_order, IsFinalOrder};
-ghost use Rattle.reporter_state.specs.KeptTests.{borrowed_test};
 ghost use Rattle.reporter_state.specs.declared.final_output.FinalOutput.TheVariants.{ExecutedWithOutput};
-ghost use Rattle.reporter_state.specs.declared.final_output.FinalOutputEntry.{FinalOutputEntry};
 
 use crate::entry_key::EntryKey;
 use crate::final_output::{FinalOutput, FinalOutputEntry};
 use crate::kept_output::{KeptOutput, OutputForm, ShortSummary};
 use crate::kept_test::KeptTest;
 use crate::loaded_output::LoadedOutput;
-use plain_text::write_str::{WriteFault, WriteStr};
 use run_model::memory::OutOfMemory;
 use run_model::status::StatusSummary;
 use std::alloc::Global;
@@ -26,6 +21,7 @@ use test_text::status_line::{StatusLine, StatusLineKind, write_status_line};
 use test_text::test_skipped::write_skip_line;
 use text_parts::attempt_output::write_test_execute_status;
 use text_parts::settings::Settings;
+use writers::write_str::{WriteFault, WriteStr};
 
 /// The entries of a summary. Contracts see them in the order in which they are listed.
 #[derive(Drop)]
@@ -37,8 +33,7 @@ pub struct KeptEntries {
 impl Model for KeptEntries {
     ghost use Rattle.std.specs.Prelude.{List};
     ghost use Rattle.std.specs.BTreeMap.{btree_map_len};
-    ghost use Rattle.reporter_state.specs.Keys.{ArePlaced, shown_of};
-    ghost use Rattle.reporter_state.specs.declared.final_output.FinalOutputEntry.{FinalOutputEntry};
+    ghost use Rattle.reporter_state.specs.Names.{ArePlaced, shown_of, FinalOutputEntry};
 
     ghost Value = { List FinalOutputEntry };
 

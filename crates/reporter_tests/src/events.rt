@@ -3,7 +3,6 @@
 use crate::runs::{TWO_TESTS, run_started};
 use crate::testing::{line_builder, retried_success, write_event};
 use console_reporter::imp::{Surroundings, WriteEventError};
-use plain_text::write_str::TextBuffer;
 use run_model::event::TestEvent;
 use run_model::level::StatusLevel;
 use run_model::name::OwnedTestInstanceId;
@@ -11,6 +10,7 @@ use std::alloc::Global;
 use std::mem;
 use std::test::Fail;
 use test_devices::Device;
+use writers::write_str::TextBuffer;
 
 #[test]
 fn a_refused_event_changes_nothing(rt: HostRuntime) -> Result<(), Fail> {
@@ -36,7 +36,7 @@ fn write_both(alloc: Global, refused: &TestEvent<'_>, next: &TestEvent<'_>) -> R
     let mut reporter = builder.build_for(alloc, &mut report, Surroundings::default());
     let answer = write_event(&mut reporter, refused);
     let next_answer = write_event(&mut reporter, next);
-    let _writers = reporter.into_writers();
+    let _parts = reporter.into_parts();
     if answer != Err(WriteEventError::RetriedSuccess) || next_answer != Ok(()) {
         return Err(Fail::from("the event was not refused, or the next one was"));
     }
@@ -60,7 +60,7 @@ fn write_without_room(alloc: Global, event: &TestEvent<'_>) -> Result<(), Fail> 
     let mut reporter = builder.build_for(alloc, &mut report, Surroundings::default());
     let answer = write_event(&mut reporter, event);
     let later = [write_event(&mut reporter, event), reporter.finish()];
-    let _writers = reporter.into_writers();
+    let _parts = reporter.into_parts();
     if answer != Err(WriteEventError::Io) || later != [Err(WriteEventError::Failed); 2] {
         return Err(Fail::from("the device did not fail, or the report went on"));
     }

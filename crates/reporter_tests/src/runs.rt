@@ -10,7 +10,6 @@ mod growths;
 use crate::testing::{ended, line_builder};
 use bytes::Bytes;
 use console_reporter::imp::{ReportCall, RunFault, StoreConfig, run_report, run_report_with_store};
-use plain_text::write_str::WriteStr;
 use run_model::boxed::Boxed;
 use run_model::config::TestOutputDisplay;
 use run_model::event::{SkipCounts, TestCounts, TestEvent, TestEventKind};
@@ -26,6 +25,7 @@ use std::alloc::Global;
 use std::mem;
 use std::test::Fail;
 use uuid::Uuid;
+use writers::write_str::WriteStr;
 
 /// What is tried with each run.
 #[derive(Clone, Copy)]

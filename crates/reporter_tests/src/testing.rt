@@ -5,7 +5,6 @@
 use console_reporter::imp::{
     DisplayReporter, DisplayReporterBuilder, ReportCall, RunFault, WriteEventError,
 };
-use plain_text::write_str::WriteStr;
 use run_model::command::CommandLine;
 use run_model::config::TestOutputDisplay;
 use run_model::event::{TestEvent, TestEventKind};
@@ -20,6 +19,7 @@ use run_model::status::{
 use run_model::time::Nanos;
 use std::alloc::Global;
 use unit_report::config::{DisplayConfig, ShowProgress};
+use writers::write_str::WriteStr;
 
 /// A reporter of a run of two tests that shows a line of each from this level on, and in the summary those that failed.
 pub fn line_builder(

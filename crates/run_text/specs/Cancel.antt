@@ -1,8 +1,6 @@
 -- A run that is about to be cancelled or killed.
 use Rattle.std.specs.Prelude.{ℕ, Bool, true, false, Option, None, Some, codes}
-use Rattle.run_names.specs.declared.config.NextestRunMode.{NextestRunMode}
-use Rattle.run_names.specs.Levels.{reason_words}
-use Rattle.run_names.specs.declared.level.CancelReason.{CancelReason}
+use Rattle.run_model.specs.Names.{NextestRunMode, reason_words, CancelReason}
 use Rattle.run_names.specs.declared.level.CancelReason.TheVariants as reason
 use Rattle.report_words.proofs.lemmas.FreeWords.{free-reason_words}
 use Rattle.report_words.specs.Parts.{Fixed, Open, Line, Fail, none, words, toned, Toned, right, ◌⧺◌, choice, openly}

@@ -1,14 +1,10 @@
 -- The tests that a rerun was to see and has not.
 use Rattle.std.specs.Prelude.{ℕ, false, ◌-◌, List, ◌==◌, Option, None, Some, length, codes}
-use Rattle.run_names.specs.declared.config.NextestRunMode.{NextestRunMode}
-use Rattle.run_names.specs.declared.name.OwnedTestInstanceId.{OwnedTestInstanceId}
-use Rattle.run_names.specs.declared.not_seen.NotSeen.{NotSeen}
+use Rattle.run_model.specs.Names.{NextestRunMode, OwnedTestInstanceId, NotSeen}
 use Rattle.report_text.specs.Instance.{test_text}
-use Rattle.report_words.specs.Plural.{tests_word}
+use Rattle.report_words.specs.Names.{tests_word, Parts, Fixed, Line, Lines, Count, Skip, none, words, Word, right, number, ◌⧺◌, choice, each, plainly, drawn_given, paint}
 use Rattle.report_words.proofs.lemmas.FreeWords.{free-tests_word_if}
-use Rattle.report_words.specs.Parts.{Parts, Fixed, Line, Lines, Count, Skip, none, words, Word, right, number, ◌⧺◌, choice, each, plainly, drawn_given, paint}
-use Rattle.plain_text.specs.Texts.{Text}
-use Rattle.plain_text.specs.declared.style.Styles.{Styles}
+use Rattle.styled_text.specs.Names.{Text, Styles}
 
 -- how many tests there are
 unfoldable pub not_seen_start : NextestRunMode → ℕ → Fixed Line

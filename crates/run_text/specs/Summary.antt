@@ -1,27 +1,15 @@
 -- The end of a run before its entries: how long it took, and its counts.
 use Rattle.std.specs.Prelude.{ℕ, not, ◌&&◌, ◌==◌, Option, None, Some, codes}
-use Rattle.std.specs.declared.num.NonZeroU32.{NonZeroU32}
-use Rattle.std.specs.Int.NonZero.{non_zero_u32_get}
-use Rattle.run_names.specs.Levels.{reason_words}
-use Rattle.run_model.specs.Stats.{final_stats_of, stress_stats_of}
-use Rattle.run_names.specs.declared.config.NextestRunMode.{NextestRunMode}
-use Rattle.run_names.specs.declared.level.CancelReason.{CancelReason}
-use Rattle.run_model.specs.declared.stats.RunStats.{RunStats}
-use Rattle.run_model.specs.declared.stats.FinalRunStats.{FinalRunStats}
+use Rattle.styled_text.specs.Names.{NonZeroU32, non_zero_u32_get}
+use Rattle.run_model.specs.Names.{reason_words, final_stats_of, stress_stats_of, NextestRunMode, CancelReason, RunStats, FinalRunStats, RunFinishedStats, StressFinalRunStats, StressRunStats}
+use Rattle.run_model.specs.Names.{StressIndex}
 use Rattle.run_model.specs.declared.stats.FinalRunStats.TheVariants.{Success, NoTestsRun, Cancelled, Failed}
-use Rattle.run_model.specs.declared.stats.RunFinishedStats.{RunFinishedStats}
 use Rattle.run_model.specs.declared.stats.RunFinishedStats.TheVariants.{Single, Stress}
-use Rattle.run_model.specs.declared.stats.StressFinalRunStats.{StressFinalRunStats}
 use Rattle.run_model.specs.declared.stats.StressFinalRunStats.TheVariants as stress
-use Rattle.run_model.specs.declared.stats.StressRunStats.{StressRunStats}
-use Rattle.run_names.specs.declared.stress.StressIndex.{StressIndex}
-use Rattle.report_words.specs.Plural.{iterations_word, tests_word_if}
-use Rattle.unit_report.specs.Durations.{bracketed}
-use Rattle.text_parts.specs.Bar.{bar_line}
-use Rattle.text_parts.specs.StatsText.{counted_text, summary_text}
-use Rattle.report_words.specs.declared.theme.ThemeCharacters.{ThemeCharacters}
+use Rattle.report_words.specs.Names.{iterations_word, tests_word_if, ThemeCharacters, Fixed, Open, Line, Tone, Pass, Fail, Skip, Count, none, words, Word, toned, Toned, right, number, ◌⧺◌, choice}
+use Rattle.report_words.specs.Names.{openly}
+use Rattle.text_parts.specs.Names.{bracketed, bar_line, counted_text, summary_text}
 use Rattle.report_words.proofs.lemmas.FreeWords.{free-iterations_word, free-reason_words, free-tests_word_if}
-use Rattle.report_words.specs.Parts.{Fixed, Open, Line, Tone, Pass, Fail, Skip, Count, none, words, Word, toned, Toned, right, number, ◌⧺◌, choice, openly}
 
 -- what a run came to
 abbrev pub outcome_tone : FinalRunStats → Tone

@@ -1,15 +1,17 @@
 //! A run that is about to be cancelled or killed.
 
 ghost use Rattle.std.specs.Prelude.{◌≡◌};
-ghost use Rattle.plain_text.specs.Writer.{Puts};
+ghost use Rattle.writers.specs.Writer.{Puts};
 ghost use Rattle.report_words.specs.Parts.{paint};
-ghost use Rattle.run_text.specs.Cancel.{begin_cancel_text, begin_kill_text, ends_at_once, reason_text, still_running, terminating_at_once, terminating_words};
+ghost use Rattle.run_text.specs.Cancel.{begin_cancel_text, begin_kill_text, ends_at_once, reason_text, still_running};
 
-use crate::running::Running;
-use plain_text::style::{Styles, write_plain};
-use plain_text::write_str::{WriteFault, WriteStr};
+use crate::running::{Running, ShownRunning};
 use run_model::level::CancelReason;
+use styled_text::style::Styles;
+use styled_text::text::{Right, Toned};
 use text_parts::settings::Settings;
+use writers::text::{Unless, When, WriteText};
+use writers::write_str::{WriteFault, WriteStr};
 
 /// Writes that the run is about to be cancelled, why, and how many setup scripts or tests still run.
 ///
@@ -31,10 +33,9 @@ pub fn write_begin_cancel<W: WriteStr>(
         setup_scripts: setup_scripts_running,
         tests: running,
     };
-    settings.styles.fail.write_right(w, 12, "Cancelling")?;
-    write_reason(w, &settings.styles, reason)?;
-    write_still_running(w, settings, ends_at_once(reason), running)?;
-    write_plain(w, "\n")
+    let word = Right(12, settings.styles.fail, "Cancelling");
+    let still = StillRunning(settings, ends_at_once(reason), running);
+    (word, Reason(&settings.styles, reason), still, "\n").write_to(w)
 }
 
 /// Writes that the run is about to be killed, why, and how many setup scripts or tests still run.
@@ -52,10 +53,9 @@ pub fn write_begin_kill<W: WriteStr>(
         setup_scripts: setup_scripts_running,
         tests: running,
     };
-    settings.styles.fail.write_right(w, 12, "Killing")?;
-    write_reason(w, &settings.styles, reason)?;
-    write_still_running(w, settings, false, running)?;
-    write_plain(w, "\n")
+    let word = Right(12, settings.styles.fail, "Killing");
+    let still = StillRunning(settings, false, running);
+    (word, Reason(&settings.styles, reason), still, "\n").write_to(w)
 }
 
 // Whether a run that is cancelled for this reason does not wait for what runs.
@@ -68,64 +68,40 @@ fn ends_at_once(reason: Option<CancelReason>) -> bool
     }
 }
 
-// Writes why, where that is known.
-#[tactic(auto, unfolding(crate::specs::Cancel::reason_text))]
-fn write_reason<W: WriteStr>(
-    w: &mut W,
-    styles: &Styles,
-    reason: Option<CancelReason>,
-) -> Result<(), WriteFault>
-    ensures { Puts W.meaning w.old (paint styles.now (reason_text reason)) result w.new }
-{
-    match reason {
-        None => Ok(()),
-        Some(reason) => {
-            write_plain(w, " due to ")?;
-            styles.fail.write(w, reason.as_str())
+// Why, where that is known.
+#[derive(Clone, Copy)]
+struct Reason<'a>(&'a Styles, Option<CancelReason>);
+
+impl WriteText for Reason<'_> {
+    ghost text = { λ r. paint r.0.now (reason_text r.1) };
+
+    #[tactic(auto, unfolding(crate::specs::Cancel::reason_text))]
+    fn write_to<W: WriteStr>(&self, w: &mut W) -> Result<(), WriteFault> {
+        match self.1 {
+            None => Ok(()),
+            Some(reason) => (" due to ", Toned(self.0.fail, reason.as_str())).write_to(w),
         }
     }
 }
 
-// Writes how many still run, where anything does.
-#[tactic(auto, unfolding(crate::specs::Cancel::still_running))]
-fn write_still_running<W: WriteStr>(
-    w: &mut W,
-    settings: &Settings,
-    is_terminating: bool,
-    running: Running,
-) -> Result<(), WriteFault>
-    ensures { Puts W.meaning w.old (paint settings.now.styles (still_running settings.now.mode is_terminating running)) result w.new }
-{
-    if running.is_none() {
-        return Ok(());
-    }
-    write_plain(w, ": ")?;
-    write_terminating_at_once(w, &settings.styles, is_terminating)?;
-    running.write_to(w, settings.mode, &settings.styles)?;
-    write_plain(w, " still running")
-}
+// How many still run, where anything does; the flag says that they are terminated.
+#[derive(Clone, Copy)]
+struct StillRunning<'a>(&'a Settings, bool, Running);
 
-// Writes `immediately terminating ` if running units are terminated.
-#[tactic(auto, unfolding(crate::specs::Cancel::terminating_at_once))]
-fn write_terminating_at_once<W: WriteStr>(
-    w: &mut W,
-    styles: &Styles,
-    is_terminating: bool,
-) -> Result<(), WriteFault>
-    ensures { Puts W.meaning w.old (paint styles.now (terminating_at_once is_terminating)) result w.new }
-{
-    if is_terminating {
-        write_terminating_words(w, styles)
-    } else {
-        Ok(())
-    }
-}
+impl WriteText for StillRunning<'_> {
+    ghost text = { λ s. paint s.0.now.styles (still_running s.0.now.mode s.1 s.2) };
 
-#[tactic(auto, unfolding(crate::specs::Cancel::terminating_words))]
-fn write_terminating_words<W: WriteStr>(w: &mut W, styles: &Styles) -> Result<(), WriteFault>
-    ensures { Puts W.meaning w.old (paint styles.now terminating_words) result w.new }
-{
-    write_plain(w, "immediately ")?;
-    styles.fail.write(w, "terminating")?;
-    write_plain(w, " ")
+    #[tactic(auto, unfolding(crate::specs::Cancel::still_running, crate::specs::Cancel::terminating_at_once, crate::specs::Cancel::terminating_words))]
+    fn write_to<W: WriteStr>(&self, w: &mut W) -> Result<(), WriteFault> {
+        let StillRunning(settings, is_terminating, running) = *self;
+        let styles = &settings.styles;
+        let terminating = ("immediately ", Toned(styles.fail, "terminating"), " ");
+        let still = (
+            ": ",
+            When(is_terminating, terminating),
+            ShownRunning(styles, settings.mode, running),
+            " still running",
+        );
+        Unless(running.is_none(), still).write_to(w)
+    }
 }

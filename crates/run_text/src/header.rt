@@ -1,16 +1,18 @@
 //! What a replay says before it: which recorded run it shows, when that started, and how it ended.
 
 ghost use Rattle.std.specs.Prelude.{◌≡◌};
-ghost use Rattle.plain_text.specs.Writer.{Puts};
+ghost use Rattle.writers.specs.Writer.{Puts};
 ghost use Rattle.report_words.specs.Parts.{paint};
-ghost use Rattle.run_text.specs.Header.{date_text, replay_header_text, replaying_line, started_line, started_text, time_text, year_sign};
+ghost use Rattle.run_text.specs.Header.{date_text, replay_header_text, started_text, time_text, year_sign};
 
-use crate::run_id::write_run_id;
+use crate::run_id::ShownRunId;
 use jiff::civil::{Date, DateTime, Time};
-use plain_text::numbers::digit_str;
-use plain_text::style::{Styles, write_plain};
-use plain_text::write_str::{WriteFault, WriteStr, write_strs};
 use run_model::replay::ReplayHeader;
+use styled_text::numbers::digit_str;
+use styled_text::style::Styles;
+use styled_text::text::{Right, Toned};
+use writers::text::WriteText;
+use writers::write_str::{WriteFault, WriteStr, write_strs};
 
 /// Writes what a replay says before it.
 ///
@@ -20,7 +22,7 @@ use run_model::replay::ReplayHeader;
 /// let started = "     Started 2024-02-29 07:05:09  status: ok\n";
 /// assert_eq!(out.as_str(), format!(in alloc; "{replaying}{started}")?.as_str());
 /// ```
-#[tactic(auto, unfolding(crate::specs::Header::replay_header_text))]
+#[tactic(auto, unfolding(crate::specs::Header::replay_header_text, crate::specs::Header::replaying_line, crate::specs::Header::started_line))]
 pub fn write_replay_header<W: WriteStr>(
     w: &mut W,
     styles: &Styles,
@@ -28,50 +30,33 @@ pub fn write_replay_header<W: WriteStr>(
 ) -> Result<(), WriteFault>
     ensures { Puts W.meaning w.old (paint styles.now (replay_header_text header.now)) result w.new }
 {
-    write_replaying_line(w, styles, header)?;
-    write_started_line(w, styles, header)
+    let run_id = ShownRunId(styles, &header.unique_prefix, &header.run_id);
+    let replaying = Right(12, styles.pass, "Replaying");
+    let replaying = (replaying, " recorded run ", run_id, "\n");
+    let started = (
+        Right(12, styles.pass, "Started"),
+        " ",
+        StartedAt(header.started_at),
+        "  status: ",
+        Toned(styles.count, header.status.as_str()),
+        "\n",
+    );
+    (replaying, started).write_to(w)
 }
 
-// Writes which run is shown.
-#[tactic(auto, unfolding(crate::specs::Header::replaying_line))]
-fn write_replaying_line<W: WriteStr>(
-    w: &mut W,
-    styles: &Styles,
-    header: &ReplayHeader,
-) -> Result<(), WriteFault>
-    ensures { Puts W.meaning w.old (paint styles.now (replaying_line header.now)) result w.new }
-{
-    styles.pass.write_right(w, 12, "Replaying")?;
-    write_plain(w, " recorded run ")?;
-    write_run_id(w, styles, &header.unique_prefix, &header.run_id)?;
-    write_plain(w, "\n")
-}
+// A date and a time of day. Fractions of a second are cut off.
+#[derive(Clone, Copy)]
+struct StartedAt(DateTime);
 
-// Writes when the run started, and how it ended.
-#[tactic(auto, unfolding(crate::specs::Header::started_line))]
-fn write_started_line<W: WriteStr>(
-    w: &mut W,
-    styles: &Styles,
-    header: &ReplayHeader,
-) -> Result<(), WriteFault>
-    ensures { Puts W.meaning w.old (paint styles.now (started_line header.now)) result w.new }
-{
-    styles.pass.write_right(w, 12, "Started")?;
-    write_plain(w, " ")?;
-    write_started_at(w, header.started_at)?;
-    write_plain(w, "  status: ")?;
-    styles.count.write(w, header.status.as_str())?;
-    write_plain(w, "\n")
-}
+impl WriteText for StartedAt {
+    ghost text = { λ s. started_text s.0 };
 
-// Writes a date and a time of day. A part of a second is left out.
-#[tactic(auto, unfolding(crate::specs::Header::started_text))]
-fn write_started_at<W: WriteStr>(w: &mut W, started_at: DateTime) -> Result<(), WriteFault>
-    ensures { Puts W.meaning w.old (started_text started_at) result w.new }
-{
-    write_date(w, started_at.date())?;
-    write_plain(w, " ")?;
-    write_time(w, started_at.time())
+    #[tactic(auto, unfolding(crate::specs::Header::started_text))]
+    fn write_to<W: WriteStr>(&self, w: &mut W) -> Result<(), WriteFault> {
+        write_date(w, self.0.date())?;
+        " ".write_to(w)?;
+        write_time(w, self.0.time())
+    }
 }
 
 // Writes a date: the year in four digits, the month and the day in two.

@@ -1,16 +1,15 @@
 //! A run that is stopped for a while, and goes on.
 
 ghost use Rattle.std.specs.Prelude.{◌++◌};
-ghost use Rattle.plain_text.specs.Writer.{Puts};
-ghost use Rattle.plain_text.specs.Style.{styled};
-ghost use Rattle.plain_text.specs.Texts.{right_in};
+ghost use Rattle.styled_text.specs.Names.{Puts, styled, right_in};
 ghost use Rattle.report_words.specs.Parts.{paint};
-ghost use Rattle.run_text.specs.Pause.{due_to_signal, now_running, run_continued_text, run_paused_text};
+ghost use Rattle.run_text.specs.Pause.{due_to_signal, run_continued_text, run_paused_text};
 
-use crate::running::Running;
-use plain_text::style::write_plain;
-use plain_text::write_str::{WriteFault, WriteStr};
+use crate::running::{Running, ShownRunning};
+use styled_text::text::{Right, Toned};
 use text_parts::settings::Settings;
+use writers::text::{Unless, WriteText};
+use writers::write_str::{WriteFault, WriteStr};
 
 /// Writes that the run was stopped for a while, and how many setup scripts or tests run.
 ///
@@ -44,7 +43,7 @@ pub fn write_run_continued<W: WriteStr>(
 }
 
 // Writes what the run does on a signal, and how many run.
-#[tactic(auto, unfolding(crate::specs::Pause::due_to_signal))]
+#[tactic(auto, unfolding(crate::specs::Pause::due_to_signal, crate::specs::Pause::now_running))]
 fn write_pause<W: WriteStr>(
     w: &mut W,
     settings: &Settings,
@@ -58,26 +57,13 @@ fn write_pause<W: WriteStr>(
         setup_scripts: setup_scripts_running,
         tests: running,
     };
-    settings.styles.pass.write_right(w, 12, word)?;
-    write_plain(w, " due to ")?;
-    settings.styles.count.write(w, "signal")?;
-    write_now_running(w, settings, running)?;
-    write_plain(w, "\n")
-}
-
-// Writes how many run, where anything does.
-#[tactic(auto, unfolding(crate::specs::Pause::now_running))]
-fn write_now_running<W: WriteStr>(
-    w: &mut W,
-    settings: &Settings,
-    running: Running,
-) -> Result<(), WriteFault>
-    ensures { Puts W.meaning w.old (paint settings.now.styles (now_running settings.now.mode running)) result w.new }
-{
-    if running.is_none() {
-        return Ok(());
-    }
-    write_plain(w, ": ")?;
-    running.write_to(w, settings.mode, &settings.styles)?;
-    write_plain(w, " running")
+    let styles = &settings.styles;
+    let now = (
+        ": ",
+        ShownRunning(styles, settings.mode, running),
+        " running",
+    );
+    let now = Unless(running.is_none(), now);
+    let cause = (" due to ", Toned(styles.count, "signal"), now, "\n");
+    (Right(12, styles.pass, word), cause).write_to(w)
 }

@@ -1,33 +1,39 @@
 //! The id of a run.
 
 ghost use Rattle.std.specs.Prelude.{◌≡◌, ◌≤◌, length};
-ghost use Rattle.plain_text.specs.Writer.{Puts};
 ghost use Rattle.report_words.specs.Parts.{paint};
 ghost use Rattle.run_text.specs.RunId.{run_id_text, id_text};
 
-use plain_text::style::Styles;
-use plain_text::write_str::{WriteFault, WriteStr};
 use run_model::run_id::ShortestRunIdPrefix;
+use styled_text::style::Styles;
+use styled_text::text::Toned;
 use uuid::Uuid;
+use writers::text::WriteText;
+use writers::write_str::{WriteFault, WriteStr};
 
-/// Writes a run's id, with its unique prefix where that is known.
-#[tactic(auto, unfolding(crate::specs::RunId::id_text))]
-pub fn write_run_id<W: WriteStr>(
-    w: &mut W,
-    styles: &Styles,
-    unique_prefix: &Option<ShortestRunIdPrefix>,
-    run_id: &Uuid,
-) -> Result<(), WriteFault>
-    ensures { Puts W.meaning w.old (paint styles.now (id_text unique_prefix.now run_id.now)) result w.new }
-{
-    match unique_prefix {
-        None => {
-            let mut buffer = Uuid::encode_buffer();
-            styles.count.write(w, run_id_str(run_id, &mut buffer))
-        }
-        Some(known) => {
-            styles.run_id_prefix.write(w, known.prefix())?;
-            styles.run_id_rest.write(w, known.rest())
+/// A run's id, with its unique prefix where that is known.
+#[derive(Clone, Copy)]
+pub struct ShownRunId<'a>(
+    pub &'a Styles,
+    pub &'a Option<ShortestRunIdPrefix>,
+    pub &'a Uuid,
+);
+
+impl WriteText for ShownRunId<'_> {
+    ghost text = { λ r. paint r.0.now (id_text r.1.now r.2.now) };
+
+    #[tactic(auto, unfolding(crate::specs::RunId::id_text))]
+    fn write_to<W: WriteStr>(&self, w: &mut W) -> Result<(), WriteFault> {
+        let ShownRunId(styles, unique_prefix, run_id) = *self;
+        match unique_prefix {
+            None => {
+                let mut buffer = Uuid::encode_buffer();
+                styles.count.write(w, run_id_str(run_id, &mut buffer))
+            }
+            Some(known) => {
+                let prefix = Toned(styles.run_id_prefix, known.prefix());
+                (prefix, Toned(styles.run_id_rest, known.rest())).write_to(w)
+            }
         }
     }
 }

@@ -1,26 +1,26 @@
 //! Setup scripts: that one has started, runs for long or has finished.
 
 ghost use Rattle.std.specs.Prelude.{◌≡◌};
-ghost use Rattle.plain_text.specs.Style.{styled};
-ghost use Rattle.plain_text.specs.Texts.{right_in};
-ghost use Rattle.plain_text.specs.Writer.{Puts};
+ghost use Rattle.styled_text.specs.Names.{styled, right_in, Puts};
 ghost use Rattle.text_parts.specs.Script.{script_of};
 ghost use Rattle.report_words.specs.Parts.{paint, style_of};
-ghost use Rattle.run_text.specs.SetupScript.{HasFailedScriptOutput, failed_script_output, script_counter, script_status_tone, script_status_words, setup_script_finished_text, setup_script_line, setup_script_slow_text, setup_script_started_text, shown_slow_script, slow_script_level, slow_script_words};
+ghost use Rattle.run_text.specs.SetupScript.{HasFailedScriptOutput, failed_script_output, script_counter, script_status_tone, script_status_words, setup_script_finished_text, setup_script_slow_text, setup_script_started_text, slow_script_level, slow_script_words};
 
 use itoa::Buffer;
-use plain_text::numbers::write_right_joined;
-use plain_text::style::{Style, Styles, write_plain};
-use plain_text::write_str::{WriteFault, WriteStr};
 use run_model::level::StatusLevel;
 use run_model::output::LiveSpec;
 use run_model::status::{ExecutionResultDescription, LeakTimeoutResult, SetupScriptExecuteStatus};
 use run_model::time::Nanos;
+use styled_text::numbers::write_right_joined;
+use styled_text::style::{Style, Styles};
+use styled_text::text::Right;
 use text_parts::attempt_output::write_setup_script_execute_status;
 use text_parts::result_words::spaced_short_status_str;
-use text_parts::script::ScriptInstance;
+use text_parts::script::{ScriptInstance, ShownScript};
 use text_parts::settings::Settings;
 use unit_report::formatters::{DisplayBracketedDuration, DisplaySlowDuration};
+use writers::text::{When, WriteText};
+use writers::write_str::{WriteFault, WriteStr};
 
 /// Writes that a setup script has started. `index` is its place among all, from 0.
 #[tactic(auto, unfolding(crate::specs::SetupScript::setup_script_started_text))]
@@ -33,32 +33,31 @@ pub fn write_setup_script_started<W: WriteStr>(
 ) -> Result<(), WriteFault>
     ensures { Puts W.meaning w.old (paint styles.now (setup_script_started_text index total (script_of script.entry))) result w.new }
 {
-    styles.pass.write_right(w, 12, "SETUP")?;
-    write_plain(w, " ")?;
-    write_script_counter(w, index, total)?;
-    script.write_to(w, styles)?;
-    write_plain(w, "\n")
+    let counter = ScriptCounter(index, total);
+    let word = Right(12, styles.pass, "SETUP");
+    (word, " ", counter, ShownScript(styles, &script), "\n").write_to(w)
 }
 
-// Writes which of the scripts it is, from 1. That number may be above the greatest of its type.
-#[tactic(auto, unfolding(crate::specs::SetupScript::script_counter))]
-fn write_script_counter<W: WriteStr>(
-    w: &mut W,
-    index: usize,
-    total: usize,
-) -> Result<(), WriteFault>
-    ensures { Puts W.meaning w.old (script_counter index total) result w.new }
-{
-    let mut number = Buffer::new();
-    let mut count = Buffer::new();
-    let number = number.format(index as u128 + 1);
-    write_plain(w, "[")?;
-    write_right_joined(w, 9, "", number, "/", count.format(total))?;
-    write_plain(w, "] ")
+// Which of the scripts it is, from 1. That number may be above the greatest of its type.
+#[derive(Clone, Copy)]
+struct ScriptCounter(usize, usize);
+
+impl WriteText for ScriptCounter {
+    ghost text = { λ c. script_counter c.0 c.1 };
+
+    #[tactic(auto, unfolding(crate::specs::SetupScript::script_counter))]
+    fn write_to<W: WriteStr>(&self, w: &mut W) -> Result<(), WriteFault> {
+        let mut number = Buffer::new();
+        let mut count = Buffer::new();
+        let number = number.format(self.0 as u128 + 1);
+        "[".write_to(w)?;
+        write_right_joined(w, 9, "", number, "/", count.format(self.1))?;
+        "] ".write_to(w)
+    }
 }
 
-/// Writes that a setup script has run for so long, where its level is shown.
-#[tactic(auto, unfolding(crate::specs::SetupScript::setup_script_slow_text))]
+/// Writes that a setup script has run for long, where its level is shown.
+#[tactic(auto, unfolding(crate::specs::SetupScript::setup_script_slow_text, crate::specs::SetupScript::shown_slow_script))]
 pub fn write_setup_script_slow<W: WriteStr>(
     w: &mut W,
     settings: &Settings,
@@ -68,11 +67,19 @@ pub fn write_setup_script_slow<W: WriteStr>(
 ) -> Result<(), WriteFault>
     ensures { Puts W.meaning w.old (paint settings.now.styles (setup_script_slow_text settings.now (script_of script.entry) elapsed.0 will_terminate)) result w.new }
 {
-    if settings.is_level_shown(slow_script_level(will_terminate)) {
-        write_shown_slow_script(w, &settings.styles, script, elapsed, will_terminate)
-    } else {
-        Ok(())
-    }
+    let styles = &settings.styles;
+    let line = (
+        SlowScriptWord(styles, will_terminate),
+        " ",
+        DisplaySlowDuration(elapsed),
+        ShownScript(styles, &script),
+        "\n",
+    );
+    When(
+        settings.is_level_shown(slow_script_level(will_terminate)),
+        line,
+    )
+    .write_to(w)
 }
 
 // The level from which on a slow script is told of.
@@ -86,43 +93,26 @@ fn slow_script_level(will_terminate: bool) -> StatusLevel
     }
 }
 
-// Writes that a setup script has run for so long.
-#[tactic(auto, unfolding(crate::specs::SetupScript::shown_slow_script))]
-fn write_shown_slow_script<W: WriteStr>(
-    w: &mut W,
-    styles: &Styles,
-    script: ScriptInstance<'_>,
-    elapsed: Nanos,
-    will_terminate: bool,
-) -> Result<(), WriteFault>
-    ensures { Puts W.meaning w.old (paint styles.now (shown_slow_script (script_of script.entry) elapsed.0 will_terminate)) result w.new }
-{
-    write_slow_script_words(w, styles, will_terminate)?;
-    write_plain(w, " ")?;
-    DisplaySlowDuration(elapsed).write_to(w)?;
-    script.write_to(w, styles)?;
-    write_plain(w, "\n")
-}
+// That it is slow, or is ended for it.
+#[derive(Clone, Copy)]
+struct SlowScriptWord<'a>(&'a Styles, bool);
 
-// Writes that it is slow, or is ended for it.
-#[tactic(auto, unfolding(crate::specs::SetupScript::slow_script_words))]
-fn write_slow_script_words<W: WriteStr>(
-    w: &mut W,
-    styles: &Styles,
-    will_terminate: bool,
-) -> Result<(), WriteFault>
-    ensures { Puts W.meaning w.old (paint styles.now (slow_script_words will_terminate)) result w.new }
-{
-    if will_terminate {
-        styles.fail.write_right(w, 12, "TERMINATING")
-    } else {
-        styles.skip.write_right(w, 12, "SETUP SLOW")
+impl WriteText for SlowScriptWord<'_> {
+    ghost text = { λ s. paint s.0.now (slow_script_words s.1) };
+
+    #[tactic(auto, unfolding(crate::specs::SetupScript::slow_script_words))]
+    fn write_to<W: WriteStr>(&self, w: &mut W) -> Result<(), WriteFault> {
+        if self.1 {
+            self.0.fail.write_right(w, 12, "TERMINATING")
+        } else {
+            self.0.skip.write_right(w, 12, "SETUP SLOW")
+        }
     }
 }
 
 /// Writes that a setup script has finished, and what it wrote unless it succeeded. What is shown must not have been left
 /// unread.
-#[tactic(auto, unfolding(crate::specs::SetupScript::setup_script_finished_text))]
+#[tactic(auto, unfolding(crate::specs::SetupScript::setup_script_finished_text, crate::specs::SetupScript::setup_script_line))]
 pub fn write_setup_script_finished<W: WriteStr>(
     w: &mut W,
     settings: &Settings,
@@ -132,42 +122,32 @@ pub fn write_setup_script_finished<W: WriteStr>(
     requires { HasFailedScriptOutput run_status.now }
     ensures { Puts W.meaning w.old (paint settings.now.styles (setup_script_finished_text settings.now (script_of script.entry) run_status.now)) result w.new }
 {
-    let (outcome, time_taken) = (&run_status.result, run_status.time_taken);
-    write_setup_script_line(w, &settings.styles, script, outcome, time_taken)?;
+    let styles = &settings.styles;
+    let line = (
+        ScriptStatus(styles, &run_status.result),
+        " ",
+        DisplayBracketedDuration(run_status.time_taken),
+        ShownScript(styles, &script),
+        "\n",
+    );
+    line.write_to(w)?;
     write_failed_script_output(w, settings, run_status)
 }
 
-// Writes the line of a setup script that ended so.
-#[tactic(auto, unfolding(crate::specs::SetupScript::setup_script_line))]
-fn write_setup_script_line<W: WriteStr>(
-    w: &mut W,
-    styles: &Styles,
-    script: ScriptInstance<'_>,
-    outcome: &ExecutionResultDescription,
-    time_taken: Nanos,
-) -> Result<(), WriteFault>
-    ensures { Puts W.meaning w.old (paint styles.now (setup_script_line (script_of script.entry) outcome.now time_taken.0)) result w.new }
-{
-    write_script_status(w, styles, outcome)?;
-    write_plain(w, " ")?;
-    DisplayBracketedDuration(time_taken).write_to(w)?;
-    script.write_to(w, styles)?;
-    write_plain(w, "\n")
-}
+// How a setup script ended, right in twelve columns.
+#[derive(Clone, Copy)]
+struct ScriptStatus<'a>(&'a Styles, &'a ExecutionResultDescription);
 
-// Writes how a setup script ended, right in twelve columns.
-fn write_script_status<W: WriteStr>(
-    w: &mut W,
-    styles: &Styles,
-    outcome: &ExecutionResultDescription,
-) -> Result<(), WriteFault>
-    ensures { Puts W.meaning w.old (styled (style_of styles.now (script_status_tone outcome.now)) (right_in 12 (script_status_words outcome.now))) result w.new }
-{
-    let mut signal = Buffer::new();
-    let word = spaced_short_status_str(outcome, &mut signal);
-    script_status_style(styles, outcome).write_right_joined(
-        w, 12, "", "SETUP", word.front, word.back,
-    )
+impl WriteText for ScriptStatus<'_> {
+    ghost text = { λ s. styled (style_of s.0.now (script_status_tone s.1.now)) (right_in 12 (script_status_words s.1.now)) };
+
+    fn write_to<W: WriteStr>(&self, w: &mut W) -> Result<(), WriteFault> {
+        let ScriptStatus(styles, outcome) = *self;
+        let mut signal = Buffer::new();
+        let word = spaced_short_status_str(outcome, &mut signal);
+        let style = script_status_style(styles, outcome);
+        style.write_right_joined(w, 12, "", "SETUP", word.front, word.back)
+    }
 }
 
 // The style of that. A timeout that counts as a success has that of a failure.

@@ -3,17 +3,16 @@
 
 ghost use Rattle.std.specs.Fd.{file_raw_fd};
 ghost use Rattle.std.specs.Prelude.{◌≡◌, ◌⊎◌, ◌↔◌, ◌≤ℤ◌, ◌<ℤ◌, pos, IfErr, IfOk, IsTrue};
-ghost use Rattle.command_line.specs.Faults.{status_of};
-ghost use Rattle.command_line.specs.declared.fault.Fault.{Fault};
+ghost use Rattle.scenes.specs.Names.{status_of, Fault};
 
 use command_line::fault::{Fault, FaultLine, Program};
-use plain_text::write_str::RetryInterrupted;
 use std::fmt::Display;
 use std::fs::{File, Metadata};
 use std::io::{ErrorKind, Write};
 use std::os::fd::AsRawFd;
 use std::os::unix::fs::MetadataExt;
 use std::{env, fs, mem};
+use writers::write_str::RetryInterrupted;
 
 // The last of the descriptors that every process is given: input, output and error.
 const STANDARD_ERROR: i32 = 2;

@@ -1,12 +1,9 @@
 //! The events of a scene, each made a call of the reporter: what each program does with the lines that were read.
 
 ghost use Rattle.std.specs.Prelude.{◌≡◌, ◌++◌, List, [], IfOk, IfErr, OnOk};
-ghost use Rattle.console_reporter.specs.HeldState.{HasFailed};
-ghost use Rattle.console_reporter.specs.OptionalStore.{config_of, store_delivered};
-ghost use Rattle.console_reporter.specs.Telling.{IsSameReporter};
+ghost use Rattle.console_reporter.specs.Names.{HasFailed, config_of, store_delivered, IsSameReporter};
 ghost use Rattle.scene_events.specs.Scenes.{IsCallOf, PushesCallOf};
-ghost use Rattle.scenes.specs.Reports.{builder_for, store_for, IsReadyCall};
-ghost use Rattle.scenes.specs.SceneReporter.{Follows, StopsAtEvent, writers};
+ghost use Rattle.scenes.specs.Names.{builder_for, store_for, IsReadyCall, Follows, StopsAtEvent, writers};
 
 use crate::outcome::RunOutcome;
 use crate::reporter::{fault_at_call, surroundings_of};

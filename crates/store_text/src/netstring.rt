@@ -1,11 +1,11 @@
 //! Netstrings: a text after the number of its bytes, so that it may hold any byte.
 
 ghost use Rattle.std.specs.Prelude.{◌++◌};
-ghost use Rattle.plain_text.specs.Writer.{Puts};
+ghost use Rattle.writers.specs.Writer.{Puts};
 ghost use Rattle.store_text.specs.Netstring.{netstring};
 
 use itoa::Buffer;
-use plain_text::write_str::{WriteFault, WriteStr, write_strs};
+use writers::write_str::{WriteFault, WriteStr, write_strs};
 
 /// Writes a text as a netstring: the number of its bytes in decimal, a colon, the text, and a comma. It allocates nothing.
 ///

@@ -1,7 +1,7 @@
 //! The record of a finished test.
 
 ghost use Rattle.text_parts.specs.ResultWords.{short_word};
-ghost use Rattle.plain_text.specs.Writer.{Puts};
+ghost use Rattle.writers.specs.Writer.{Puts};
 ghost use Rattle.store_text.specs.Netstring.{netstring};
 ghost use Rattle.store_text.specs.Record.{record_text};
 
@@ -9,11 +9,11 @@ use crate::config::StoreConfig;
 use crate::netstring::{write_joined_netstring, write_netstring};
 use crate::stored_output::write_stored_output;
 use itoa::Buffer;
-use plain_text::write_str::{WriteFault, WriteStr};
 use run_model::name::TestInstanceId;
 use run_model::output::LiveSpec;
 use run_model::status::{ExecutionResultDescription, ExecutionStatuses};
 use text_parts::result_words::short_status_str;
+use writers::write_str::{WriteFault, WriteStr};
 
 /// Writes the record of a finished test: its binary's id, its name, the short word of its last result, and its output
 /// if the store keeps it, each as a netstring, and a line feed. It allocates nothing.

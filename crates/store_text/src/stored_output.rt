@@ -1,17 +1,17 @@
 //! The output that a store keeps: the decoded text, with its escape sequences.
 
 ghost use Rattle.std.specs.Prelude.{◌≡◌, ◌++◌};
-ghost use Rattle.plain_text.specs.Writer.{Puts};
+ghost use Rattle.writers.specs.Writer.{Puts};
 ghost use Rattle.store_text.specs.Netstring.{netstring};
 ghost use Rattle.store_text.specs.StoredOutput.{captured_text, stored_output, stored_stream, written_text};
 
 use crate::config::StoreConfig;
 use crate::netstring::write_joined_netstring;
-use plain_text::write_str::{WriteFault, WriteStr};
 use run_model::output::{
     ChildExecutionOutputDescription, ChildOutputDescription, ChildSingleOutput, LiveSpec,
 };
 use run_model::status::ExecutionStatuses;
+use writers::write_str::{WriteFault, WriteStr};
 
 /// Writes the output that the store keeps of a test as a netstring: that of the last attempt, if the store keeps it, standard
 /// output and then standard error, or both streams as they came. It allocates nothing.

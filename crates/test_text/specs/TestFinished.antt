@@ -1,24 +1,10 @@
 -- A finished test, and its text.
 use Rattle.std.specs.Prelude.{◌≡◌, ℕ, true, false, Option}
-use Rattle.run_model.specs.Attempts.{Attempts}
-use Rattle.run_model.specs.Outputs.{has_loaded_output}
-use Rattle.run_model.specs.Statuses.{described_last, described_summary, summary_of}
-use Rattle.run_names.specs.declared.config.TestOutputDisplay.{TestOutputDisplay}
-use Rattle.run_names.specs.declared.name.TestInstanceId.{TestInstanceId}
-use Rattle.run_model.specs.declared.output.ChildOutputDescription.{ChildOutputDescription}
-use Rattle.run_model.specs.declared.output.LiveSpec.{LiveSpec}
-use Rattle.run_model.specs.declared.stats.RunStats.{RunStats}
-use Rattle.run_model.specs.declared.status.ExecuteStatus.{ExecuteStatus}
-use Rattle.run_model.specs.declared.status.StatusSummary.{StatusSummary}
-use Rattle.run_names.specs.declared.stress.StressIndex.{StressIndex}
-use Rattle.text_parts.specs.Finish.{display_of, output_timing, is_ever_shown, is_line_shown, timed_at_once}
-use Rattle.text_parts.specs.Settings.{finished_counter}
+use Rattle.run_model.specs.Names.{Attempts, has_loaded_output, described_last, described_summary, summary_of, TestOutputDisplay, TestInstanceId, ChildOutputDescription, LiveSpec, RunStats}
+use Rattle.run_model.specs.Names.{ExecuteStatus, StatusSummary, StressIndex}
+use Rattle.text_parts.specs.Names.{display_of, output_timing, is_ever_shown, is_line_shown, timed_at_once, finished_counter, attempt_output, OutputTiming, CountedInstance, Settings}
 use Rattle.report_words.specs.Parts.{Parts, Lines, none, ◌⧺◌, choice}
-use Rattle.text_parts.specs.AttemptOutput.{attempt_output}
 use Rattle.test_text.specs.StatusLine.{status_line}
-use Rattle.text_parts.specs.declared.finish.OutputTiming.{OutputTiming}
-use Rattle.text_parts.specs.declared.instance.CountedInstance.{CountedInstance}
-use Rattle.text_parts.specs.declared.settings.Settings.{Settings}
 use Rattle.test_text.specs.declared.status_line.StatusLineKind.TheVariants.{Intermediate}
 use Rattle.test_text.specs.declared.test_finished.FinishedTest.{FinishedTest}
 

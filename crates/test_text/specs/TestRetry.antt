@@ -1,27 +1,13 @@
 -- An attempt that failed where another one follows.
 use Rattle.std.specs.Prelude.{◌≡◌, ℕ, ◌+◌, Bool, true, false, Option, ◌++◌, ◌==◌, codes, unwrap_or}
-use Rattle.std.specs.Fmt.{decimal}
-use Rattle.run_model.specs.Attempts.{Attempt}
-use Rattle.run_names.specs.Displays.{is_immediate}
-use Rattle.run_model.specs.Outputs.{has_loaded_output}
-use Rattle.run_names.specs.declared.config.TestOutputDisplay.{TestOutputDisplay}
+use Rattle.styled_text.specs.Names.{decimal, Text, HasNoEscape}
+use Rattle.run_model.specs.Names.{Attempt, is_immediate, has_loaded_output, TestOutputDisplay, TestInstanceId, RetryData, StressIndex}
 use Rattle.run_names.specs.declared.level.StatusLevel.TheVariants as status
-use Rattle.run_names.specs.declared.name.TestInstanceId.{TestInstanceId}
-use Rattle.run_model.specs.declared.status.RetryData.{RetryData}
-use Rattle.run_names.specs.declared.stress.StressIndex.{StressIndex}
-use Rattle.plain_text.specs.Texts.{Text}
-use Rattle.plain_text.specs.Escapes.{HasNoEscape}
-use Rattle.plain_text.proofs.lemmas.Closed.{decimal_free}
-use Rattle.plain_text.proofs.lemmas.Widths.{free_both}
+use Rattle.styled_text.proofs.lemmas.Closed.{decimal_free}
+use Rattle.styled_text.proofs.lemmas.Widths.{free_both}
 use Rattle.report_words.specs.Parts.{Parts, Line, Lines, Retry, none, words, Right, given_right, ◌⧺◌, choice}
-use Rattle.text_parts.specs.Instance.{instance_end, padded_instance}
-use Rattle.text_parts.specs.ResultWords.{short_word}
-use Rattle.text_parts.specs.Settings.{is_level_shown}
-use Rattle.unit_report.specs.Durations.{bracketed, by_delay}
-use Rattle.text_parts.specs.AttemptOutput.{attempt_output}
+use Rattle.text_parts.specs.Names.{instance_end, padded_instance, short_word, is_level_shown, bracketed, by_delay, attempt_output, CountedInstance, Settings}
 use Rattle.test_text.specs.StatusLine.{attempt_words}
-use Rattle.text_parts.specs.declared.instance.CountedInstance.{CountedInstance}
-use Rattle.text_parts.specs.declared.settings.Settings.{Settings}
 
 -- its line
 unfoldable pub attempt_failed_line : CountedInstance → Attempt → Parts false Line

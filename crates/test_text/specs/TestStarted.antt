@@ -1,17 +1,10 @@
 -- A test that starts, and another attempt of one.
 use Rattle.std.specs.Prelude.{ℕ, false, List, Option, codes, refl}
-use Rattle.run_names.specs.declared.name.TestInstanceId.{TestInstanceId}
-use Rattle.run_model.specs.declared.stats.RunStats.{RunStats}
-use Rattle.run_model.specs.declared.status.RetryData.{RetryData}
-use Rattle.run_names.specs.declared.stress.StressIndex.{StressIndex}
-use Rattle.report_text.specs.Quoting.{shell_words}
-use Rattle.plain_text.specs.Texts.{Text}
+use Rattle.run_model.specs.Names.{TestInstanceId, RunStats, RetryData, StressIndex}
+use Rattle.text_parts.specs.Names.{shell_words, padded_instance, untimed_end, shows_starts, started_counter, CountedInstance, Settings}
+use Rattle.styled_text.specs.Texts.{Text}
 use Rattle.report_words.specs.Parts.{Parts, Lines, Count, Pass, Retry, none, words, right, Right, ◌⧺◌, choice, drawn_given}
-use Rattle.text_parts.specs.Instance.{padded_instance, untimed_end}
-use Rattle.text_parts.specs.Settings.{shows_starts, started_counter}
 use Rattle.test_text.specs.StatusLine.{attempt_words, free-attempt_words}
-use Rattle.text_parts.specs.declared.instance.CountedInstance.{CountedInstance}
-use Rattle.text_parts.specs.declared.settings.Settings.{Settings}
 
 -- a test that starts, with the counter that it will have if it is the next to finish
 abbrev pub started_instance : Settings → Option StressIndex → TestInstanceId → RunStats → CountedInstance

@@ -4,6 +4,7 @@
 //! belongs to. `status_line` is the line of a finished test.
 #![tactic(auto)]
 
+mod attempt;
 pub mod status_line;
 pub mod test_finished;
 pub mod test_retry;

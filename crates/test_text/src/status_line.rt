@@ -1,18 +1,13 @@
 //! The line of a finished test, as it is shown at once and in the summary.
 
 ghost use Rattle.std.specs.Prelude.{◌≡◌, ◌++◌, IfOk, IsOk, codes, false};
-ghost use Rattle.std.specs.Bool.{OnTrue};
+ghost use Rattle.styled_text.specs.Names.{OnTrue, Puts, plain, styled, right_in};
 ghost use Rattle.run_model.specs.Statuses.{described_summary, is_aborted};
-ghost use Rattle.plain_text.specs.Writer.{Puts};
-ghost use Rattle.plain_text.specs.Style.{plain, styled};
-ghost use Rattle.plain_text.specs.Texts.{right_in};
 ghost use Rattle.text_parts.specs.ResultWords.{long_failure_word, long_word};
 ghost use Rattle.report_words.specs.Parts.{paint, style_of};
 ghost use Rattle.test_text.specs.StatusLine.{is_final_line, shown_summary, flaky_tone, flaky_words, failure_words, success_text, is_flaky_failure, status_prefix, flaky_note, flaky_failure_line, status_line};
 
 use itoa::Buffer;
-use plain_text::style::{Style, Styles, write_plain};
-use plain_text::write_str::{WriteFault, WriteStr};
 use run_model::memory::OutOfMemory;
 use run_model::output::OutputSpec;
 use run_model::status::{
@@ -21,12 +16,15 @@ use run_model::status::{
 };
 use run_model::time::Nanos;
 use std::alloc::Global;
+use styled_text::style::{Style, Styles, write_plain};
 use text_parts::abort_line::write_abort_line;
 use text_parts::instance::{CountedInstance, write_instance};
 use text_parts::result_words::{
     is_plain_success, spaced_short_status_str, status_str, success_str,
 };
 use unit_report::formatters::DisplayBracketedDuration;
+use writers::text::WriteText;
+use writers::write_str::{WriteFault, WriteStr};
 
 /// Where the line of a finished test stands.
 #[derive(Clone, Copy, Debug, PartialEq, Eq)]
@@ -192,7 +190,7 @@ fn write_success_word<W: WriteStr>(
 
 // Writes a word that stands in its columns, and a space. Without colour they are one text.
 #[inline(always)]
-#[tactic(auto, unfolding(plain_text::specs::Style::styled, plain_text::specs::Style::plain))]
+#[tactic(auto, unfolding(styled_text::specs::Style::styled, styled_text::specs::Style::plain))]
 fn write_word<W: WriteStr>(
     w: &mut W,
     style: Style,

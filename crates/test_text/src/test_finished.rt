@@ -2,12 +2,11 @@
 
 ghost use Rattle.std.specs.Prelude.{◌≡◌};
 ghost use Rattle.run_names.specs.Levels.{reason_rank};
-ghost use Rattle.plain_text.specs.Writer.{Puts};
+ghost use Rattle.writers.specs.Writer.{Puts};
 ghost use Rattle.report_words.specs.Parts.{paint};
 ghost use Rattle.test_text.specs.TestFinished.{HasShownOutput, finish_of, line_at_once, output_at_once, test_finish, test_finished_text};
 
 use crate::status_line::{StatusLine, StatusLineKind, write_status_line};
-use plain_text::write_str::{WriteFault, WriteStr};
 use run_model::config::TestOutputDisplay;
 use run_model::level::CancelReason;
 use run_model::name::TestInstanceId;
@@ -19,6 +18,7 @@ use text_parts::attempt_output::write_test_execute_status;
 use text_parts::finish::OutputTiming;
 use text_parts::instance::CountedInstance;
 use text_parts::settings::Settings;
+use writers::write_str::{WriteFault, WriteStr};
 
 /// A finished test, as its line, its output and its entry are made of it.
 #[derive(Clone, Copy)]

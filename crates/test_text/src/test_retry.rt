@@ -1,19 +1,14 @@
 //! An attempt that failed where another one follows.
 
 ghost use Rattle.std.specs.Prelude.{◌≡◌, true};
-ghost use Rattle.plain_text.specs.Style.{styled};
-ghost use Rattle.plain_text.specs.Texts.{right_in};
-ghost use Rattle.plain_text.specs.Writer.{Puts};
+ghost use Rattle.styled_text.specs.Names.{styled, right_in, Puts};
 ghost use Rattle.report_words.specs.Parts.{paint};
-ghost use Rattle.test_text.specs.TestRetry.{HasFailedAttemptOutput, attempt_failed_line, attempt_failed_text, delay_line, delay_words, failed_output, is_failed_output_shown};
-ghost use Rattle.text_parts.specs.Settings.{is_level_shown};
+ghost use Rattle.test_text.specs.TestRetry.{HasFailedAttemptOutput, attempt_failed_text, delay_words, failed_output, is_failed_output_shown};
+ghost use Rattle.text_parts.specs.Names.{is_level_shown, short_word};
 ghost use Rattle.test_text.specs.StatusLine.{attempt_words};
 ghost use Rattle.run_names.specs.declared.level.StatusLevel.TheVariants.{Retry};
-ghost use Rattle.text_parts.specs.ResultWords.{short_word};
 
 use itoa::Buffer;
-use plain_text::style::{Style, Styles, write_plain};
-use plain_text::write_str::{WriteFault, WriteStr};
 use run_model::config::TestOutputDisplay;
 use run_model::level::StatusLevel;
 use run_model::name::TestInstanceId;
@@ -21,11 +16,14 @@ use run_model::output::LiveSpec;
 use run_model::status::{ExecuteStatus, ExecutionResultDescription, RetryData};
 use run_model::stress::StressIndex;
 use run_model::time::Nanos;
+use styled_text::style::Style;
 use text_parts::attempt_output::write_test_execute_status;
-use text_parts::instance::{CountedInstance, write_instance_end};
+use text_parts::instance::InstanceEnd;
 use text_parts::result_words::spaced_short_status_str;
 use text_parts::settings::Settings;
 use unit_report::formatters::{DisplayBracketedDuration, DisplayDurationBy};
+use writers::text::{Unless, WriteText};
+use writers::write_str::{WriteFault, WriteStr};
 
 /// Writes that an attempt has failed and another one follows, where such attempts are shown: its line, its output where
 /// that is shown at once, and how long the next attempt waits. Output that is shown must not have been left unread.
@@ -36,7 +34,7 @@ use unit_report::formatters::{DisplayBracketedDuration, DisplayDurationBy};
 /// write_attempt_failed(&mut out, &settings, None, test.as_ref(), &attempt, delay, display)?;
 /// assert_eq!(out.as_str(), "  TRY 1 FAIL [   0.500s] alpha t1\n   DELAY 2/3 by   1.000s alpha t1\n");
 /// ```
-#[tactic(auto, unfolding(crate::specs::TestRetry::attempt_failed_text))]
+#[tactic(auto, unfolding(crate::specs::TestRetry::attempt_failed_text, crate::specs::TestRetry::attempt_failed_line, crate::specs::TestRetry::delay_line))]
 pub fn write_attempt_failed<W: WriteStr>(
     w: &mut W,
     settings: &Settings,
@@ -53,51 +51,40 @@ pub fn write_attempt_failed<W: WriteStr>(
         return Ok(());
     }
     let test = settings.padded_instance(stress_index, instance);
-    write_attempt_failed_line(w, &settings.styles, test, run_status)?;
+    let styles = &settings.styles;
+    let end = InstanceEnd(styles, &test);
+    let retry_data = run_status.retry_data;
+    let line = (
+        AttemptWord(styles.retry, retry_data.attempt, &run_status.result),
+        " ",
+        DisplayBracketedDuration(run_status.time_taken),
+        end,
+    );
+    line.write_to(w)?;
     write_failed_output(w, settings, run_status, failure_output)?;
-    write_delay_line(
-        w,
-        &settings.styles,
-        test,
-        run_status.retry_data,
-        delay_before_next_attempt,
-    )
+    let delay = (
+        DelayWord(styles.retry, retry_data),
+        " ",
+        DisplayDurationBy(delay_before_next_attempt),
+        end,
+    );
+    Unless(delay_before_next_attempt.0 == 0, delay).write_to(w)
 }
 
-// Writes the line of an attempt that failed.
-#[tactic(auto, unfolding(crate::specs::TestRetry::attempt_failed_line))]
-fn write_attempt_failed_line<W: WriteStr>(
-    w: &mut W,
-    styles: &Styles,
-    test: CountedInstance<'_>,
-    run_status: &ExecuteStatus<LiveSpec>,
-) -> Result<(), WriteFault>
-    ensures { Puts W.meaning w.old (paint styles.now (attempt_failed_line test.entry run_status.now)) result w.new }
-{
-    write_attempt_word(
-        w,
-        styles.retry,
-        run_status.retry_data.attempt,
-        &run_status.result,
-    )?;
-    write_plain(w, " ")?;
-    DisplayBracketedDuration(run_status.time_taken).write_to(w)?;
-    write_instance_end(w, styles, &test)
-}
+// How an attempt ended, after its number.
+#[derive(Clone, Copy)]
+struct AttemptWord<'a>(Style, u32, &'a ExecutionResultDescription);
 
-// Writes how an attempt ended, after its number.
-fn write_attempt_word<W: WriteStr>(
-    w: &mut W,
-    style: Style,
-    attempt: u32,
-    failed: &ExecutionResultDescription,
-) -> Result<(), WriteFault>
-    ensures { Puts W.meaning w.old (styled style (right_in 12 (attempt_words attempt (short_word failed.now)))) result w.new }
-{
-    let mut signal = Buffer::new();
-    let word = spaced_short_status_str(failed, &mut signal);
-    let mut number = Buffer::new();
-    style.write_right_joined(w, 12, "TRY ", number.format(attempt), word.front, word.back)
+impl WriteText for AttemptWord<'_> {
+    ghost text = { λ a. styled a.0 (right_in 12 (attempt_words a.1 (short_word a.2.now))) };
+
+    fn write_to<W: WriteStr>(&self, w: &mut W) -> Result<(), WriteFault> {
+        let AttemptWord(style, attempt, failed) = *self;
+        let mut signal = Buffer::new();
+        let word = spaced_short_status_str(failed, &mut signal);
+        let mut number = Buffer::new();
+        style.write_right_joined(w, 12, "TRY ", number.format(attempt), word.front, word.back)
+    }
 }
 
 // Writes the output of an attempt that failed, where that is shown at once.
@@ -130,37 +117,19 @@ fn shows_failed_output(settings: &Settings, failure_output: TestOutputDisplay) -
         .is_immediate()
 }
 
-// Writes how long the next attempt waits, where it does.
-#[tactic(auto, unfolding(crate::specs::TestRetry::delay_line))]
-fn write_delay_line<W: WriteStr>(
-    w: &mut W,
-    styles: &Styles,
-    test: CountedInstance<'_>,
-    retry_data: RetryData,
-    delay: Nanos,
-) -> Result<(), WriteFault>
-    ensures { Puts W.meaning w.old (paint styles.now (delay_line test.entry retry_data delay.0)) result w.new }
-{
-    if delay.0 == 0 {
-        return Ok(());
-    }
-    write_delay_word(w, styles.retry, retry_data)?;
-    write_plain(w, " ")?;
-    DisplayDurationBy(delay).write_to(w)?;
-    write_instance_end(w, styles, &test)
-}
+// The number of the next attempt.
+#[derive(Clone, Copy)]
+struct DelayWord(Style, RetryData);
 
-// Writes the number of the next attempt.
-fn write_delay_word<W: WriteStr>(
-    w: &mut W,
-    style: Style,
-    retry_data: RetryData,
-) -> Result<(), WriteFault>
-    ensures { Puts W.meaning w.old (styled style (right_in 12 (delay_words retry_data))) result w.new }
-{
-    let mut next = Buffer::new();
-    let mut total = Buffer::new();
-    let next = next.format(retry_data.attempt as u64 + 1);
-    let total = total.format(retry_data.total_attempts);
-    style.write_right_joined(w, 12, "DELAY ", next, "/", total)
+impl WriteText for DelayWord {
+    ghost text = { λ d. styled d.0 (right_in 12 (delay_words d.1)) };
+
+    fn write_to<W: WriteStr>(&self, w: &mut W) -> Result<(), WriteFault> {
+        let DelayWord(style, retry_data) = *self;
+        let mut next = Buffer::new();
+        let mut total = Buffer::new();
+        let next = next.format(retry_data.attempt as u64 + 1);
+        let total = total.format(retry_data.total_attempts);
+        style.write_right_joined(w, 12, "DELAY ", next, "/", total)
+    }
 }

@@ -1,15 +1,16 @@
 //! A test that is not run.
 
-ghost use Rattle.plain_text.specs.Writer.{Puts};
+ghost use Rattle.writers.specs.Writer.{Puts};
 ghost use Rattle.report_words.specs.Parts.{paint};
 ghost use Rattle.test_text.specs.TestSkipped.{skip_line, test_skipped_text};
 
-use plain_text::write_str::{WriteFault, WriteStr};
 use run_model::level::StatusLevel;
 use run_model::name::TestInstanceId;
 use run_model::stress::StressIndex;
-use text_parts::instance::{CountedInstance, write_untimed_end};
+use text_parts::instance::{CountedInstance, UntimedEnd};
 use text_parts::settings::Settings;
+use writers::text::WriteText;
+use writers::write_str::{WriteFault, WriteStr};
 
 /// Writes that a test is not run, where skipped tests are shown.
 #[tactic(auto, unfolding(crate::specs::TestSkipped::test_skipped_text))]
@@ -43,5 +44,5 @@ pub fn write_skip_line<W: WriteStr>(
     ensures { Puts W.meaning w.old (paint settings.now.styles (skip_line test.entry)) result w.new }
 {
     settings.styles.skip.write_right(w, 12, "SKIP")?;
-    write_untimed_end(w, &settings.styles, &test)
+    UntimedEnd(&settings.styles, &test).write_to(w)
 }

@@ -1,23 +1,22 @@
 //! A test that runs longer than it should.
 
 ghost use Rattle.std.specs.Prelude.{◌≡◌};
-ghost use Rattle.plain_text.specs.Style.{styled};
-ghost use Rattle.plain_text.specs.Texts.{right_in};
-ghost use Rattle.plain_text.specs.Writer.{Puts};
+ghost use Rattle.styled_text.specs.Names.{styled, right_in, Puts};
 ghost use Rattle.report_words.specs.Parts.{paint, style_of};
-ghost use Rattle.test_text.specs.TestSlow.{has_number, is_last_attempt, is_level_exceeded, slow_end, slow_text, slow_word, terminating_level, terminating_text, terminating_tone, terminating_word, test_slow_text};
+ghost use Rattle.test_text.specs.TestSlow.{has_number, is_last_attempt, is_level_exceeded, slow_word, terminating_level, terminating_tone, terminating_word, test_slow_text};
 
-use itoa::Buffer;
-use plain_text::style::{Style, Styles, write_plain};
-use plain_text::write_str::{WriteFault, WriteStr};
+use crate::attempt::Try;
 use run_model::level::StatusLevel;
 use run_model::name::TestInstanceId;
 use run_model::status::RetryData;
 use run_model::stress::StressIndex;
 use run_model::time::Nanos;
-use text_parts::instance::{CountedInstance, write_instance_end};
+use styled_text::style::{Style, Styles};
+use text_parts::instance::InstanceEnd;
 use text_parts::settings::Settings;
 use unit_report::formatters::DisplaySlowDuration;
+use writers::text::{When, WriteText};
+use writers::write_str::{WriteFault, WriteStr};
 
 /// Writes that an attempt of a test is slow, or that it is ended for that, where its level is shown.
 ///
@@ -25,7 +24,7 @@ use unit_report::formatters::DisplaySlowDuration;
 /// write_test_slow(&mut out, &settings, None, test.as_ref(), RetryData::only(), Nanos::from_secs(60), false)?;
 /// assert_eq!(out.as_str(), "        SLOW [> 60.000s] alpha t1\n");
 /// ```
-#[tactic(auto, unfolding(crate::specs::TestSlow::test_slow_text))]
+#[tactic(auto, unfolding(crate::specs::TestSlow::test_slow_text, crate::specs::TestSlow::slow_text, crate::specs::TestSlow::terminating_text, crate::specs::TestSlow::slow_end))]
 pub fn write_test_slow<W: WriteStr>(
     w: &mut W,
     settings: &Settings,
@@ -38,94 +37,56 @@ pub fn write_test_slow<W: WriteStr>(
     ensures { Puts W.meaning w.old (paint settings.now.styles (test_slow_text settings.now stress_index instance.entry retry_data elapsed.0 will_terminate)) result w.new }
 {
     let test = settings.padded_instance(stress_index, instance);
+    let styles = &settings.styles;
+    let end = (
+        " ",
+        DisplaySlowDuration(elapsed),
+        InstanceEnd(styles, &test),
+    );
     if will_terminate {
-        write_terminating(w, settings, test, retry_data, elapsed)
+        let line = (TerminatingWord(settings, retry_data), end);
+        When(settings.is_level_shown(terminating_level(retry_data)), line).write_to(w)
     } else {
-        write_slow(w, settings, test, retry_data.attempt, elapsed)
+        let line = (SlowWord(styles.skip, retry_data.attempt), end);
+        When(settings.is_level_shown(StatusLevel::Slow), line).write_to(w)
     }
 }
 
-// Writes that an attempt is slow, where slow tests are shown.
-#[tactic(auto, unfolding(crate::specs::TestSlow::slow_text))]
-fn write_slow<W: WriteStr>(
-    w: &mut W,
-    settings: &Settings,
-    test: CountedInstance<'_>,
-    attempt: u32,
-    elapsed: Nanos,
-) -> Result<(), WriteFault>
-    ensures { Puts W.meaning w.old (paint settings.now.styles (slow_text settings.now test.entry attempt elapsed.0)) result w.new }
-{
-    if !settings.is_level_shown(StatusLevel::Slow) {
-        return Ok(());
-    }
-    write_slow_word(w, settings.styles.skip, attempt)?;
-    write_slow_end(w, &settings.styles, test, elapsed)
-}
+// The word of a slow attempt, with its number unless it is the first.
+#[derive(Clone, Copy)]
+struct SlowWord(Style, u32);
 
-// Writes the word of a slow attempt, with its number unless it is the first.
-#[tactic(auto, unfolding(crate::specs::TestSlow::slow_word))]
-fn write_slow_word<W: WriteStr>(w: &mut W, style: Style, attempt: u32) -> Result<(), WriteFault>
-    ensures { Puts W.meaning w.old (styled style (right_in 12 (slow_word attempt))) result w.new }
-{
-    if attempt > 1 {
-        let mut number = Buffer::new();
-        style.write_right_joined(w, 12, "TRY ", number.format(attempt), " ", "SLOW")
-    } else {
-        style.write_right(w, 12, "SLOW")
+impl WriteText for SlowWord {
+    ghost text = { λ s. styled s.0 (right_in 12 (slow_word s.1)) };
+
+    #[tactic(auto, unfolding(crate::specs::TestSlow::slow_word))]
+    fn write_to<W: WriteStr>(&self, w: &mut W) -> Result<(), WriteFault> {
+        let SlowWord(style, attempt) = *self;
+        if attempt > 1 {
+            Try(style, attempt, "SLOW").write_to(w)
+        } else {
+            style.write_right(w, 12, "SLOW")
+        }
     }
 }
 
-// Writes that an attempt is ended since it is slow, where that is shown.
-#[tactic(auto, unfolding(crate::specs::TestSlow::terminating_text))]
-fn write_terminating<W: WriteStr>(
-    w: &mut W,
-    settings: &Settings,
-    test: CountedInstance<'_>,
-    retry_data: RetryData,
-    elapsed: Nanos,
-) -> Result<(), WriteFault>
-    ensures { Puts W.meaning w.old (paint settings.now.styles (terminating_text settings.now test.entry retry_data elapsed.0)) result w.new }
-{
-    if !settings.is_level_shown(terminating_level(retry_data)) {
-        return Ok(());
-    }
-    write_terminating_word(w, settings, retry_data)?;
-    write_slow_end(w, &settings.styles, test, elapsed)
-}
+// The word of an attempt that is ended, with its number where more is shown than such lines.
+#[derive(Clone, Copy)]
+struct TerminatingWord<'a>(&'a Settings, RetryData);
 
-// Writes the word of an attempt that is ended, with its number where more is shown than such lines.
-#[tactic(auto, unfolding(crate::specs::TestSlow::terminating_word))]
-fn write_terminating_word<W: WriteStr>(
-    w: &mut W,
-    settings: &Settings,
-    retry_data: RetryData,
-) -> Result<(), WriteFault>
-    ensures { Puts W.meaning w.old (styled (style_of settings.now.styles (terminating_tone retry_data)) (right_in 12 (terminating_word settings.now retry_data))) result w.new }
-{
-    let style = terminating_style(&settings.styles, retry_data);
-    if has_number(settings, retry_data) {
-        let mut number = Buffer::new();
-        let number = number.format(retry_data.attempt);
-        style.write_right_joined(w, 12, "TRY ", number, " ", "TRMNTG")
-    } else {
-        style.write_right(w, 12, "TERMINATING")
-    }
-}
+impl WriteText for TerminatingWord<'_> {
+    ghost text = { λ t. styled (style_of t.0.now.styles (terminating_tone t.1)) (right_in 12 (terminating_word t.0.now t.1)) };
 
-// Writes the end of a slow test's line: how long the attempt has taken, and the test.
-#[tactic(auto, unfolding(crate::specs::TestSlow::slow_end))]
-fn write_slow_end<W: WriteStr>(
-    w: &mut W,
-    styles: &Styles,
-    test: CountedInstance<'_>,
-    elapsed: Nanos,
-) -> Result<(), WriteFault>
-    ensures { Puts W.meaning w.old (paint styles.now (slow_end test.entry elapsed.0)) result w.new }
-{
-    write_plain(w, " ")?;
-    DisplaySlowDuration(elapsed).write_to(w)?;
-    write_instance_end(w, styles, &test)
+    #[tactic(auto, unfolding(crate::specs::TestSlow::terminating_word))]
+    fn write_to<W: WriteStr>(&self, w: &mut W) -> Result<(), WriteFault> {
+        let TerminatingWord(settings, retry_data) = *self;
+        let style = terminating_style(&settings.styles, retry_data);
+        if has_number(settings, retry_data) {
+            Try(style, retry_data.attempt, "TRMNTG").write_to(w)
+        } else {
+            style.write_right(w, 12, "TERMINATING")
+        }
+    }
 }
 
 // The level of an attempt that is ended: it is a failure, unless another attempt follows.
@@ -152,7 +113,7 @@ fn terminating_style(styles: &Styles, retry_data: RetryData) -> Style
     }
 }
 
-// Whether its number is said: there are other attempts, and more is shown than the lines of its level.
+// Whether its number is given: there are other attempts, and more is shown than the lines of its level.
 #[tactic(auto, unfolding(crate::specs::TestSlow::has_number))]
 fn has_number(settings: &Settings, retry_data: RetryData) -> bool
     ensures { result ≡ has_number settings.now retry_data }

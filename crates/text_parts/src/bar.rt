@@ -1,21 +1,22 @@
-//! The bar that parts a report.
+//! The bar that separates the sections of a report.
 
 ghost use Rattle.std.specs.Prelude.{◌++◌, codes};
-ghost use Rattle.plain_text.specs.Style.{plain};
-ghost use Rattle.plain_text.specs.Writer.{Puts};
+ghost use Rattle.styled_text.specs.Style.{plain};
 ghost use Rattle.report_words.specs.Theme.{hbar_text};
 
-use plain_text::style::write_plain;
-use plain_text::write_str::{WriteFault, WriteStr};
 use report_text::helpers::ThemeCharacters;
+use writers::text::WriteText;
+use writers::write_str::{WriteFault, WriteStr};
 
-/// Writes the line of a bar of twelve characters.
-pub fn write_bar_line<W: WriteStr>(
-    w: &mut W,
-    theme_characters: ThemeCharacters,
-) -> Result<(), WriteFault>
-    ensures { Puts W.meaning w.old (hbar_text theme_characters.is_unicode 12 ++ plain (codes "\n")) result w.new }
-{
-    theme_characters.write_hbar(w, 12)?;
-    write_plain(w, "\n")
+/// The line of a bar of twelve characters.
+#[derive(Clone, Copy)]
+pub struct BarLine(pub ThemeCharacters);
+
+impl WriteText for BarLine {
+    ghost text = { λ b. hbar_text b.0.is_unicode 12 ++ plain (codes "\n") };
+
+    fn write_to<W: WriteStr>(&self, w: &mut W) -> Result<(), WriteFault> {
+        self.0.write_hbar(w, 12)?;
+        "\n".write_to(w)
+    }
 }

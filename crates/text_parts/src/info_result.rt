@@ -1,73 +1,59 @@
-//! What an attempt came to, in words.
+//! The result of an attempt, in words.
 
-ghost use Rattle.plain_text.specs.Writer.{Puts};
 ghost use Rattle.report_words.specs.Parts.{paint};
-ghost use Rattle.text_parts.specs.InfoResult.{leaked_note, exit_code_info, signal_name, signal_info, aborted_info, abort_info, failure_info, leak_info, leak_failed_info, timeout_info, passed_info, exec_fail_info, info_text};
+ghost use Rattle.writers.specs.Writer.{Puts};
+ghost use Rattle.text_parts.specs.InfoResult.{abort_info, failure_info, info_text, leaked_note, signal_name};
 
 use itoa::Buffer;
-use plain_text::style::{Styles, write_plain};
-use plain_text::write_str::{WriteFault, WriteStr};
 use run_model::abort::{AbortDescription, DescriptionText};
 use run_model::status::{
     ExecutionResultDescription, FailureDescription, LeakTimeoutResult, SlowTimeoutResult,
 };
+use styled_text::style::Styles;
+use styled_text::text::Toned;
+use writers::text::WriteText;
+use writers::write_str::{WriteFault, WriteStr};
 
-/// Writes how an attempt ended, as in `failed with exit code 1`.
-pub fn write_info_result<W: WriteStr>(
-    w: &mut W,
-    styles: &Styles,
-    is_slow: bool,
-    outcome: &ExecutionResultDescription,
-) -> Result<(), WriteFault>
-    ensures { Puts W.meaning w.old (paint styles.now (info_text is_slow outcome.now)) result w.new }
-{
-    match outcome {
-        ExecutionResultDescription::Pass => write_passed_info(w, styles, is_slow),
-        ExecutionResultDescription::Leak { result } => write_leak_info(w, styles, *result),
-        ExecutionResultDescription::Fail { failure, leaked } => write_failure_info(
-            w, styles, failure, *leaked,
-        ),
-        ExecutionResultDescription::ExecFail => write_exec_fail_info(w, styles),
-        ExecutionResultDescription::Timeout { result } => write_timeout_info(w, styles, *result),
+/// How an attempt ended, as in `failed with exit code 1`; the flag says that it was slow.
+#[derive(Clone, Copy)]
+pub struct InfoResult<'a>(pub &'a Styles, pub bool, pub &'a ExecutionResultDescription);
+
+impl WriteText for InfoResult<'_> {
+    ghost text = { λ r. paint r.0.now (info_text r.1 r.2.now) };
+
+    #[tactic(auto, unfolding(crate::specs::InfoResult::passed_info, crate::specs::InfoResult::leak_failed_info, crate::specs::InfoResult::exec_fail_info, crate::specs::InfoResult::timeout_info))]
+    fn write_to<W: WriteStr>(&self, w: &mut W) -> Result<(), WriteFault> {
+        let InfoResult(styles, is_slow, outcome) = *self;
+        match outcome {
+            ExecutionResultDescription::Pass if is_slow => styles.skip.write(w, "passed"),
+            ExecutionResultDescription::Pass => styles.pass.write(w, "passed"),
+            ExecutionResultDescription::Leak {
+                result: LeakTimeoutResult::Pass,
+            } => { styles.skip.write(w, "passed with leaked handles") }
+            ExecutionResultDescription::Leak {
+                result: LeakTimeoutResult::Fail,
+            } => {
+                (
+                    Toned(styles.fail, "failed"),
+                    ": exited with code 0, but leaked handles",
+                )
+                    .write_to(w)
+            }
+            ExecutionResultDescription::Fail { failure, leaked } => {
+                write_failure_info(w, styles, failure, *leaked)
+            }
+            ExecutionResultDescription::ExecFail => styles.fail.write(w, "failed to execute"),
+            ExecutionResultDescription::Timeout {
+                result: SlowTimeoutResult::Pass,
+            } => { styles.skip.write(w, "passed with timeout") }
+            ExecutionResultDescription::Timeout {
+                result: SlowTimeoutResult::Fail,
+            } => { styles.fail.write(w, "timed out") }
+        }
     }
 }
 
-#[tactic(auto, unfolding(crate::specs::InfoResult::passed_info))]
-fn write_passed_info<W: WriteStr>(
-    w: &mut W,
-    styles: &Styles,
-    is_slow: bool,
-) -> Result<(), WriteFault>
-    ensures { Puts W.meaning w.old (paint styles.now (passed_info is_slow)) result w.new }
-{
-    if is_slow {
-        styles.skip.write(w, "passed")
-    } else {
-        styles.pass.write(w, "passed")
-    }
-}
-
-fn write_leak_info<W: WriteStr>(
-    w: &mut W,
-    styles: &Styles,
-    outcome: LeakTimeoutResult,
-) -> Result<(), WriteFault>
-    ensures { Puts W.meaning w.old (paint styles.now (leak_info outcome)) result w.new }
-{
-    match outcome {
-        LeakTimeoutResult::Pass => styles.skip.write(w, "passed with leaked handles"),
-        LeakTimeoutResult::Fail => write_leak_failed_info(w, styles),
-    }
-}
-
-#[tactic(auto, unfolding(crate::specs::InfoResult::leak_failed_info))]
-fn write_leak_failed_info<W: WriteStr>(w: &mut W, styles: &Styles) -> Result<(), WriteFault>
-    ensures { Puts W.meaning w.old (paint styles.now leak_failed_info) result w.new }
-{
-    styles.fail.write(w, "failed")?;
-    write_plain(w, ": exited with code 0, but leaked handles")
-}
-
+#[tactic(auto, unfolding(crate::specs::InfoResult::exit_code_info))]
 fn write_failure_info<W: WriteStr>(
     w: &mut W,
     styles: &Styles,
@@ -76,29 +62,19 @@ fn write_failure_info<W: WriteStr>(
 ) -> Result<(), WriteFault>
     ensures { Puts W.meaning w.old (paint styles.now (failure_info failure.now leaked)) result w.new }
 {
+    let failed = Toned(styles.fail, "failed");
     match failure {
-        FailureDescription::ExitCode { code } => write_exit_code_info(w, styles, *code, leaked),
+        FailureDescription::ExitCode { code } => {
+            let mut number = Buffer::new();
+            let code = Toned(styles.count, number.format(*code));
+            (failed, " with exit code ", code, LeakedNote(leaked)).write_to(w)
+        }
         FailureDescription::Abort { abort } => write_abort_info(w, styles, abort.get(), leaked),
     }
 }
 
-#[tactic(auto, unfolding(crate::specs::InfoResult::exit_code_info))]
-fn write_exit_code_info<W: WriteStr>(
-    w: &mut W,
-    styles: &Styles,
-    code: i32,
-    leaked: bool,
-) -> Result<(), WriteFault>
-    ensures { Puts W.meaning w.old (paint styles.now (exit_code_info code leaked)) result w.new }
-{
-    let mut number = Buffer::new();
-    styles.fail.write(w, "failed")?;
-    write_plain(w, " with exit code ")?;
-    styles.count.write(w, number.format(code))?;
-    write_leaked_note(w, leaked)
-}
-
-// Only a signal is told; what ended a process on Windows is said after the line of its test.
+// Only a signal is named; what ended a process on Windows is in the line after the test's.
+#[tactic(auto, unfolding(crate::specs::InfoResult::signal_info, crate::specs::InfoResult::aborted_info))]
 fn write_abort_info<W: WriteStr>(
     w: &mut W,
     styles: &Styles,
@@ -107,90 +83,55 @@ fn write_abort_info<W: WriteStr>(
 ) -> Result<(), WriteFault>
     ensures { Puts W.meaning w.old (paint styles.now (abort_info abort.now leaked)) result w.new }
 {
+    let aborted = Toned(styles.fail, "aborted");
     match abort {
-        AbortDescription::UnixSignal { signal, name } => write_signal_info(
-            w, styles, *signal, name, leaked,
-        ),
-        AbortDescription::WindowsNtStatus { .. } | AbortDescription::WindowsJobObject =>
-            write_aborted_info(w, styles, leaked),
-    }
-}
-
-#[tactic(auto, unfolding(crate::specs::InfoResult::signal_info))]
-fn write_signal_info<W: WriteStr>(
-    w: &mut W,
-    styles: &Styles,
-    signal: i32,
-    name: &Option<DescriptionText>,
-    leaked: bool,
-) -> Result<(), WriteFault>
-    ensures { Puts W.meaning w.old (paint styles.now (signal_info signal name.now leaked)) result w.new }
-{
-    let mut number = Buffer::new();
-    styles.fail.write(w, "aborted")?;
-    write_plain(w, " with signal ")?;
-    styles.count.write(w, number.format(signal))?;
-    write_signal_name(w, name)?;
-    write_leaked_note(w, leaked)
-}
-
-#[tactic(auto, unfolding(crate::specs::InfoResult::signal_name))]
-fn write_signal_name<W: WriteStr>(
-    w: &mut W,
-    name: &Option<DescriptionText>,
-) -> Result<(), WriteFault>
-    ensures { Puts W.meaning w.old (signal_name name.now) result w.new }
-{
-    match name {
-        None => Ok(()),
-        Some(name) => {
-            write_plain(w, ": SIG")?;
-            write_plain(w, name.as_str())
+        AbortDescription::UnixSignal { signal, name } => {
+            let mut number = Buffer::new();
+            let signal = Toned(styles.count, number.format(*signal));
+            (
+                aborted,
+                " with signal ",
+                signal,
+                SignalName(name),
+                LeakedNote(leaked),
+            )
+                .write_to(w)
+        }
+        AbortDescription::WindowsNtStatus { .. } | AbortDescription::WindowsJobObject => {
+            (aborted, LeakedNote(leaked)).write_to(w)
         }
     }
 }
 
-#[tactic(auto, unfolding(crate::specs::InfoResult::aborted_info))]
-fn write_aborted_info<W: WriteStr>(
-    w: &mut W,
-    styles: &Styles,
-    leaked: bool,
-) -> Result<(), WriteFault>
-    ensures { Puts W.meaning w.old (paint styles.now (aborted_info leaked)) result w.new }
-{
-    styles.fail.write(w, "aborted")?;
-    write_leaked_note(w, leaked)
-}
+// The name of a signal, if it has one.
+#[derive(Clone, Copy)]
+struct SignalName<'a>(&'a Option<DescriptionText>);
 
-// Writes that handles were left open, where they were.
-#[tactic(auto, unfolding(crate::specs::InfoResult::leaked_note))]
-fn write_leaked_note<W: WriteStr>(w: &mut W, leaked: bool) -> Result<(), WriteFault>
-    ensures { Puts W.meaning w.old (leaked_note leaked) result w.new }
-{
-    if leaked {
-        write_plain(w, " (leaked handles)")
-    } else {
-        Ok(())
+impl WriteText for SignalName<'_> {
+    ghost text = { λ n. signal_name n.0.now };
+
+    #[tactic(auto, unfolding(crate::specs::InfoResult::signal_name))]
+    fn write_to<W: WriteStr>(&self, w: &mut W) -> Result<(), WriteFault> {
+        match self.0 {
+            None => Ok(()),
+            Some(name) => (": SIG", name.as_str()).write_to(w),
+        }
     }
 }
 
-#[tactic(auto, unfolding(crate::specs::InfoResult::timeout_info))]
-fn write_timeout_info<W: WriteStr>(
-    w: &mut W,
-    styles: &Styles,
-    outcome: SlowTimeoutResult,
-) -> Result<(), WriteFault>
-    ensures { Puts W.meaning w.old (paint styles.now (timeout_info outcome)) result w.new }
-{
-    match outcome {
-        SlowTimeoutResult::Pass => styles.skip.write(w, "passed with timeout"),
-        SlowTimeoutResult::Fail => styles.fail.write(w, "timed out"),
-    }
-}
+// Says that handles were left open, if they were.
+#[derive(Clone, Copy)]
+struct LeakedNote(bool);
 
-#[tactic(auto, unfolding(crate::specs::InfoResult::exec_fail_info))]
-fn write_exec_fail_info<W: WriteStr>(w: &mut W, styles: &Styles) -> Result<(), WriteFault>
-    ensures { Puts W.meaning w.old (paint styles.now exec_fail_info) result w.new }
-{
-    styles.fail.write(w, "failed to execute")
+impl WriteText for LeakedNote {
+    ghost text = { λ n. leaked_note n.0 };
+
+    #[tactic(auto, unfolding(crate::specs::InfoResult::leaked_note))]
+    fn write_to<W: WriteStr>(&self, w: &mut W) -> Result<(), WriteFault> {
+        if self.0 {
+            " (leaked handles)".write_to(w)
+        } else {
+            Ok(())
+        }
+    }
 }

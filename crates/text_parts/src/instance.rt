@@ -1,17 +1,17 @@
-//! Which test a line speaks of.
+//! The test that a line is about.
 
 ghost use Rattle.std.specs.Prelude.{◌≡◌};
-ghost use Rattle.report_text.specs.Instance.{instance_text};
-ghost use Rattle.plain_text.specs.Writer.{Puts};
+ghost use Rattle.text_parts.specs.Names.{instance_text, instance_end, padded_instance, untimed_end};
+ghost use Rattle.writers.specs.Writer.{Puts};
 ghost use Rattle.report_words.specs.Parts.{paint};
-ghost use Rattle.text_parts.specs.Instance.{instance_end, padded_instance, untimed_end};
 
 use crate::settings::Settings;
-use plain_text::style::{Styles, write_plain};
-use plain_text::write_str::{WriteFault, WriteStr};
 use report_text::helpers::{DisplayCounterIndex, write_test_instance};
 use run_model::name::TestInstanceId;
 use run_model::stress::StressIndex;
+use styled_text::style::Styles;
+use writers::text::WriteText;
+use writers::write_str::{WriteFault, WriteStr};
 
 /// A test as its lines name it.
 #[derive(Clone, Copy)]
@@ -25,7 +25,7 @@ pub struct CountedInstance<'a> {
 }
 
 impl Settings {
-    /// A test in a line that counts nothing: a bar stands in the place of its counter, where counters are shown.
+    /// A test in a line that counts nothing: a bar replaces its counter, if counters are shown.
     pub fn padded_instance<'a>(
         &self,
         stress_index: Option<StressIndex>,
@@ -59,28 +59,29 @@ pub fn write_instance<W: WriteStr>(
     )
 }
 
-/// Writes the end of a test's line: the test and a line feed.
-#[tactic(auto, unfolding(crate::specs::Instance::instance_end))]
-pub fn write_instance_end<W: WriteStr>(
-    w: &mut W,
-    styles: &Styles,
-    test: &CountedInstance<'_>,
-) -> Result<(), WriteFault>
-    ensures { Puts W.meaning w.old (paint styles.now (instance_end test.now)) result w.new }
-{
-    write_instance(w, styles, test)?;
-    write_plain(w, "\n")
+/// The end of a test's line: the test and a line feed.
+#[derive(Clone, Copy)]
+pub struct InstanceEnd<'s, 'a>(pub &'s Styles, pub &'s CountedInstance<'a>);
+
+impl WriteText for InstanceEnd<'_, '_> {
+    ghost text = { λ i. paint i.0.now (instance_end i.1.now) };
+
+    #[tactic(auto, unfolding(crate::specs::Instance::instance_end))]
+    fn write_to<W: WriteStr>(&self, w: &mut W) -> Result<(), WriteFault> {
+        write_instance(w, self.0, self.1)?;
+        "\n".write_to(w)
+    }
 }
 
-/// Writes the end of a test's line that has no duration: the place of that is left empty.
-#[tactic(auto, unfolding(crate::specs::Instance::untimed_end))]
-pub fn write_untimed_end<W: WriteStr>(
-    w: &mut W,
-    styles: &Styles,
-    test: &CountedInstance<'_>,
-) -> Result<(), WriteFault>
-    ensures { Puts W.meaning w.old (paint styles.now (untimed_end test.now)) result w.new }
-{
-    write_plain(w, " [         ] ")?;
-    write_instance_end(w, styles, test)
+/// The end of a test's line without a duration: its columns are empty.
+#[derive(Clone, Copy)]
+pub struct UntimedEnd<'s, 'a>(pub &'s Styles, pub &'s CountedInstance<'a>);
+
+impl WriteText for UntimedEnd<'_, '_> {
+    ghost text = { λ i. paint i.0.now (untimed_end i.1.now) };
+
+    #[tactic(auto, unfolding(crate::specs::Instance::untimed_end))]
+    fn write_to<W: WriteStr>(&self, w: &mut W) -> Result<(), WriteFault> {
+        (" [         ] ", InstanceEnd(self.0, self.1)).write_to(w)
+    }
 }

@@ -1,15 +1,15 @@
-//! Which setup script a line speaks of.
+//! The setup script that a line is about.
 
-ghost use Rattle.plain_text.specs.Writer.{Puts};
 ghost use Rattle.report_words.specs.Parts.{paint};
 ghost use Rattle.text_parts.specs.Script.{script_of, shown_script};
 
-use plain_text::style::Styles;
-use plain_text::write_str::{WriteFault, WriteStr};
 use report_text::helpers::write_script_instance;
 use run_model::command::CommandLine;
 use run_model::name::{ProgramName, ScriptId};
 use run_model::stress::StressIndex;
+use styled_text::style::Styles;
+use writers::text::WriteText;
+use writers::write_str::{WriteFault, WriteStr};
 
 /// A setup script as its lines name it.
 #[derive(Clone, Copy)]
@@ -24,17 +24,21 @@ pub struct ScriptInstance<'a> {
     pub args: &'a CommandLine,
 }
 
-impl ScriptInstance<'_> {
-    /// Writes its iteration, if there is one, its id and its command as a shell reads it.
-    pub fn write_to<W: WriteStr>(self, w: &mut W, styles: &Styles) -> Result<(), WriteFault>
-        ensures { Puts W.meaning w.old (paint styles.now (shown_script (script_of self.entry))) result w.new }
-    {
+/// A setup script as a report shows it: its iteration, if there is one, its id and its command as a shell reads it.
+#[derive(Clone, Copy)]
+pub struct ShownScript<'s, 'a>(pub &'s Styles, pub &'s ScriptInstance<'a>);
+
+impl WriteText for ShownScript<'_, '_> {
+    ghost text = { λ s. paint s.0.now (shown_script (script_of s.1.now)) };
+
+    fn write_to<W: WriteStr>(&self, w: &mut W) -> Result<(), WriteFault> {
+        let ShownScript(styles, script) = *self;
         write_script_instance(
             w,
-            self.stress_index,
-            self.script_id,
-            self.program.as_str(),
-            self.args.words(),
+            script.stress_index,
+            script.script_id,
+            script.program.as_str(),
+            script.args.words(),
             styles.script_id,
             styles.count,
         )

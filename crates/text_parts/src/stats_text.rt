@@ -1,16 +1,17 @@
-//! The counts of a run in words, and the style that they give it.
+//! The counts of a run in words, and their style.
 
-ghost use Rattle.std.specs.Prelude.{◌≡◌, ◌==◌, ◌++◌, [], if◌then◌else◌, codes};
-ghost use Rattle.plain_text.specs.Writer.{Puts};
-ghost use Rattle.plain_text.specs.Style.{plain, styled};
+ghost use Rattle.std.specs.Prelude.{◌≡◌, ◌==◌, ◌++◌, [], if◌then◌else◌};
+ghost use Rattle.styled_text.specs.Style.{styled};
 ghost use Rattle.report_words.specs.Parts.{paint, style_of};
-ghost use Rattle.text_parts.specs.StatsText.{failure_tone, progress_message, summary_text, counted_front, passed_front, passed_notes, leaky_failed_note, failed_count, failed_counts, exec_failed_count, timed_out_count};
+ghost use Rattle.text_parts.specs.StatsText.{counted_front, failed_count, failed_counts, failure_tone, passed_front, passed_notes, progress_message, summary_text};
 
-use plain_text::style::{Style, Styles, write_plain};
-use plain_text::write_str::{WriteFault, WriteStr};
 use run_model::stats::RunStats;
+use styled_text::style::{Style, Styles};
+use styled_text::text::{Number, Toned};
+use writers::text::{Unless, WriteText};
+use writers::write_str::{WriteFault, WriteStr};
 
-/// The style of a run by whether something has failed in it.
+/// The style of a run, by whether something in it has failed.
 pub fn failure_style(styles: &Styles, stats: &RunStats) -> Style
     ensures { result ≡ style_of styles.now (failure_tone stats.now) }
 {
@@ -21,185 +22,125 @@ pub fn failure_style(styles: &Styles, stats: &RunStats) -> Style
     }
 }
 
-/// Writes all counts: passed and skipped always, the others where they are not 0.
-#[tactic(auto, unfolding(crate::specs::StatsText::summary_text))]
-pub fn write_summary_text<W: WriteStr>(
-    w: &mut W,
-    styles: &Styles,
-    stats: &RunStats,
-) -> Result<(), WriteFault>
-    ensures { Puts W.meaning w.old (paint styles.now (summary_text stats.now)) result w.new }
-{
-    write_counted(w, styles, styles.pass, stats.passed, "passed")?;
-    write_passed_notes(w, styles, stats)?;
-    write_plain(w, ", ")?;
-    write_failed_counts(w, styles, stats)?;
-    write_counted(w, styles, styles.skip, stats.skipped, "skipped")
-}
+/// All counts: passed and skipped always, the others if they are not 0.
+#[derive(Clone, Copy)]
+pub struct Counts<'a>(pub &'a Styles, pub &'a RunStats);
 
-/// Writes how many units run, and all counts.
-#[tactic(auto, unfolding(crate::specs::StatsText::progress_message))]
-pub fn write_progress_message<W: WriteStr>(
-    w: &mut W,
-    styles: &Styles,
-    stats: &RunStats,
-    running: usize,
-) -> Result<(), WriteFault>
-    ensures { Puts W.meaning w.old (paint styles.now (progress_message stats.now running)) result w.new }
-{
-    write_counted(w, styles, styles.pass, running, "running")?;
-    write_plain(w, ", ")?;
-    write_summary_text(w, styles, stats)
-}
+impl WriteText for Counts<'_> {
+    ghost text = { λ c. paint c.0.now (summary_text c.1.now) };
 
-// Writes how many tests did not succeed.
-#[tactic(auto, unfolding(crate::specs::StatsText::failed_counts))]
-fn write_failed_counts<W: WriteStr>(
-    w: &mut W,
-    styles: &Styles,
-    stats: &RunStats,
-) -> Result<(), WriteFault>
-    ensures { Puts W.meaning w.old (paint styles.now (failed_counts stats.now)) result w.new }
-{
-    write_failed_count(w, styles, stats)?;
-    write_exec_failed_count(w, styles, stats.exec_failed)?;
-    write_timed_out_count(w, styles, stats.timed_out)
-}
-
-// Writes how many tests could not be started.
-#[tactic(auto, unfolding(crate::specs::StatsText::exec_failed_count))]
-fn write_exec_failed_count<W: WriteStr>(
-    w: &mut W,
-    styles: &Styles,
-    count: usize,
-) -> Result<(), WriteFault>
-    ensures { Puts W.meaning w.old (paint styles.now (exec_failed_count count)) result w.new }
-{
-    write_other_failed_count(w, styles, count, "exec failed")
-}
-
-// Writes how many tests timed out.
-#[tactic(auto, unfolding(crate::specs::StatsText::timed_out_count))]
-fn write_timed_out_count<W: WriteStr>(
-    w: &mut W,
-    styles: &Styles,
-    count: usize,
-) -> Result<(), WriteFault>
-    ensures { Puts W.meaning w.old (paint styles.now (timed_out_count count)) result w.new }
-{
-    write_other_failed_count(w, styles, count, "timed out")
-}
-
-/// Writes how many there are, and of what.
-#[tactic(auto, unfolding(crate::specs::StatsText::counted_front))]
-pub fn write_counted<W: WriteStr>(
-    w: &mut W,
-    styles: &Styles,
-    style: Style,
-    count: usize,
-    word: &str,
-) -> Result<(), WriteFault>
-    ensures { Puts W.meaning w.old (paint styles.now (counted_front count) ++ styled style word.now) result w.new }
-{
-    styles.count.write_number(w, count as u128)?;
-    write_plain(w, " ")?;
-    style.write(w, word)
-}
-
-// Writes which of the tests that passed were slow, flaky or leaked handles.
-#[tactic(auto, unfolding(crate::specs::StatsText::passed_notes))]
-fn write_passed_notes<W: WriteStr>(
-    w: &mut W,
-    styles: &Styles,
-    stats: &RunStats,
-) -> Result<(), WriteFault>
-    ensures { Puts W.meaning w.old (paint styles.now (passed_notes stats.now)) result w.new }
-{
-    let has_no_slow = stats.passed_slow == 0;
-    let has_no_flaky = stats.flaky == 0;
-    let has_no_leaky = stats.leaky == 0;
-    write_passed_note(w, styles, true, stats.passed_slow, "slow")?;
-    write_passed_note(w, styles, has_no_slow, stats.flaky, "flaky")?;
-    write_passed_note(w, styles, has_no_slow && has_no_flaky, stats.leaky, "leaky")?;
-    write_notes_end(w, has_no_slow && (has_no_flaky && has_no_leaky))
-}
-
-// Writes how many of the tests that passed are of a kind, where there is one.
-#[tactic(auto, unfolding(crate::specs::StatsText::passed_front, crate::specs::StatsText::counted_front))]
-fn write_passed_note<W: WriteStr>(
-    w: &mut W,
-    styles: &Styles,
-    is_first: bool,
-    count: usize,
-    word: &str,
-) -> Result<(), WriteFault>
-    ensures { Puts W.meaning w.old (if count == 0 then [] else paint styles.now (passed_front is_first count) ++ styled styles.now.skip word.now) result w.new }
-{
-    if count == 0 {
-        return Ok(());
+    #[tactic(auto, unfolding(crate::specs::StatsText::summary_text))]
+    fn write_to<W: WriteStr>(&self, w: &mut W) -> Result<(), WriteFault> {
+        let Counts(styles, stats) = *self;
+        let passed = Counted(styles, styles.pass, stats.passed, "passed");
+        let skipped = Counted(styles, styles.skip, stats.skipped, "skipped");
+        let notes = PassedNotes(styles, stats);
+        (passed, notes, ", ", FailedCounts(styles, stats), skipped).write_to(w)
     }
-    write_plain(w, if is_first { " (" } else { ", " })?;
-    write_counted(w, styles, styles.skip, count, word)
 }
 
-// Closes the parentheses, where there are some.
-fn write_notes_end<W: WriteStr>(w: &mut W, has_none: bool) -> Result<(), WriteFault>
-    ensures { Puts W.meaning w.old (if has_none then [] else plain (codes ")")) result w.new }
-{
-    if has_none {
-        return Ok(());
+/// How many units run, and all counts.
+#[derive(Clone, Copy)]
+pub struct Progress<'a>(pub &'a Styles, pub &'a RunStats, pub usize);
+
+impl WriteText for Progress<'_> {
+    ghost text = { λ p. paint p.0.now (progress_message p.1.now p.2) };
+
+    #[tactic(auto, unfolding(crate::specs::StatsText::progress_message))]
+    fn write_to<W: WriteStr>(&self, w: &mut W) -> Result<(), WriteFault> {
+        let Progress(styles, stats, running) = *self;
+        let running = Counted(styles, styles.pass, running, "running");
+        (running, ", ", Counts(styles, stats)).write_to(w)
     }
-    write_plain(w, ")")
 }
 
-// Writes how many tests failed, where there is one.
-#[tactic(auto, unfolding(crate::specs::StatsText::failed_count))]
-fn write_failed_count<W: WriteStr>(
-    w: &mut W,
-    styles: &Styles,
-    stats: &RunStats,
-) -> Result<(), WriteFault>
-    ensures { Puts W.meaning w.old (paint styles.now (failed_count stats.now)) result w.new }
-{
-    if stats.failed == 0 {
-        return Ok(());
+/// How many there are, and of what.
+#[derive(Clone, Copy)]
+pub struct Counted<'a>(pub &'a Styles, pub Style, pub usize, pub &'a str);
+
+impl WriteText for Counted<'_> {
+    ghost text = { λ c. paint c.0.now (counted_front c.2) ++ styled c.1 c.3.now };
+
+    #[tactic(auto, unfolding(crate::specs::StatsText::counted_front))]
+    fn write_to<W: WriteStr>(&self, w: &mut W) -> Result<(), WriteFault> {
+        let Counted(styles, style, count, word) = *self;
+        (
+            (Number(styles.count, count as u128), " "),
+            Toned(style, word),
+        )
+            .write_to(w)
     }
-    write_counted(w, styles, styles.fail, stats.failed, "failed")?;
-    write_leaky_failed_note(w, styles, stats.leaky_failed)?;
-    write_plain(w, ", ")
 }
 
-// Writes how many of the failed tests failed since they leaked handles, where there is one.
-#[tactic(auto, unfolding(crate::specs::StatsText::leaky_failed_note))]
-fn write_leaky_failed_note<W: WriteStr>(
-    w: &mut W,
-    styles: &Styles,
-    count: usize,
-) -> Result<(), WriteFault>
-    ensures { Puts W.meaning w.old (paint styles.now (leaky_failed_note count)) result w.new }
-{
-    if count == 0 {
-        return Ok(());
+// Which of the tests that passed were slow, flaky or leaked handles.
+#[derive(Clone, Copy)]
+struct PassedNotes<'a>(&'a Styles, &'a RunStats);
+
+impl WriteText for PassedNotes<'_> {
+    ghost text = { λ n. paint n.0.now (passed_notes n.1.now) };
+
+    #[tactic(auto, unfolding(crate::specs::StatsText::passed_notes))]
+    fn write_to<W: WriteStr>(&self, w: &mut W) -> Result<(), WriteFault> {
+        let PassedNotes(styles, stats) = *self;
+        let has_no_slow = stats.passed_slow == 0;
+        let has_no_flaky = stats.flaky == 0;
+        let has_no_leaky = stats.leaky == 0;
+        let is_first = has_no_slow & has_no_flaky;
+        let is_empty = has_no_slow & (has_no_flaky & has_no_leaky);
+        (
+            PassedNote(styles, true, stats.passed_slow, "slow"),
+            PassedNote(styles, has_no_slow, stats.flaky, "flaky"),
+            PassedNote(styles, is_first, stats.leaky, "leaky"),
+            Unless(is_empty, ")"),
+        )
+            .write_to(w)
     }
-    write_plain(w, " (")?;
-    styles.count.write_number(w, count as u128)?;
-    write_plain(w, " due to being ")?;
-    styles.skip.write(w, "leaky")?;
-    write_plain(w, ")")
 }
 
-// Writes how many tests did not succeed in another way, where there is one.
-fn write_other_failed_count<W: WriteStr>(
-    w: &mut W,
-    styles: &Styles,
-    count: usize,
-    word: &str,
-) -> Result<(), WriteFault>
-    ensures { Puts W.meaning w.old (if count == 0 then [] else (paint styles.now (counted_front count) ++ styled styles.now.fail word.now) ++ plain (codes ", ")) result w.new }
-{
-    if count == 0 {
-        return Ok(());
+// How many of the tests that passed are of a kind, if any: the first note begins with a parenthesis.
+#[derive(Clone, Copy)]
+struct PassedNote<'a>(&'a Styles, bool, usize, &'a str);
+
+impl WriteText for PassedNote<'_> {
+    ghost text = { λ n. if n.2 == 0 then [] else paint n.0.now (passed_front n.1 n.2) ++ styled n.0.now.skip n.3.now };
+
+    #[tactic(auto, unfolding(crate::specs::StatsText::passed_front, crate::specs::StatsText::counted_front))]
+    fn write_to<W: WriteStr>(&self, w: &mut W) -> Result<(), WriteFault> {
+        let PassedNote(styles, is_first, count, word) = *self;
+        let number = Number(styles.count, count as u128);
+        let front = (if is_first { " (" } else { ", " }, (number, " "));
+        Unless(count == 0, (front, Toned(styles.skip, word))).write_to(w)
     }
-    write_counted(w, styles, styles.fail, count, word)?;
-    write_plain(w, ", ")
+}
+
+// How many tests did not succeed.
+#[derive(Clone, Copy)]
+struct FailedCounts<'a>(&'a Styles, &'a RunStats);
+
+impl WriteText for FailedCounts<'_> {
+    ghost text = { λ f. paint f.0.now (failed_counts f.1.now) };
+
+    #[tactic(auto, unfolding(crate::specs::StatsText::failed_counts, crate::specs::StatsText::failed_count, crate::specs::StatsText::leaky_failed_note, crate::specs::StatsText::exec_failed_count, crate::specs::StatsText::timed_out_count))]
+    fn write_to<W: WriteStr>(&self, w: &mut W) -> Result<(), WriteFault> {
+        let FailedCounts(styles, stats) = *self;
+        let leaky = (
+            " (",
+            Number(styles.count, stats.leaky_failed as u128),
+            " due to being ",
+            Toned(styles.skip, "leaky"),
+            ")",
+        );
+        let failed = Counted(styles, styles.fail, stats.failed, "failed");
+        let exec_failed = Counted(styles, styles.fail, stats.exec_failed, "exec failed");
+        let timed_out = Counted(styles, styles.fail, stats.timed_out, "timed out");
+        (
+            Unless(
+                stats.failed == 0,
+                (failed, Unless(stats.leaky_failed == 0, leaky), ", "),
+            ),
+            Unless(stats.exec_failed == 0, (exec_failed, ", ")),
+            Unless(stats.timed_out == 0, (timed_out, ", ")),
+        )
+            .write_to(w)
+    }
 }

@@ -1,20 +1,9 @@
 -- What is shown of the output of a test or a setup script.
 use Rattle.std.specs.Prelude.{Bool, true, false, not, ◌||◌, ◌==◌, [], ◌∷◌, ◌++◌, length, Option, None, Some, codes, if◌then◌else◌}
-use Rattle.std.specs.Option.{option_and_then}
-use Rattle.run_names.specs.ErrorChains.{MessageAndCauses}
-use Rattle.run_model.specs.Outputs.{Part, stdout_part, stderr_part, combined_part}
-use Rattle.run_model.specs.declared.output.ChildExecutionOutputDescription.{ChildExecutionOutputDescription}
+use Rattle.styled_text.specs.Names.{option_and_then, indent, plain, styled, Text, Styles}
+use Rattle.run_model.specs.Names.{MessageAndCauses, Part, stdout_part, stderr_part, combined_part, ChildExecutionOutputDescription, ChildOutputDescription, Highlight, LiveSpec, UnitKind, decoded_text}
 use Rattle.run_model.specs.declared.output.ChildExecutionOutputDescription.TheVariants.{Output, StartError}
-use Rattle.run_model.specs.declared.output.ChildOutputDescription.{ChildOutputDescription}
 use Rattle.run_model.specs.declared.output.ChildOutputDescription.TheVariants.{Split, Combined, NotLoaded}
-use Rattle.run_model.specs.declared.output.Highlight.{Highlight}
-use Rattle.run_model.specs.declared.output.LiveSpec.{LiveSpec}
-use Rattle.run_names.specs.declared.unit.UnitKind.{UnitKind}
-use Rattle.plain_text.specs.Indent.{indent}
-use Rattle.run_model.specs.Decoded.{decoded_text}
-use Rattle.plain_text.specs.Style.{Plain, Styled, part_texts, plain}
-use Rattle.plain_text.specs.Texts.{Text}
-use Rattle.plain_text.specs.declared.style.Styles.{Styles}
 use Rattle.unit_report.specs.Captured.{captured}
 use Rattle.unit_report.specs.ErrorChain.{error_chain_text}
 use Rattle.unit_report.specs.Header.{header_text, output_name_text}
@@ -53,7 +42,7 @@ is_replay Replay = true
 -- an output that was not captured. It has its four spaces whatever the indentation is
 unfoldable pub not_captured_text : Styles → OutputName → Text
 not_captured_text s name =
-    part_texts (Plain (codes "    (") ∷ Plain (output_name_text name) ∷ Plain (codes " ") ∷ Styled s.skip (codes "not captured") ∷ Plain (codes ")\n") ∷ [])
+    plain (codes "    (") ++ (plain (output_name_text name) ++ (plain (codes " ") ++ (styled s.skip (codes "not captured") ++ plain (codes ")\n"))))
 
 -- the header of a stream, and the stream below it, indented
 unfoldable pub shown_stream : Styles → Text → OutputHeader → Text → Option Part → Text

@@ -8,7 +8,7 @@ mod highlighted_lines;
 mod overrides;
 mod reporter;
 
-pub use error_chain::write_error_chain;
+pub use error_chain::DisplayErrorChain;
 pub use fmt_style::{FmtPrefix, FmtSuffix};
 pub use header::{OutputHeader, OutputName};
 pub use overrides::OutputDisplayOverrides;

@@ -1,15 +1,11 @@
 //! How a reporter is configured.
 
 ghost use Rattle.std.specs.Prelude.{◌≡◌, IfOk, [], None, Some};
-ghost use Rattle.console_reporter.specs.Accepted.{decider_of};
-ghost use Rattle.console_reporter.specs.Configuration.{configured, configured_in, configured_with_store, default_builder, settings_of};
-ghost use Rattle.console_reporter.specs.HeldState.{StandsAfter};
-ghost use Rattle.console_reporter.specs.OptionalStore.{config_of};
+ghost use Rattle.console_reporter.specs.Names.{decider_of, configured, configured_in, configured_with_store, default_builder, settings_of, StandsAfter, config_of};
 ghost use Rattle.text_parts.specs.Settings.{overrides_by};
 
 use super::reporter::DisplayReporter;
 use super::store::Store;
-use plain_text::write_str::WriteStr;
 use reporter_state::decider::OutputLoadDecider;
 use run_model::config::{
     CompiledDefaultFilter, CompiledDefaultFilterSection, NextestRunMode, TestOutputDisplay,
@@ -22,6 +18,7 @@ use store_text::config::StoreConfig;
 use text_parts::settings::{Settings, counter_width_for, overrides_for, styles_for, theme_for};
 use unit_report::config::{DisplayConfig, ShowProgress};
 use unit_report::unit_output::{DisplayerKind, OutputDisplayOverrides, UnitOutputReporter};
+use writers::write_str::WriteStr;
 
 /// Where a report goes: nextest detects this by itself, and a caller of this library says it. By default it goes to a file: no
 /// terminal, no build machine, ASCII characters, and empty outputs are not shown.

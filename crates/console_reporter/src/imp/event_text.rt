@@ -1,20 +1,15 @@
 //! The text of an event. Each event's own text is in the crates `test_text`, `run_text` or `info_text`.
 
 ghost use Rattle.std.specs.Prelude.{◌≡◌, None, false, nat_lt};
-ghost use Rattle.plain_text.specs.Writer.{Puts};
+ghost use Rattle.writers.specs.Writer.{Puts};
 ghost use Rattle.run_names.specs.Levels.{reason_rank};
 ghost use Rattle.report_words.specs.Parts.{paint};
 ghost use Rattle.text_parts.specs.Script.{script_of};
-ghost use Rattle.reporter_state.specs.Effects.{IsFinishOf};
-ghost use Rattle.reporter_state.specs.Entries.{hiding_rank};
-ghost use Rattle.reporter_state.specs.Loads.{lacks_output};
-ghost use Rattle.reporter_state.specs.Refusals.{decider_by};
-ghost use Rattle.console_reporter.specs.HeldState.{known_by};
-ghost use Rattle.console_reporter.specs.Report.{end_of_run_text, event_text, listed_text, script_by};
+ghost use Rattle.reporter_state.specs.Names.{IsFinishOf, hiding_rank, lacks_output, decider_by};
+ghost use Rattle.console_reporter.specs.Names.{known_by, end_of_run_text, event_text, listed_text, script_by};
 
 use info_text::response::write_info_response;
 use info_text::start::{write_info_finished, write_info_started};
-use plain_text::write_str::{WriteFault, WriteStr};
 use reporter_state::finished_attempts::FinishedAttempts;
 use reporter_state::state::ReporterState;
 use run_model::command::CommandLine;
@@ -43,6 +38,7 @@ use test_text::test_started::{write_test_retry_started, write_test_started};
 use text_parts::script::ScriptInstance;
 use text_parts::settings::Settings;
 use unit_report::formatters::write_final_warnings;
+use writers::write_str::{WriteFault, WriteStr};
 
 /// Writes the text of an event: one arm for each kind, in the order of `event_text`. A test that it finishes is passed with it.
 #[tactic(auto, unfolding(crate::specs::Report::event_text))]

@@ -1,31 +1,16 @@
 //! The calls of a reporter.
 
 ghost use Rattle.std.specs.Prelude.{◌≡◌, ◌≤◌, ◌⊎◌, List, [], ◌∷◌, OnOk, IfErr, IfSome, IsErrOf, Err, None, Some, length, reverse, slice_get, take, false};
-ghost use Rattle.std.specs.Option.{option_map};
-ghost use Rattle.run_names.specs.Levels.{reason_rank};
-ghost use Rattle.plain_text.specs.Writer.{Puts, successor};
+ghost use Rattle.run_model.specs.Names.{reason_rank, ReportCall};
+ghost use Rattle.writers.specs.Writer.{Puts, successor};
 ghost use Rattle.report_words.specs.Parts.{paint};
-ghost use Rattle.run_text.specs.Header.{replay_header_text};
-ghost use Rattle.run_model.specs.declared.call.ReportCall.{ReportCall};
-ghost use Rattle.reporter_state.specs.declared.faults.WriteEventError.{WriteEventError};
-ghost use Rattle.console_reporter.specs.Configuration.{Configuration, settings_of};
-ghost use Rattle.reporter_state.specs.Refusals.{decider_by, event_refusal};
-ghost use Rattle.console_reporter.specs.Accepted.{AreAccepted, decider_of};
-ghost use Rattle.reporter_state.specs.Effects.{IsFinishOf};
-ghost use Rattle.reporter_state.specs.Loads.{lacks_output};
-ghost use Rattle.console_reporter.specs.Exactness.{IsExact};
-ghost use Rattle.reporter_state.specs.Refusals.{refusal_in};
-ghost use Rattle.console_reporter.specs.Outcomes.{IsOfConsole, Stops, error_for};
-ghost use Rattle.console_reporter.specs.Outcomes.Side.{Report, Records};
-ghost use Rattle.console_reporter.specs.Report.{event_text, past_at, text};
-ghost use Rattle.console_reporter.specs.OptionalStore.{config_of, store_accepts, store_delivered, store_meaning};
-ghost use Rattle.console_reporter.specs.Stored.{record_of};
-ghost use Rattle.console_reporter.specs.Telling.{AreDelivered, IsSameReporter, Breaks, Promises, Tells, TellsRun};
-ghost use Rattle.console_reporter.specs.HeldState.{StandsAfter, HasFailed, IsSameWriter, MayGrow, known_by};
+ghost use Rattle.console_reporter.specs.Names.{replay_header_text, Configuration, settings_of, AreAccepted, decider_of, IsExact, IsOfConsole, Stops, error_for, Report, Records, event_text, past_at};
+ghost use Rattle.console_reporter.specs.Names.{text, config_of, store_accepts, store_delivered, store_meaning, record_of, AreDelivered, IsSameReporter, Breaks, Promises, Tells, TellsRun, StandsAfter};
+ghost use Rattle.console_reporter.specs.Names.{HasFailed, IsSameWriter, MayGrow, known_by};
+ghost use Rattle.reporter_state.specs.Names.{WriteEventError, decider_by, event_refusal, refusal_in, IsFinishOf, lacks_output};
 
 use super::event_text::write_event_text;
 use super::store::Store;
-use plain_text::write_str::{WriteFault, WriteStr};
 use reporter_state::decider::OutputLoadDecider;
 use reporter_state::faults::{RunFault, WriteEventError};
 use reporter_state::finished_attempts::FinishedAttempts;
@@ -41,6 +26,7 @@ use std::mem;
 use store_text::config::StoreConfig;
 use test_text::test_finished::FinishedTest;
 use text_parts::settings::Settings;
+use writers::write_str::{WriteFault, WriteStr};
 
 /// Reports events to a writer, and writes a record of each finished test to a store, if it has one.
 ///
@@ -123,14 +109,12 @@ impl<'a, W: WriteStr, S: WriteStr> DisplayReporter<'a, W, S> {
         }
         match self.report_and_store(event) {
             Ok(()) => Ok(()),
-            Err(error) => {
-                self.state.has_failed = true;
-                Err(error)
-            }
+            Err(error) => Err(self.state.fail(error)),
         }
     }
 
     // The error of a call that does nothing: the reporter has failed, or the event is refused.
+    #[inline(always)]
     fn early_error(&self, event: &TestEvent<'_>) -> Option<WriteEventError>
         ensures kept { IfSome result (λ e. Promises W.meaning S.meaning self.now (Some (ReportCall.Event event.now)) (Err e) self.now) }
         ensures works { result ≡ None → self.now.state.has_failed ≡ false }
@@ -143,6 +127,7 @@ impl<'a, W: WriteStr, S: WriteStr> DisplayReporter<'a, W, S> {
         self.refusal_of(event)
     }
 
+    #[inline(always)]
     fn refusal_of(&self, event: &TestEvent<'_>) -> Option<WriteEventError>
         ensures refusal { result ≡ event_refusal (decider_by self.now.state.settings (config_of self.now.store)) event.now.kind }
         ensures told { IfSome result (λ e. refusal_in e ≡ Some e) }
@@ -170,6 +155,7 @@ impl<'a, W: WriteStr, S: WriteStr> DisplayReporter<'a, W, S> {
     }
 
     // Looks at a test that finishes once, for its text and its entry.
+    #[inline(always)]
     fn report(&mut self, event: &TestEvent<'_>) -> Result<(), WriteEventError>
         requires { lacks_output (decider_by self.old.state.settings None) event.now.kind ≡ false }
         ensures same_writer { IsSameWriter self.old self.new }
@@ -278,15 +264,11 @@ impl<'a, W: WriteStr, S: WriteStr> DisplayReporter<'a, W, S> {
             return Err(WriteEventError::Failed);
         }
         if let Err(fault) = deliver_header(self.writer, &self.state.settings, header) {
-            self.state.has_failed = true;
-            return Err(error_of(fault));
+            return Err(self.state.fail(error_of(fault)));
         }
         match self.flush_store() {
             Ok(()) => Ok(()),
-            Err(fault) => {
-                self.state.has_failed = true;
-                Err(store_error_of(fault))
-            }
+            Err(fault) => Err(self.state.fail(store_error_of(fault))),
         }
     }
 
@@ -327,10 +309,7 @@ impl<'a, W: WriteStr, S: WriteStr> DisplayReporter<'a, W, S> {
                 self.set_run_id_unique_prefix(prefix);
                 Ok(())
             }
-            Err(OutOfMemory) => {
-                self.state.has_failed = true;
-                Err(WriteEventError::Memory)
-            }
+            Err(OutOfMemory) => Err(self.state.fail(WriteEventError::Memory)),
         }
     }
 
@@ -349,31 +328,12 @@ impl<'a, W: WriteStr, S: WriteStr> DisplayReporter<'a, W, S> {
             return Err(WriteEventError::Failed);
         }
         if let Err(fault) = self.writer.write_str_flush() {
-            self.state.has_failed = true;
-            return Err(error_of(fault));
+            return Err(self.state.fail(error_of(fault)));
         }
         match self.flush_store() {
             Ok(()) => Ok(()),
-            Err(fault) => {
-                self.state.has_failed = true;
-                Err(store_error_of(fault))
-            }
+            Err(fault) => Err(self.state.fail(store_error_of(fault))),
         }
-    }
-
-    /// Gives the writers back as they are: that of the report, and that of the store, if there is one.
-    ///
-    /// ```
-    /// reporter.write_event(&event)?;
-    /// let (writer, _) = reporter.into_writers();
-    /// writer.write_str("done\n")?;
-    /// ```
-    pub fn into_writers(self) -> (&'a mut W, Option<&'a mut S>)
-        ensures writer { result.0 ≡ self.entry.writer }
-        ensures store { result.1 ≡ option_map (λ s. s.writer) self.entry.store }
-    {
-        let (writer, store) = self.into_parts();
-        (writer, store.map(|store| store.writer))
     }
 
     /// Returns the writer and the store as they are.

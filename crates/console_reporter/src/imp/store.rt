@@ -1,13 +1,13 @@
 //! A store: the second writer of a reporter, which takes a record of each finished test.
 
 ghost use Rattle.std.specs.Prelude.{◌≡◌, OnOk, Some};
-ghost use Rattle.plain_text.specs.Writer.{Puts};
+ghost use Rattle.writers.specs.Writer.{Puts};
 ghost use Rattle.console_reporter.specs.Stored.{record_of};
 
-use plain_text::write_str::{WriteFault, WriteStr};
 use run_model::event::{TestEvent, TestEventKind};
 use store_text::config::StoreConfig;
 use store_text::record::write_record;
+use writers::write_str::{WriteFault, WriteStr};
 
 /// The second writer of a reporter, and what it keeps.
 #[derive(Drop)]

@@ -3,19 +3,19 @@
 ghost use Rattle.std.specs.Prelude.{◌≡◌, ◌∷◌, IfOk, Some, map, string_bytes};
 ghost use Rattle.report_text.specs.Instance.{script_text};
 ghost use Rattle.report_text.specs.Quoting.{shell_words};
-ghost use Rattle.plain_text.specs.Writer.{Puts};
+ghost use Rattle.writers.specs.Writer.{Puts};
 
 use crate::helpers::instance::write_stress_prefix;
 use crate::helpers::quoting::{CommandWord, write_shell_command};
-use plain_text::show_written;
-use plain_text::style::{Style, plain, write_parts};
-use plain_text::write_str::{WriteFault, WriteStr};
 use run_model::memory::OutOfMemory;
 use run_model::name::ScriptId;
 use run_model::stress::StressIndex;
 use std::alloc::Global;
 use std::fmt;
 use std::fmt::Formatter;
+use styled_text::style::{Style, plain, write_parts};
+use writers::show_written;
+use writers::write_str::{WriteFault, WriteStr};
 
 /// A setup script as a report shows it: its iteration of a stress run, if there is one, its id and its command as a
 /// shell reads it.
@@ -72,7 +72,7 @@ impl DisplayScriptInstance {
         }
     }
 
-    /// Writes what it shows.
+    /// Writes the script.
     #[tactic(auto, unfolding(crate::specs::Instance::script_text))]
     pub fn write_to<W: WriteStr>(&self, w: &mut W) -> Result<(), WriteFault>
         ensures { Puts W.meaning w.old (script_text self.now.script_id_style self.now.count_style self.now.stress_index self.now.script_id (string_bytes self.now.full_command)) result w.new }

@@ -6,7 +6,6 @@ use crate::testing::{Answers, line_builder, make_calls, retried_success, write_e
 use console_reporter::imp::{
     DisplayReporterBuilder, ReportCall, RunFault, Store, Surroundings, WriteEventError,
 };
-use plain_text::write_str::TextBuffer;
 use run_model::event::TestEvent;
 use run_model::level::StatusLevel;
 use run_model::memory::OutOfMemory;
@@ -15,6 +14,7 @@ use std::alloc::Global;
 use std::mem;
 use std::test::Fail;
 use test_devices::{BYTES_AT_ONCE, Device, Failure};
+use writers::write_str::TextBuffer;
 
 // Which writer's device fails, and whether there is a store.
 #[derive(Clone, Copy, PartialEq, Eq)]
@@ -149,7 +149,7 @@ impl Fault {
         let mut reporter = builder.build_in(alloc, &mut report, store, Surroundings::default());
         let answer = write_event(&mut reporter, refused);
         let answers = make_calls(alloc, &mut reporter, calls);
-        let _writers = reporter.into_writers();
+        let _parts = reporter.into_parts();
         let is_refused = answer == Err(WriteEventError::RetriedSuccess);
         Ok((Devices::under(report, records), is_refused, answers))
     }

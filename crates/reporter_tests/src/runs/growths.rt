@@ -4,7 +4,6 @@
 use super::{ALL_OUTPUT, Texts, Trial, begin, front_len, run_alone, run_with_store, try_runs};
 use crate::testing::{Answers, line_builder, make_call, make_calls};
 use console_reporter::imp::{DisplayReporterBuilder, ReportCall, RunFault, WriteEventError};
-use plain_text::write_str::{TextBuffer, WriteStr};
 use run_model::level::StatusLevel;
 use run_model::memory::OutOfMemory;
 use run_model::run_id::ShortestRunIdPrefix;
@@ -12,6 +11,7 @@ use std::alloc::Global;
 use std::mem;
 use std::test::Fail;
 use test_devices::Device;
+use writers::write_str::{TextBuffer, WriteStr};
 
 // How a run is made: by one call, without a store and with one, or call by call.
 #[derive(Clone, Copy, PartialEq, Eq)]
@@ -55,7 +55,7 @@ fn make_each<W: WriteStr, S: WriteStr>(
         alloc, report, records, ALL_OUTPUT, false, false, false, false,
     );
     let answers = make_calls(alloc, &mut reporter, calls);
-    let _writers = reporter.into_writers();
+    let _parts = reporter.into_parts();
     answers
 }
 
@@ -180,7 +180,7 @@ fn run_after(
     );
     let copied = make_call(alloc, &mut reporter, prefix);
     let answers = make_calls(alloc, &mut reporter, calls);
-    let _writers = reporter.into_writers();
+    let _parts = reporter.into_parts();
     let Err(fault) = copied else {
         return judge(
             texts,

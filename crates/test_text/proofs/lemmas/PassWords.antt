@@ -1,10 +1,9 @@
 -- The words of most tests, in their columns (for `write_success_word`, `write_failure_word`).
 use Rattle.std.proofs.Common.{ℕ, ◌≡◌, ◌<◌, [], ◌∷◌, false, codes, lit<, refl}
-use Rattle.std.specs.Str.{chars}
+use Rattle.styled_text.specs.Names.{chars, right_in}
 use Rattle.std.proofs.lemmas.Str.{chars-IsAscii}
 use Rattle.run_model.specs.declared.status.ExecutionResultDescription.TheVariants as outcome
-use Rattle.plain_text.specs.Texts.{right_in}
-use Rattle.plain_text.proofs.lemmas.Decimals.{IsAscii-cons, IsAscii-none}
+use Rattle.styled_text.proofs.lemmas.Decimals.{IsAscii-cons, IsAscii-none}
 use Rattle.text_parts.specs.ResultWords.{success_word}
 
 -- four characters of ASCII in twelve columns

@@ -1,13 +1,14 @@
 //! Texts and tests that are cut: wide, combining and control characters at the cut, sequences, and parts that meet.
 
-use plain_text::fitting::{WriteText, count_columns, write_fitted};
-use plain_text::style::ListStyles;
-use plain_text::write_str::{WriteFault, WriteStr};
 use report_text::helpers::DisplayTestInstance;
 use report_text::helpers::instance::DisplayCounterIndex;
 use run_model::name::OwnedTestInstanceId;
 use std::alloc::Global;
 use std::test::Fail;
+use styled_text::fitting::{count_columns, write_fitted};
+use styled_text::style::ListStyles;
+use writers::text::WriteText;
+use writers::write_str::{WriteFault, WriteStr};
 
 /// Words, as a text.
 #[derive(Clone, Copy)]

@@ -1,8 +1,8 @@
 //! Indented texts: whole, character by character, and in two levels.
 
-use plain_text::indenter::{DisplayIndented, indented};
-use plain_text::write_str::{WriteFault, WriteStr};
 use std::test::Fail;
+use styled_text::indenter::{DisplayIndented, indented};
+use writers::write_str::{WriteFault, WriteStr};
 
 // Writes a text indented, character by character.
 fn write_by_characters<W: WriteStr>(w: &mut W, text: &str) -> Result<(), WriteFault> {

@@ -1,10 +1,10 @@
 //! Devices that fail, at each of their calls and with errors of each kind, or whose calls are interrupted.
 
-use plain_text::write_str::{CAPACITY, RetryInterrupted, TextBuffer, WriteFault, WriteStr};
 use std::alloc::Global;
 use std::io::{ErrorKind, Write};
 use std::test::Fail;
 use test_devices::{BYTES_AT_ONCE, Device, Failure};
+use writers::write_str::{CAPACITY, RetryInterrupted, TextBuffer, WriteFault, WriteStr};
 
 const TEXT: &str = "a text of several writes";
 

@@ -1,17 +1,17 @@
 //! Durations as the lines of a report show them.
 
 ghost use Rattle.std.specs.Prelude.{Some};
-ghost use Rattle.plain_text.specs.Numbers.{seconds};
-ghost use Rattle.plain_text.specs.Writer.{Puts};
+ghost use Rattle.styled_text.specs.Names.{seconds, Puts};
 ghost use Rattle.unit_report.specs.Durations.{bracketed_clock, bracketed_duration, duration_by, slow_duration};
 
-use plain_text::numbers::{write_bracketed_seconds, write_seconds_between};
-use plain_text::show_written;
-use plain_text::write_str::{WriteFault, WriteStr};
 use report_words::durations::write_clock_between;
 use run_model::time::Nanos;
 use std::fmt;
 use std::fmt::Formatter;
+use styled_text::numbers::{write_bracketed_seconds, write_seconds_between};
+use writers::show_written;
+use writers::text::WriteText;
+use writers::write_str::{WriteFault, WriteStr};
 
 /// A duration between brackets, and a space: seconds with three decimals, right-aligned in eight columns.
 ///
@@ -23,13 +23,12 @@ use std::fmt::Formatter;
 #[derive(Clone, Copy)]
 pub struct DisplayBracketedDuration(pub Nanos);
 
-impl DisplayBracketedDuration {
-    /// Writes the duration.
+impl WriteText for DisplayBracketedDuration {
+    ghost text = { λ d. bracketed_duration d.0.0 };
+
     #[inline(always)]
     #[tactic(auto, unfolding(crate::specs::Durations::bracketed_duration))]
-    pub fn write_to<W: WriteStr>(&self, w: &mut W) -> Result<(), WriteFault>
-        ensures { Puts W.meaning w.old (bracketed_duration self.now.0.0) result w.new }
-    {
+    fn write_to<W: WriteStr>(&self, w: &mut W) -> Result<(), WriteFault> {
         let Nanos(nanos) = self.0;
         write_bracketed_seconds(w, nanos)
     }
@@ -52,12 +51,11 @@ impl fmt::Display for DisplayBracketedDuration {
 #[derive(Clone, Copy)]
 pub struct DisplayBracketedHhMmSs(pub Nanos);
 
-impl DisplayBracketedHhMmSs {
-    /// Writes the duration.
+impl WriteText for DisplayBracketedHhMmSs {
+    ghost text = { λ d. bracketed_clock d.0.0 };
+
     #[tactic(auto, unfolding(crate::specs::Durations::bracketed_clock))]
-    pub fn write_to<W: WriteStr>(&self, w: &mut W) -> Result<(), WriteFault>
-        ensures { Puts W.meaning w.old (bracketed_clock self.now.0.0) result w.new }
-    {
+    fn write_to<W: WriteStr>(&self, w: &mut W) -> Result<(), WriteFault> {
         let Nanos(nanos) = self.0;
         write_clock_between(w, "[", 9, nanos / 1_000_000_000, "] ")
     }
@@ -79,12 +77,11 @@ impl fmt::Display for DisplayBracketedHhMmSs {
 #[derive(Clone, Copy)]
 pub struct DisplayDurationBy(pub Nanos);
 
-impl DisplayDurationBy {
-    /// Writes the duration.
+impl WriteText for DisplayDurationBy {
+    ghost text = { λ d. duration_by d.0.0 };
+
     #[tactic(auto, unfolding(crate::specs::Durations::duration_by))]
-    pub fn write_to<W: WriteStr>(&self, w: &mut W) -> Result<(), WriteFault>
-        ensures { Puts W.meaning w.old (duration_by self.now.0.0) result w.new }
-    {
+    fn write_to<W: WriteStr>(&self, w: &mut W) -> Result<(), WriteFault> {
         let Nanos(nanos) = self.0;
         write_seconds_between(w, "by ", 7, nanos, "s ")
     }
@@ -106,12 +103,11 @@ impl fmt::Display for DisplayDurationBy {
 #[derive(Clone, Copy)]
 pub struct DisplaySlowDuration(pub Nanos);
 
-impl DisplaySlowDuration {
-    /// Writes the duration.
+impl WriteText for DisplaySlowDuration {
+    ghost text = { λ d. slow_duration d.0.0 };
+
     #[tactic(auto, unfolding(crate::specs::Durations::slow_duration))]
-    pub fn write_to<W: WriteStr>(&self, w: &mut W) -> Result<(), WriteFault>
-        ensures { Puts W.meaning w.old (slow_duration self.now.0.0) result w.new }
-    {
+    fn write_to<W: WriteStr>(&self, w: &mut W) -> Result<(), WriteFault> {
         let Nanos(nanos) = self.0;
         write_seconds_between(w, "[>", 7, nanos, "s] ")
     }

@@ -1,15 +1,16 @@
 //! The word for a unit.
 
 ghost use Rattle.std.specs.Prelude.{◌≡◌, Some};
-ghost use Rattle.plain_text.specs.Writer.{Puts};
+ghost use Rattle.writers.specs.Writer.{Puts};
 ghost use Rattle.unit_report.specs.UnitKind.{unit_word};
 
-use plain_text::show_written;
-use plain_text::write_str::{WriteFault, WriteStr};
 use run_model::config::NextestRunMode;
 use run_model::unit::UnitKind;
 use std::fmt;
 use std::fmt::Formatter;
+use writers::show_written;
+use writers::text::WriteText;
+use writers::write_str::{WriteFault, WriteStr};
 
 /// The word for a unit: "test", in benchmark mode "benchmark", or "script".
 ///
@@ -27,17 +28,9 @@ pub struct DisplayUnitKind {
 impl DisplayUnitKind {
     /// The word for a unit in a run of this mode.
     pub fn new(mode: NextestRunMode, kind: UnitKind) -> DisplayUnitKind
-        ensures mode { result.mode ≡ mode }
-        ensures kind { result.kind ≡ kind }
+        ensures { result ≡ record { mode = mode; kind = kind } }
     {
         DisplayUnitKind { mode, kind }
-    }
-
-    /// Writes the word.
-    pub fn write_to<W: WriteStr>(&self, w: &mut W) -> Result<(), WriteFault>
-        ensures { Puts W.meaning w.old (unit_word self.now.mode self.now.kind) result w.new }
-    {
-        w.write_str(self.word())
     }
 
     #[tactic(auto, unfolding(crate::specs::UnitKind::unit_word))]
@@ -49,6 +42,14 @@ impl DisplayUnitKind {
             (UnitKind::Test, NextestRunMode::Test) => "test",
             (UnitKind::Test, NextestRunMode::Benchmark) => "benchmark",
         }
+    }
+}
+
+impl WriteText for DisplayUnitKind {
+    ghost text = { λ d. unit_word d.mode d.kind };
+
+    fn write_to<W: WriteStr>(&self, w: &mut W) -> Result<(), WriteFault> {
+        w.write_str(self.word())
     }
 }
 

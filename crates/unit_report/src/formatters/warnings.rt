@@ -1,15 +1,17 @@
 //! Warnings of tests that a run left out.
 
-ghost use Rattle.plain_text.specs.Writer.{Puts};
+ghost use Rattle.writers.specs.Writer.{Puts};
 ghost use Rattle.report_words.specs.Parts.{paint};
-ghost use Rattle.unit_report.specs.Warnings.{due_to, final_warnings, hint_after, not_run_count, not_run_warning, options_hint, warning_of};
+ghost use Rattle.unit_report.specs.Warnings.{due_to, final_warnings, hint_after, not_run_warning, options_hint, warning_of};
 
-use plain_text::style::{Styles, write_plain};
-use plain_text::write_str::{WriteFault, WriteStr};
 use report_words::plural::{tests_plural_if, were_plural_if};
 use run_model::config::NextestRunMode;
 use run_model::level::CancelReason;
 use run_model::stats::{FinalRunStats, RunStatsFailureKind};
+use styled_text::style::Styles;
+use styled_text::text::{Number, Toned};
+use writers::text::{Unless, WriteText};
+use writers::write_str::{WriteFault, WriteStr};
 
 /// Writes a warning line about tests that were not run; nothing if all ran, or if a setup script failed.
 ///
@@ -57,7 +59,7 @@ fn write_warning<W: WriteStr>(
     }
 }
 
-#[tactic(auto, unfolding(crate::specs::Warnings::not_run_warning))]
+#[tactic(auto, unfolding(crate::specs::Warnings::not_run_warning, crate::specs::Warnings::not_run_count))]
 fn write_not_run_warning<W: WriteStr>(
     w: &mut W,
     styles: &Styles,
@@ -68,69 +70,67 @@ fn write_not_run_warning<W: WriteStr>(
 ) -> Result<(), WriteFault>
     ensures { Puts W.meaning w.old (paint styles.now (not_run_warning mode reason initial not_run)) result w.new }
 {
-    if not_run == 0 {
-        return Ok(());
-    }
-    styles.skip.write(w, "warning")?;
-    write_plain(w, ": ")?;
-    write_not_run_count(w, styles, mode, initial, not_run)?;
-    write_due_to(w, styles, reason)?;
-    write_hint_after(w, styles, reason)?;
-    write_plain(w, "\n")
-}
-
-#[tactic(auto, unfolding(crate::specs::Warnings::not_run_count))]
-fn write_not_run_count<W: WriteStr>(
-    w: &mut W,
-    styles: &Styles,
-    mode: NextestRunMode,
-    initial: usize,
-    not_run: usize,
-) -> Result<(), WriteFault>
-    ensures { Puts W.meaning w.old (paint styles.now (not_run_count mode initial not_run)) result w.new }
-{
     let plural = !(not_run == 1 && initial == 1);
-    styles.count.write_number(w, not_run as u128)?;
-    write_plain(w, "/")?;
-    styles.count.write_number(w, initial as u128)?;
-    write_plain(w, " ")?;
-    write_plain(w, tests_plural_if(mode, plural))?;
-    write_plain(w, " ")?;
-    write_plain(w, were_plural_if(plural))?;
-    write_plain(w, " not run")
+    let (tests, were) = (tests_plural_if(mode, plural), were_plural_if(plural));
+    let (not_run_count, initial) = (
+        Number(styles.count, not_run as u128),
+        Number(styles.count, initial as u128),
+    );
+    let count = (
+        not_run_count,
+        "/",
+        initial,
+        " ",
+        tests,
+        (" ", were, " not run"),
+    );
+    let warning = (
+        Toned(styles.skip, "warning"),
+        ": ",
+        count,
+        DueTo { styles, reason },
+        Hint { styles, reason },
+        "\n",
+    );
+    Unless(not_run == 0, warning).write_to(w)
 }
 
-#[tactic(auto, unfolding(crate::specs::Warnings::due_to))]
-fn write_due_to<W: WriteStr>(
-    w: &mut W,
-    styles: &Styles,
+#[derive(Clone, Copy)]
+struct DueTo<'a> {
+    styles: &'a Styles,
     reason: Option<CancelReason>,
-) -> Result<(), WriteFault>
-    ensures { Puts W.meaning w.old (paint styles.now (due_to reason)) result w.new }
-{
-    match reason {
-        None => Ok(()),
-        Some(reason) => {
-            write_plain(w, " due to ")?;
-            styles.skip.write(w, reason.as_str())
+}
+
+impl WriteText for DueTo<'_> {
+    ghost text = { λ d. paint d.styles.now (due_to d.reason) };
+
+    #[tactic(auto, unfolding(crate::specs::Warnings::due_to))]
+    fn write_to<W: WriteStr>(&self, w: &mut W) -> Result<(), WriteFault> {
+        match self.reason {
+            None => Ok(()),
+            Some(reason) => (" due to ", Toned(self.styles.skip, reason.as_str())).write_to(w),
         }
     }
 }
 
-// Names the options that would run all tests, if a test's failure ended the run.
-#[tactic(auto, unfolding(crate::specs::Warnings::hint_after))]
-fn write_hint_after<W: WriteStr>(
-    w: &mut W,
-    styles: &Styles,
+// The options that would run all tests, if a test's failure ended the run.
+#[derive(Clone, Copy)]
+struct Hint<'a> {
+    styles: &'a Styles,
     reason: Option<CancelReason>,
-) -> Result<(), WriteFault>
-    ensures { Puts W.meaning w.old (paint styles.now (hint_after reason)) result w.new }
-{
-    match reason {
-        Some(CancelReason::TestFailure | CancelReason::TestFailureImmediate) => {
-            write_options_hint(w, styles)
+}
+
+impl WriteText for Hint<'_> {
+    ghost text = { λ h. paint h.styles.now (hint_after h.reason) };
+
+    #[tactic(auto, unfolding(crate::specs::Warnings::hint_after))]
+    fn write_to<W: WriteStr>(&self, w: &mut W) -> Result<(), WriteFault> {
+        match self.reason {
+            Some(CancelReason::TestFailure | CancelReason::TestFailureImmediate) => {
+                write_options_hint(w, self.styles)
+            }
+            _ => Ok(()),
         }
-        _ => Ok(()),
     }
 }
 
@@ -138,9 +138,12 @@ fn write_hint_after<W: WriteStr>(
 fn write_options_hint<W: WriteStr>(w: &mut W, styles: &Styles) -> Result<(), WriteFault>
     ensures { Puts W.meaning w.old (paint styles.now options_hint) result w.new }
 {
-    write_plain(w, " (run with ")?;
-    styles.count.write(w, "--no-fail-fast")?;
-    write_plain(w, " to run all tests, or run with ")?;
-    styles.count.write(w, "--max-fail")?;
-    write_plain(w, ")")
+    (
+        " (run with ",
+        Toned(styles.count, "--no-fail-fast"),
+        " to run all tests, or run with ",
+        Toned(styles.count, "--max-fail"),
+        ")",
+    )
+        .write_to(w)
 }

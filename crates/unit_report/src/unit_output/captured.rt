@@ -5,33 +5,37 @@
 
 ghost use Rattle.std.specs.Prelude.{◌≡◌, true, false, take, drop, MatchOption};
 ghost use Rattle.run_model.specs.Outputs.{subslice_value};
-ghost use Rattle.plain_text.specs.Highlights.{highlight_end};
-ghost use Rattle.plain_text.specs.Writer.{Puts};
+ghost use Rattle.styled_text.specs.Names.{highlight_end, Puts};
 ghost use Rattle.unit_report.specs.Captured.{captured, coloured_output, highlight_stop, is_valid, part_value, reset_output};
 
 use super::highlighted_lines::write_highlighted_lines;
-use plain_text::reporter_helpers::highlight_end;
-use plain_text::stripped::write_stripped_text;
-use plain_text::style::{RESET_COLOR, Style, Styles, write_plain};
-use plain_text::trailing_newline::split_trailing_newline;
-use plain_text::write_str::{WriteFault, WriteStr};
 use run_model::output::ByteSubslice;
+use styled_text::reporter_helpers::highlight_end;
+use styled_text::stripped::write_stripped_text;
+use styled_text::style::{RESET_COLOR, Style, Styles, write_plain};
+use styled_text::trailing_newline::split_trailing_newline;
+use writers::text::WriteText;
+use writers::write_str::{WriteFault, WriteStr};
 
-/// Writes a text and highlights a part of it. A highlight that is not valid is left out.
-#[tactic(auto, unfolding(crate::specs::Captured::captured, crate::specs::Captured::plain_output))]
-pub(super) fn write_captured<W: WriteStr>(
-    w: &mut W,
-    styles: &Styles,
-    text: &str,
-    highlight: Option<ByteSubslice<'_>>,
-) -> Result<(), WriteFault>
-    ensures { Puts W.meaning w.old (captured styles.now text.now (subslice_value highlight.entry)) result w.new }
-{
-    if styles.is_colorized {
-        return write_coloured_output(w, styles.fail, text, highlight);
+/// A text with a part of it highlighted. A highlight that is not valid is left out.
+#[derive(Clone, Copy)]
+pub(super) struct Captured<'a> {
+    pub styles: &'a Styles,
+    pub text: &'a str,
+    pub highlight: Option<ByteSubslice<'a>>,
+}
+
+impl WriteText for Captured<'_> {
+    ghost text = { λ c. captured c.styles.now c.text.now (subslice_value c.highlight) };
+
+    #[tactic(auto, unfolding(crate::specs::Captured::captured, crate::specs::Captured::plain_output))]
+    fn write_to<W: WriteStr>(&self, w: &mut W) -> Result<(), WriteFault> {
+        if self.styles.is_colorized {
+            return write_coloured_output(w, self.styles.fail, self.text, self.highlight);
+        }
+        write_stripped_text(w, self.text)?;
+        w.write_str("\n")
     }
-    write_stripped_text(w, text)?;
-    w.write_str("\n")
 }
 
 #[tactic(auto, unfolding(crate::specs::Captured::coloured_output, crate::specs::Captured::highlighted_output))]
@@ -56,7 +60,6 @@ fn write_coloured_output<W: WriteStr>(
 }
 
 // Cuts a text before and after a highlight, if that is valid.
-#[tactic(auto, using(crate::proofs::lemmas::Highlights::highlight_laws))]
 fn split_highlight<'a>(
     text: &'a str,
     highlight: ByteSubslice<'_>,

@@ -1,68 +1,56 @@
 //! An error and its causes, as text.
 
-ghost use Rattle.std.specs.Prelude.{false, codes};
-ghost use Rattle.std.specs.List.{flat_map};
-ghost use Rattle.plain_text.specs.Indent.{indent};
-ghost use Rattle.plain_text.specs.Writer.{Puts};
-ghost use Rattle.unit_report.specs.ErrorChain.{cause_text, causes_text, error_chain_text};
+ghost use Rattle.styled_text.specs.Names.{flat_map, Puts};
+ghost use Rattle.unit_report.specs.ErrorChain.{cause_text, error_chain_text};
 
-use plain_text::indenter::indented;
-use plain_text::style::write_plain;
-use plain_text::write_str::{WriteFault, WriteStr};
 use run_model::abort::DescriptionText;
 use run_model::output::ErrorChain;
+use styled_text::text::IndentLater;
+use writers::text::{Unless, WriteText};
+use writers::write_str::{WriteFault, WriteStr};
 
-/// Writes the message, and below it each cause on a line of its own.
+/// The message, and below it each cause on a line of its own.
 ///
 /// ```
+/// use writers::text::WriteText;
 /// let causes = vec![in alloc; DescriptionText::new(alloc, "no such file")?]?;
 /// let chain = ErrorChain::new(alloc, DescriptionText::new(alloc, "cannot spawn")?, causes)?;
-/// write_error_chain(&mut out, &chain)?;
+/// DisplayErrorChain(&chain).write_to(&mut out)?;
 /// assert_eq!(out.as_str(), "cannot spawn\n  caused by:\n  - no such file");
 /// ```
-#[tactic(auto, unfolding(crate::specs::ErrorChain::error_chain_text))]
-pub fn write_error_chain<W: WriteStr>(w: &mut W, chain: &ErrorChain) -> Result<(), WriteFault>
-    ensures { Puts W.meaning w.old (error_chain_text chain.now) result w.new }
-{
-    w.write_str(chain.message())?;
-    write_causes(w, chain.causes())
+#[derive(Clone, Copy)]
+pub struct DisplayErrorChain<'a>(pub &'a ErrorChain);
+
+impl WriteText for DisplayErrorChain<'_> {
+    ghost text = { λ c. error_chain_text c.0.now };
+
+    #[tactic(auto, unfolding(crate::specs::ErrorChain::error_chain_text, crate::specs::ErrorChain::causes_text, writers::specs::Texts::plain))]
+    fn write_to<W: WriteStr>(&self, w: &mut W) -> Result<(), WriteFault> {
+        let causes = self.0.causes();
+        let below = Unless(causes.is_empty(), ("\n  caused by:", Causes(causes)));
+        (self.0.message(), below).write_to(w)
+    }
 }
 
-#[tactic(auto, unfolding(crate::specs::ErrorChain::causes_text))]
-fn write_causes<W: WriteStr>(w: &mut W, causes: &[DescriptionText]) -> Result<(), WriteFault>
-    ensures { Puts W.meaning w.old (causes_text causes.now) result w.new }
-{
-    if causes.is_empty() {
-        return Ok(());
-    }
-    write_plain(w, "\n  caused by:")?;
-    write_each_cause(w, causes)
-}
+#[derive(Clone, Copy)]
+struct Causes<'a>(&'a [DescriptionText]);
 
-fn write_each_cause<W: WriteStr>(w: &mut W, causes: &[DescriptionText]) -> Result<(), WriteFault>
-    ensures { Puts W.meaning w.old (flat_map cause_text causes.now) result w.new }
-{
-    for cause in causes {
-        write_cause(w, cause.as_str())?;
+impl WriteText for Causes<'_> {
+    ghost text = { λ c. flat_map cause_text c.0.now };
+
+    fn write_to<W: WriteStr>(&self, w: &mut W) -> Result<(), WriteFault> {
+        let Causes(causes) = *self;
+        for cause in causes {
+            write_cause(w, cause.as_str())?;
+        }
+        Ok(())
     }
-    Ok(())
 }
 
 // The later lines of a cause are aligned below its first.
-#[tactic(auto, unfolding(crate::specs::ErrorChain::cause_text))]
+#[tactic(auto, unfolding(crate::specs::ErrorChain::cause_text, writers::specs::Texts::plain))]
 fn write_cause<W: WriteStr>(w: &mut W, cause: &str) -> Result<(), WriteFault>
     ensures { Puts W.meaning w.old (cause_text cause.now) result w.new }
 {
-    write_plain(w, "\n  - ")?;
-    write_later_lines_indented(w, cause)
-}
-
-fn write_later_lines_indented<W: WriteStr>(w: &mut W, text: &str) -> Result<(), WriteFault>
-    ensures { Puts W.meaning w.old (indent (codes "    ") false text.now) result w.new }
-{
-    let mut out = indented(w).skip_initial();
-    let result = out.write_str(text);
-    let back = out.into_inner();
-    let _ = &*back;
-    result
+    ("\n  - ", IndentLater("    ", cause)).write_to(w)
 }

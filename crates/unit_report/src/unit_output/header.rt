@@ -1,13 +1,13 @@
 //! The line before a stream.
 
-ghost use Rattle.std.specs.Prelude.{◌≡◌, Some};
-ghost use Rattle.plain_text.specs.Style.{styled};
-ghost use Rattle.plain_text.specs.Writer.{Puts};
+ghost use Rattle.std.specs.Prelude.{◌≡◌};
 ghost use Rattle.unit_report.specs.Header.{bar_text, header_text, output_name_text};
 
-use plain_text::style::{Style, write_plain};
-use plain_text::write_str::{WriteFault, WriteStr};
 use report_words::theme::ThemeCharacters;
+use styled_text::style::Style;
+use styled_text::text::{Painted, Toned};
+use writers::text::WriteText;
+use writers::write_str::{WriteFault, WriteStr};
 
 /// What a header calls what follows it.
 #[derive(Clone, Copy, Debug, PartialEq, Eq)]
@@ -64,12 +64,11 @@ pub enum OutputHeader {
     },
 }
 
-impl OutputHeader {
-    /// Writes the header.
+impl WriteText for OutputHeader {
+    ghost text = { header_text };
+
     #[tactic(auto, unfolding(crate::specs::Header::header_text))]
-    pub fn write_to<W: WriteStr>(&self, w: &mut W) -> Result<(), WriteFault>
-        ensures { Puts W.meaning w.old (header_text self.now) result w.new }
-    {
+    fn write_to<W: WriteStr>(&self, w: &mut W) -> Result<(), WriteFault> {
         match *self {
             OutputHeader::Bars {
                 style,
@@ -77,45 +76,30 @@ impl OutputHeader {
                 left,
                 name,
                 right,
-            } => {
-                write_bar(w, style, theme_characters, left)?;
-                write_plain(w, " ")?;
-                style.write(w, name.as_str())?;
-                write_plain(w, " ")?;
-                write_bar(w, style, theme_characters, Some(right))
-            }
-            OutputHeader::Label { style, name } => {
-                style.write(w, name.as_str())?;
-                write_plain(w, ":")
-            }
+            } => (
+                Painted(style, Bar(theme_characters, left)),
+                " ",
+                Toned(style, name.as_str()),
+                " ",
+                Painted(style, Bar(theme_characters, Some(right))),
+            )
+                .write_to(w),
+            OutputHeader::Label { style, name } => (Toned(style, name.as_str()), ":").write_to(w),
         }
     }
 }
 
-fn write_bar<W: WriteStr>(
-    w: &mut W,
-    style: Style,
-    theme_characters: ThemeCharacters,
-    width: Option<usize>,
-) -> Result<(), WriteFault>
-    ensures { Puts W.meaning w.old (styled style (bar_text theme_characters width)) result w.new }
-{
-    match width {
-        None => style.write(w, " "),
-        Some(width) => write_hbar(w, style, theme_characters, width),
-    }
-}
+// A bar of the given number of characters, or a space.
+#[derive(Clone, Copy)]
+struct Bar(ThemeCharacters, Option<usize>);
 
-#[tactic(auto, unfolding(plain_text::specs::Style::styled))]
-fn write_hbar<W: WriteStr>(
-    w: &mut W,
-    style: Style,
-    theme_characters: ThemeCharacters,
-    width: usize,
-) -> Result<(), WriteFault>
-    ensures { Puts W.meaning w.old (styled style (bar_text theme_characters (Some width))) result w.new }
-{
-    w.write_str(style.prefix())?;
-    theme_characters.write_hbar(w, width)?;
-    w.write_str(style.suffix())
+impl WriteText for Bar {
+    ghost text = { λ b. bar_text b.0 b.1 };
+
+    fn write_to<W: WriteStr>(&self, w: &mut W) -> Result<(), WriteFault> {
+        match self.1 {
+            None => w.write_str(" "),
+            Some(width) => self.0.write_hbar(w, width),
+        }
+    }
 }

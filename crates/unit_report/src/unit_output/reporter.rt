@@ -1,28 +1,27 @@
 //! What is shown of the output of a test or a setup script.
 
 ghost use Rattle.std.specs.Prelude.{◌≡◌, ◌∷◌, ◌++◌, [], true};
-ghost use Rattle.std.specs.Option.{option_map, option_and_then};
+ghost use Rattle.styled_text.specs.Names.{option_map, option_and_then, indent, Puts};
 ghost use Rattle.run_model.specs.Outputs.{combined_part, has_loaded_output, is_loaded, stderr_part, stdout_part, subslice_value};
-ghost use Rattle.plain_text.specs.Indent.{indent};
-ghost use Rattle.plain_text.specs.Writer.{Puts};
 ghost use Rattle.unit_report.specs.Captured.{captured};
 ghost use Rattle.unit_report.specs.ErrorChain.{error_chain_text};
 ghost use Rattle.unit_report.specs.UnitOutput.{both_streams, child_output, errors_block, errors_text, execution_output, layout_of, not_captured_text, present_stream, shown_stream, split_text, stream_text};
 
 use super::DisplayerKind;
-use super::captured::write_captured;
-use super::error_chain::write_error_chain;
+use super::captured::Captured;
+use super::error_chain::DisplayErrorChain;
 use super::header::{OutputHeader, OutputName};
 use super::overrides::OutputDisplayOverrides;
-use plain_text::indenter::indented;
-use plain_text::style::{Part, Styles, write_parts, write_plain};
-use plain_text::write_str::{WriteFault, WriteStr};
 use run_model::boxed::Boxed;
 use run_model::output::{
     ByteSubslice, ChildExecutionOutputDescription, ChildOutputDescription, ChildSingleOutput,
     ErrorChain, Highlight, LiveSpec,
 };
 use run_model::unit::UnitKind;
+use styled_text::style::{Styles, write_plain};
+use styled_text::text::{Indent, Toned};
+use writers::text::WriteText;
+use writers::write_str::{WriteFault, WriteStr};
 
 /// How the output of a unit is laid out.
 #[derive(Clone, Copy, Debug)]
@@ -135,7 +134,7 @@ impl UnitOutputReporter {
                 streams.write_split(w, stdout, stderr, highlight)
             }
             ChildOutputDescription::Combined { output } => {
-                let part = combined_subslice(highlight);
+                let part = highlight.and_then(|it| it.combined_subslice());
                 streams.write_present(w, spec.combined_header, output, part)
             }
             ChildOutputDescription::NotLoaded => unreachable!(),
@@ -180,9 +179,9 @@ impl StreamWriter<'_> {
     ) -> Result<(), WriteFault>
         ensures { Puts W.meaning w.old (both_streams self.now.reporter.now self.now.styles.now (layout_of self.now.spec.now) stdout.now stderr.now (option_map (λ h. h.now) highlight.entry)) result w.new }
     {
-        let part = stdout_subslice(highlight);
+        let part = highlight.and_then(|it| it.stdout_subslice());
         self.write_stream(w, self.spec.stdout_header, OutputName::Stdout, stdout, part)?;
-        let part = stderr_subslice(highlight);
+        let part = highlight.and_then(|it| it.stderr_subslice());
         self.write_stream(w, self.spec.stderr_header, OutputName::Stderr, stderr, part)
     }
 
@@ -234,32 +233,13 @@ impl StreamWriter<'_> {
     ) -> Result<(), WriteFault>
         ensures { Puts W.meaning w.old (shown_stream self.now.styles.now self.now.spec.now.output_indent.now header output.now (subslice_value highlight.entry)) result w.new }
     {
-        header.write_to(w)?;
-        write_plain(w, "\n")?;
-        write_captured_indented(
-            w,
-            self.styles,
-            self.spec.output_indent,
-            output.as_str(),
+        let captured = Captured {
+            styles: self.styles,
+            text: output.as_str(),
             highlight,
-        )
+        };
+        (header, "\n", Indent(self.spec.output_indent, captured)).write_to(w)
     }
-}
-
-fn write_captured_indented<W: WriteStr>(
-    w: &mut W,
-    styles: &Styles,
-    margin: &str,
-    text: &str,
-    highlight: Option<ByteSubslice<'_>>,
-) -> Result<(), WriteFault>
-    ensures { Puts W.meaning w.old (indent margin.now true (captured styles.now text.now (subslice_value highlight.entry))) result w.new }
-{
-    let mut out = indented(w).with_str(margin);
-    let result = write_captured(&mut out, styles, text, highlight);
-    let back = out.into_inner();
-    let _ = &*back;
-    result
 }
 
 #[tactic(auto, unfolding(crate::specs::UnitOutput::not_captured_text))]
@@ -270,16 +250,8 @@ fn write_not_captured<W: WriteStr>(
 ) -> Result<(), WriteFault>
     ensures { Puts W.meaning w.old (not_captured_text styles.now name) result w.new }
 {
-    write_parts(
-        w,
-        &[
-            Part::Plain("    ("),
-            Part::Plain(name.as_str()),
-            Part::Plain(" "),
-            Part::Styled(styles.skip, "not captured"),
-            Part::Plain(")\n"),
-        ],
-    )
+    let note = Toned(styles.skip, "not captured");
+    ("    (", name.as_str(), " ", note, ")\n").write_to(w)
 }
 
 #[tactic(auto, unfolding(crate::specs::UnitOutput::errors_text))]
@@ -296,7 +268,7 @@ fn write_errors<W: WriteStr>(
     }
 }
 
-#[tactic(auto, unfolding(crate::specs::UnitOutput::errors_block))]
+#[tactic(auto, unfolding(crate::specs::UnitOutput::errors_block, writers::specs::Texts::plain))]
 fn write_errors_block<W: WriteStr>(
     w: &mut W,
     spec: &ChildOutputSpec,
@@ -304,48 +276,8 @@ fn write_errors_block<W: WriteStr>(
 ) -> Result<(), WriteFault>
     ensures { Puts W.meaning w.old (errors_block (layout_of spec.now) chain.now) result w.new }
 {
-    spec.exec_fail_header.write_to(w)?;
-    write_plain(w, "\n")?;
-    write_chain_indented(w, spec.output_indent, chain)
-}
-
-fn write_chain_indented<W: WriteStr>(
-    w: &mut W,
-    margin: &str,
-    chain: &ErrorChain,
-) -> Result<(), WriteFault>
-    ensures { Puts W.meaning w.old (indent margin.now true (error_chain_text chain.now ++ 10 ∷ [])) result w.new }
-{
-    let mut out = indented(w).with_str(margin);
-    let result = write_chain_line(&mut out, chain);
-    let back = out.into_inner();
-    let _ = &*back;
-    result
-}
-
-fn write_chain_line<W: WriteStr>(w: &mut W, chain: &ErrorChain) -> Result<(), WriteFault>
-    ensures { Puts W.meaning w.old (error_chain_text chain.now ++ 10 ∷ []) result w.new }
-{
-    write_error_chain(w, chain)?;
-    w.write_str("\n")
-}
-
-fn stdout_subslice(highlight: Option<&Highlight>) -> Option<ByteSubslice<'_>>
-    ensures { subslice_value result ≡ option_and_then stdout_part (option_map (λ h. h.now) highlight.entry) }
-{
-    highlight?.stdout_subslice()
-}
-
-fn stderr_subslice(highlight: Option<&Highlight>) -> Option<ByteSubslice<'_>>
-    ensures { subslice_value result ≡ option_and_then stderr_part (option_map (λ h. h.now) highlight.entry) }
-{
-    highlight?.stderr_subslice()
-}
-
-fn combined_subslice(highlight: Option<&Highlight>) -> Option<ByteSubslice<'_>>
-    ensures { subslice_value result ≡ option_and_then combined_part (option_map (λ h. h.now) highlight.entry) }
-{
-    highlight?.combined_subslice()
+    let errors = Indent(spec.output_indent, (DisplayErrorChain(chain), "\n"));
+    (spec.exec_fail_header, "\n", errors).write_to(w)
 }
 
 fn highlight_of(highlight: &Option<Boxed<Highlight>>) -> Option<&Highlight>

@@ -1,4 +1,4 @@
-use Rattle.plain_text.proofs.lemmas.Steps.{owes_at_end}
+use Rattle.writers.proofs.lemmas.Steps.{owes_at_end}
 use Rattle.run_text.proofs.not_seen.write_listed.Goals as goal
 
 pub returns : goal.returns

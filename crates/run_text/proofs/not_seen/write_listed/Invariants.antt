@@ -1,6 +1,5 @@
 use Rattle.std.proofs.Common.{drop}
-use Rattle.std.specs.List.{flat_map}
-use Rattle.plain_text.specs.Writer.{Owes}
+use Rattle.styled_text.specs.Names.{flat_map, Owes}
 use Rattle.run_text.specs.NotSeen.{listed_line}
 use Rattle.run_text.proofs.not_seen.write_listed.Given as goal
 

@@ -1,5 +1,5 @@
 use Rattle.std.proofs.Common.{rules}
-use Rattle.plain_text.specs.StringWriter.{string_laws}
+use Rattle.writers.specs.StringWriter.{string_laws}
 use Rattle.console_reporter.specs.Configuration.{configured}
 use Rattle.console_reporter.proofs.lemmas.Runs.{runs_alone}
 use Rattle.console_reporter.proofs.imp.run.run_report.Goals as goal

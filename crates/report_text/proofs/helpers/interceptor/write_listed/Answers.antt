@@ -1,4 +1,4 @@
-use Rattle.plain_text.proofs.lemmas.Steps.{owes_at_end}
+use Rattle.writers.proofs.lemmas.Steps.{owes_at_end}
 use Rattle.report_text.proofs.helpers.interceptor.write_listed.Goals as goal
 
 pub returns : goal.returns

@@ -1,5 +1,5 @@
 use Rattle.report_text.proofs.lemmas.Commands.{next_word}
-use Rattle.plain_text.proofs.lemmas.Steps.{owes_accepted, owes_at_end, owes_stopped}
+use Rattle.writers.proofs.lemmas.Steps.{owes_accepted, owes_at_end, owes_stopped}
 use Rattle.report_text.proofs.helpers.quoting.write_words_after.Goals as goal
 
 pub returns-in_err-write_word_after : goal.returns-in_err-write_word_after

@@ -1,5 +1,5 @@
 use Rattle.std.proofs.Common.{rules}
-use Rattle.plain_text.proofs.lemmas.Steps.{owes_accepted, owes_stopped, owes_nothing}
+use Rattle.writers.proofs.lemmas.Steps.{owes_accepted, owes_stopped, owes_nothing}
 use Rattle.unit_report.proofs.lemmas.HighlightedLines.{lines-first, lines-ended}
 use Rattle.unit_report.proofs.unit_output.highlighted_lines.write_highlighted_lines.Goals as goal
 

@@ -1,7 +1,7 @@
 use Rattle.std.proofs.Common.{length}
 use denote.Text.{Utf8}
 use denote.Shadow.{shadow}
-use Rattle.plain_text.specs.Writer.{Owes}
+use Rattle.writers.specs.Writer.{Owes}
 use Rattle.unit_report.specs.HighlightedLines.{highlighted_lines}
 use Rattle.unit_report.proofs.unit_output.highlighted_lines.write_highlighted_lines.Given as goal
 

@@ -3,4 +3,4 @@ use Rattle.unit_report.proofs.unit_output.reporter.write_not_captured.Goals as g
 
 pub returns : goal.returns
 unfolding not_captured_text
-returns g c = rw (← c.as_str.ensures) c.write_parts.ensures
+returns g c = rw (← c.as_str.ensures) c.write_to.ensures

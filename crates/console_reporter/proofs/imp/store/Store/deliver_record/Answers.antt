@@ -1,4 +1,4 @@
-use Rattle.plain_text.proofs.lemmas.Flushes.{puts_flushed}
+use Rattle.writers.proofs.lemmas.Flushes.{puts_flushed}
 use Rattle.console_reporter.proofs.imp.store.Store.deliver_record.Goals as goal
 
 pub returns-clause-text : goal.returns-clause-text

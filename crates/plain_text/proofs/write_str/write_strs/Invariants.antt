@@ -1,8 +1,0 @@
-use Rattle.std.proofs.Common.{drop}
-use Rattle.plain_text.specs.Texts.{strs}
-use Rattle.plain_text.specs.Writer.{Owes}
-use Rattle.plain_text.proofs.write_str.write_strs.Given as goal
-
--- the texts that are left are owed
-abbrev pub invariant-loop-text : goal.invariant-loop-text
-invariant-loop-text g l = Owes g.W.WriteStr.meaning l.fn.w (strs l.texts) l.w (strs (drop l.text-index l.texts))

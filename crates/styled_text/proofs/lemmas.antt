@@ -1,0 +1,17 @@
+pub mod IndentedEndSpaces
+pub mod Blocks
+pub mod Chunked
+pub mod Closed
+pub mod Cuts
+pub mod Decimals
+pub mod TrailingNewlines
+pub mod Feeds
+pub mod FitMarks
+pub mod Fits
+pub mod FittedPuts
+pub mod IndentedCalls
+pub mod Indents
+pub mod LineSequences
+pub mod Marks
+pub mod Pieces
+pub mod Widths

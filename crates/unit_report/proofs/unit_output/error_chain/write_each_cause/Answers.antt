@@ -1,5 +1,0 @@
-use Rattle.plain_text.proofs.lemmas.Steps.{owes_at_end}
-use Rattle.unit_report.proofs.unit_output.error_chain.write_each_cause.Goals as goal
-
-pub returns : goal.returns
-returns g c = owes_at_end g.met.W.WriteStr.laws _ _ _ _ _ _ c.loop-cause-test.false c.loop-cause.invariant

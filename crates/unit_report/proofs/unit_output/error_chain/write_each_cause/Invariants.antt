@@ -1,9 +1,0 @@
-use Rattle.std.proofs.Common.{drop}
-use Rattle.std.specs.List.{flat_map}
-use Rattle.plain_text.specs.Writer.{Owes}
-use Rattle.unit_report.specs.ErrorChain.{cause_text}
-use Rattle.unit_report.proofs.unit_output.error_chain.write_each_cause.Given as goal
-
--- the remaining causes are owed
-abbrev pub invariant-loop-cause : goal.invariant-loop-cause
-invariant-loop-cause g l = Owes g.W.WriteStr.meaning l.fn.w (flat_map cause_text l.causes) l.w (flat_map cause_text (drop l.cause-index l.causes))

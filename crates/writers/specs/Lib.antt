@@ -1,0 +1,5 @@
+pub mod OnFormatter
+pub mod StringWriter
+pub mod TextBuffer
+pub mod Texts
+pub mod Writer

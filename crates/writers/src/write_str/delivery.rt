@@ -1,0 +1,21 @@
+//! What a device holds of the text that a `TextBuffer` accepted.
+
+ghost use Rattle.std.specs.Prelude.{◌≡◌, ℕ, [], List, Some};
+ghost use Rattle.writers.specs.TextBuffer.{buffer_meaning, Delivers, DeliversWithin, GrowsWithin};
+ghost use Rattle.writers.specs.declared.write_str.WriteFault.{WriteFault};
+ghost use Rattle.writers.specs.declared.write_str.text_buffer.TextBuffer.{TextBuffer};
+
+use std::io::Write;
+
+/// For a device whose bytes are known: it holds what it held, and what it took since. Followed by what is pending, that is what
+/// was pending and the text, or after a fault a prefix of the text. So if nothing was pending, a fault leaves on the
+/// device what it held and a prefix of the text.
+#[tactic(auto, using(crate::proofs::lemmas::Deliveries::accepted_delivers))]
+pub fn delivery_law<W: Write>()
+    ensures accepted { (a b : TextBuffer W) (old new text : List ℕ) → W.contents a.writer ≡ Some old → W.contents b.writer ≡ Some new →
+        (buffer_meaning W.contents).accepts a text b → Delivers old a.pending new b.pending text }
+    ensures stopped { (a b : TextBuffer W) (old new text : List ℕ) (fault : WriteFault) → W.contents a.writer ≡ Some old → W.contents b.writer ≡ Some new →
+        (buffer_meaning W.contents).stops a text fault b → DeliversWithin old a.pending new b.pending text }
+    ensures begins { (a b : TextBuffer W) (old new text : List ℕ) (fault : WriteFault) → W.contents a.writer ≡ Some old → W.contents b.writer ≡ Some new →
+        a.pending ≡ [] → (buffer_meaning W.contents).stops a text fault b → GrowsWithin old new text }
+{}
