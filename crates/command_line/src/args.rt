@@ -28,6 +28,8 @@ pub struct Options<'a> {
     pub store: Option<StoreOptions<'a>>,
     /// The file that holds the scene, or the folder that holds the recorded run.
     pub file: &'a str,
+    /// Whether the process ends with the report, which leaves its memory unfreed then. No word asks for it.
+    pub is_last: bool,
 }
 
 /// Where records go, and what they hold.
@@ -161,6 +163,7 @@ impl ArgsSoFar {
             status_level: self.level.unwrap_or(StatusLevel::Pass),
             store,
             file,
+            is_last: false,
         })
     }
 }

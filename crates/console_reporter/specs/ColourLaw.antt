@@ -1,7 +1,6 @@
 -- The law of colour: colour adds nothing that is visible, and takes nothing away.
 use Rattle.std.specs.Prelude.{◌≡◌, ℕ, List, Bool, true, false, reverse}
-use Rattle.plain_text.specs.EqualButEndSpaces.{IsEqualButEndSpaces}
-use Rattle.plain_text.specs.Escapes.{visible}
+use Rattle.styled_text.specs.Names.{IsEqualButEndSpaces, visible}
 use Rattle.console_reporter.specs.Configuration.{Configuration}
 use Rattle.console_reporter.specs.PlainCalls.{ArePlain, IsPlainConfiguration}
 use Rattle.console_reporter.specs.Report.{report, text_at}

@@ -1,12 +1,11 @@
 -- Isolation: a replay may skip every captured output that the load decider skips, and no byte changes.
 use Rattle.std.specs.Prelude.{◌≡◌, ℕ, List, reverse}
-use Rattle.reporter_state.specs.Refusals.{AreAcceptedBy, first_refused, refusal_at_by}
+use Rattle.reporter_state.specs.Names.{AreAcceptedBy, first_refused, refusal_at_by, OutputLoadDecider}
 use Rattle.console_reporter.specs.Accepted.{decider_of}
 use Rattle.console_reporter.specs.Configuration.{Configuration}
 use Rattle.console_reporter.specs.Report.{report, report_texts}
 use Rattle.console_reporter.specs.Stored.{records, stored}
 use Rattle.run_model.specs.declared.call.ReportCall.{ReportCall}
-use Rattle.reporter_state.specs.declared.decider.OutputLoadDecider.{OutputLoadDecider}
 
 -- For every configuration with this decider, each position of the calls without their skipped outputs has the text and
 -- the record of that position of the calls, so the report and what is stored are the same; calls that are accepted still are; the first call that is

@@ -16,3 +16,4 @@ pub mod OptionalStore
 pub mod Statistics
 pub mod Stored
 pub mod Telling
+pub mod Names

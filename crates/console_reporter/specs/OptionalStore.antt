@@ -1,7 +1,6 @@
 -- A store that may be absent, as a writer: an absent one takes every text and keeps none.
 use Rattle.std.specs.Prelude.{◌≡◌, ℕ, List, [], Option, None, Some}
-use Rattle.writers.specs.Writer.{Meaning}
-use Rattle.writers.specs.declared.write_str.WriteFault.{WriteFault}
+use Rattle.styled_text.specs.Names.{Meaning, WriteFault}
 use Rattle.store_text.specs.declared.config.StoreConfig.{StoreConfig}
 use Rattle.console_reporter.specs.declared.imp.store.Store.{Store}
 

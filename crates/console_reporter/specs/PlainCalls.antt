@@ -1,22 +1,14 @@
 -- What the laws need of a reporter's input for texts without escape characters.
 use Rattle.std.specs.Prelude.{Bool, List}
-use Rattle.std.specs.List.{AllByRecursion}
-use Rattle.run_model.specs.declared.event.TestEventKind.{TestEventKind}
+use Rattle.styled_text.specs.Names.{AllByRecursion, HasNoEscape, Text}
+use Rattle.run_model.specs.Names.{TestEventKind, ChildOutputDescription, LiveSpec, ExecuteStatus, ReportCall}
 use Rattle.run_model.specs.declared.event.TestEventKind.TheVariants.{RunStarted, SetupScriptStarted, SetupScriptSlow, SetupScriptFinished, TestStarted, TestSlow, TestAttemptFailedWillRetry, TestRetryStarted, TestFinished, TestSkipped, InfoResponse, RunFinished}
-use Rattle.run_model.specs.declared.output.ChildOutputDescription.{ChildOutputDescription}
-use Rattle.run_model.specs.declared.output.LiveSpec.{LiveSpec}
-use Rattle.run_model.specs.declared.status.ExecuteStatus.{ExecuteStatus}
-use Rattle.plain_text.specs.Escapes.{HasNoEscape}
 use Rattle.report_words.specs.PlainTexts.{IsPlainInstance}
-use Rattle.report_text.specs.PlainResults.{IsPlainResult}
-use Rattle.plain_text.specs.Texts.{Text}
-use Rattle.unit_report.specs.PlainOutputs.{IsPlainWritten}
-use Rattle.text_parts.specs.Script.{IsPlainScript}
+use Rattle.text_parts.specs.Names.{IsPlainResult, IsPlainWritten, IsPlainScript}
 use Rattle.run_text.specs.PlainRuns.{IsPlainHeader, IsPlainNotSeen, IsPlainPrefix, IsPlainScriptStatus}
 use Rattle.info_text.specs.PlainResponses.{IsPlainResponse}
 use Rattle.console_reporter.specs.Configuration.{Configuration}
 use Rattle.console_reporter.specs.Report.{script_by}
-use Rattle.run_model.specs.declared.call.ReportCall.{ReportCall}
 use Rattle.run_model.specs.declared.call.ReportCall.TheVariants.{Event, Header, Prefix}
 
 -- the name of the default filter's profile holds no escape character

@@ -1,6 +1,6 @@
 -- The law of plain reports: captured output brings no escape character into them.
 use Rattle.std.specs.Prelude.{◌≡◌, ℕ, List, false, reverse}
-use Rattle.plain_text.specs.Escapes.{HasNoEscape}
+use Rattle.styled_text.specs.Escapes.{HasNoEscape}
 use Rattle.console_reporter.specs.Configuration.{Configuration}
 use Rattle.console_reporter.specs.PlainCalls.{ArePlain, IsPlainConfiguration}
 use Rattle.console_reporter.specs.Report.{report, text_at}

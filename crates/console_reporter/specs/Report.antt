@@ -1,20 +1,11 @@
 -- The report: the text of each call, from the call, the configuration and the calls before it.
 use Rattle.std.specs.Prelude.{ℕ, Bool, false, List, [], ◌∷◌, ◌++◌, Option, nat_lt, reverse, take, slice_get}
-use Rattle.std.specs.Option.{option_map_or}
-use Rattle.run_model.specs.Stats.{final_stats_of_run}
-use Rattle.run_names.specs.UniquePrefixes.{UniquePrefix}
-use Rattle.run_model.specs.declared.event.TestEventKind.{TestEventKind}
+use Rattle.styled_text.specs.Names.{option_map_or, Text}
+use Rattle.run_model.specs.Names.{final_stats_of_run, UniquePrefix, TestEventKind, NotSeen, RunFinishedStats, StressIndex, ReportCall}
 use Rattle.run_model.specs.declared.event.TestEventKind.TheVariants.{RunStarted, StressSubRunStarted, SetupScriptStarted, SetupScriptSlow, SetupScriptFinished, TestStarted, TestSlow, TestAttemptFailedWillRetry, TestRetryStarted, TestFinished, TestSkipped, RunBeginCancel, RunBeginKill, RunPaused, RunContinued, InfoStarted, InfoResponse, InfoFinished, InputEnter, StressSubRunFinished, RunFinished}
-use Rattle.run_names.specs.declared.not_seen.NotSeen.{NotSeen}
-use Rattle.run_model.specs.declared.stats.RunFinishedStats.{RunFinishedStats}
-use Rattle.run_names.specs.declared.stress.StressIndex.{StressIndex}
-use Rattle.plain_text.specs.Texts.{Text}
-use Rattle.unit_report.specs.Warnings.{final_warnings}
-use Rattle.test_text.specs.TestFinished.{test_finish, test_finished_text}
-use Rattle.test_text.specs.TestRetry.{attempt_failed_text}
-use Rattle.test_text.specs.TestSkipped.{test_skipped_text}
-use Rattle.test_text.specs.TestSlow.{test_slow_text}
-use Rattle.test_text.specs.TestStarted.{test_retry_started_text, test_started_text}
+use Rattle.text_parts.specs.Names.{final_warnings, Script, Settings}
+use Rattle.reporter_state.specs.Names.{test_finish, test_finished_text, attempt_failed_text, test_skipped_text, test_slow_text, test_retry_started_text, test_started_text, cancel, entries_text}
+use Rattle.reporter_state.specs.Names.{final_order, hiding_rank, kept, prefix, FinalOutputEntry}
 use Rattle.run_text.specs.Cancel.{begin_cancel_text, begin_kill_text}
 use Rattle.run_text.specs.Header.{replay_header_text}
 use Rattle.run_text.specs.Input.{input_enter_text}
@@ -27,13 +18,8 @@ use Rattle.run_text.specs.Stress.{stress_sub_run_finished_text, stress_sub_run_s
 use Rattle.run_text.specs.Summary.{run_finished_text}
 use Rattle.info_text.specs.Response.{info_response_text}
 use Rattle.info_text.specs.Start.{info_finished_text, info_started_text}
-use Rattle.text_parts.specs.Script.{Script}
-use Rattle.text_parts.specs.declared.settings.Settings.{Settings}
 use Rattle.console_reporter.specs.Configuration.{Configuration, settings_of}
-use Rattle.reporter_state.specs.Entries.{cancel, entries_text, final_order, hiding_rank, kept, prefix}
-use Rattle.run_model.specs.declared.call.ReportCall.{ReportCall}
 use Rattle.run_model.specs.declared.call.ReportCall.TheVariants.{Event, Header, Prefix}
-use Rattle.reporter_state.specs.declared.final_output.FinalOutputEntry.{FinalOutputEntry}
 
 -- what a text may depend on of the calls before it: the prefix of the run's id, the rank of the reason, and the entries in order
 pub record Known : Type 0 where

@@ -1,7 +1,6 @@
 -- The one error that a program has for each fault.
-use Rattle.std.specs.declared.io.ErrorKind.{ErrorKind}
+use Rattle.styled_text.specs.Names.{ErrorKind, WriteFault}
 use Rattle.std.specs.declared.io.ErrorKind.TheVariants as kind
-use Rattle.writers.specs.declared.write_str.WriteFault.{WriteFault}
 use Rattle.writers.specs.declared.write_str.WriteFault.TheVariants as write
 use Rattle.console_reporter.specs.declared.error.ReportError.{ReportError}
 use Rattle.console_reporter.specs.declared.error.ReportError.TheVariants.{OutOfMemory, Io, Run}

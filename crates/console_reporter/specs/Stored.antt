@@ -1,12 +1,9 @@
 -- What a store keeps of a run: the record of each finished test, whatever the cancel reasons.
 use Rattle.std.specs.Prelude.{ℕ, List, [], ◌∷◌, ◌++◌, Option, None, Some, map, slice_get}
-use Rattle.std.specs.Option.{option_map_or}
-use Rattle.run_model.specs.declared.event.TestEventKind.{TestEventKind}
+use Rattle.styled_text.specs.Names.{option_map_or, Text}
+use Rattle.run_model.specs.Names.{TestEventKind, ReportCall}
 use Rattle.run_model.specs.declared.event.TestEventKind.TheVariants.{TestFinished}
-use Rattle.plain_text.specs.Texts.{Text}
-use Rattle.store_text.specs.Record.{record_text}
-use Rattle.store_text.specs.declared.config.StoreConfig.{StoreConfig}
-use Rattle.run_model.specs.declared.call.ReportCall.{ReportCall}
+use Rattle.reporter_state.specs.Names.{record_text, StoreConfig}
 use Rattle.run_model.specs.declared.call.ReportCall.TheVariants.{Event, Header, Prefix}
 
 -- the record of an event: only a finished test has one, and only with a store

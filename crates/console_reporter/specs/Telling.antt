@@ -1,8 +1,6 @@
 -- What one call does to the two writers of a reporter, and what calls in sequence do.
 use Rattle.std.specs.Prelude.{◌≡◌, ◌⊎◌, true, List, [], ◌∷◌, Option, None, Some, Result, Err, OnOk, IfErr}
-use Rattle.std.specs.Option.{is_some, option_and_then, option_map_or}
-use Rattle.plain_text.specs.Texts.{Text}
-use Rattle.writers.specs.Writer.{Meaning, successor}
+use Rattle.styled_text.specs.Names.{is_some, option_and_then, option_map_or, Text, Meaning, successor}
 use Rattle.console_reporter.specs.Configuration.{Configuration}
 use Rattle.console_reporter.specs.Accepted.{refusal}
 use Rattle.report_words.specs.Parts.{IsOfLines}
@@ -14,8 +12,7 @@ use Rattle.console_reporter.specs.HeldState.{HasFailed, MayGrowIn, StandsAfter}
 use Rattle.console_reporter.specs.Stored.{stored, stored_text}
 use Rattle.run_model.specs.declared.call.ReportCall.{ReportCall}
 use Rattle.run_model.specs.declared.call.ReportCall.TheVariants.{Event, Header, Prefix}
-use Rattle.reporter_state.specs.Refusals.{refusal_in}
-use Rattle.reporter_state.specs.declared.faults.WriteEventError.{WriteEventError}
+use Rattle.reporter_state.specs.Names.{refusal_in, WriteEventError}
 use Rattle.reporter_state.specs.declared.faults.WriteEventError.TheVariants.{Failed, Io, Memory, StoreIo}
 use Rattle.console_reporter.specs.declared.imp.reporter.DisplayReporter.{DisplayReporter}
 

@@ -11,8 +11,8 @@
 //! 2. This one: `imp::event_text` picks the function that writes the text. Those of tests are in `test_text`, of a run and of its setup scripts
 //!    in `run_text`, of responses of units in `info_text`.
 //! 3. They share what several events have, in `text_parts`; captured output, in `unit_report`; names and counters, in `report_text`
-//!    and `report_words`; styles, numbers and cut lines, in `plain_text`.
-//! 4. `plain_text`: the `TextBuffer` gathers the text and delivers it.
+//!    and `report_words`; styles, numbers and cut lines, in `styled_text`.
+//! 4. `styled_text`: the `TextBuffer` gathers the text and delivers it.
 //! 5. `reporter_state`: keeps what a later summary lists.
 //! 6. `store_text`: writes the record of a finished test, if there is a store, and delivers it.
 //!
@@ -30,7 +30,7 @@ pub mod error;
 pub mod imp;
 pub mod prelude;
 
-pub use plain_text::{escapes, indenter, reporter_helpers, style, write_str};
 pub use report_text::helpers;
 pub use run_model as model;
+pub use styled_text::{escapes, indenter, reporter_helpers, style, write_str};
 pub use unit_report::{config, formatters, unit_output};

@@ -15,7 +15,6 @@ pub use crate::imp::{
     run_report_with_store, unload_skipped,
 };
 pub use bytes::Bytes;
-pub use plain_text::indenter::indented;
 pub use run_model::abort::DescriptionText;
 pub use run_model::command::CommandLine;
 pub use run_model::config::{NextestRunMode, TestOutputDisplay};
@@ -32,6 +31,7 @@ pub use run_model::status::{
     ExecuteStatus, ExecutionResultDescription, ExecutionStatuses, FlakyResult, RetryData,
 };
 pub use run_model::time::Nanos;
+pub use styled_text::indenter::indented;
 pub use unit_report::config::{DisplayConfig, ShowProgress};
 pub use uuid::Uuid;
 pub use writers::write_str::{RetryInterrupted, TextBuffer, WriteStr};

@@ -40,6 +40,10 @@ fn run<'a>(rt: &HostRuntime, args: &'a mut Vec<String>) -> Result<RunOutcome, Fa
     let Some(options) = args_or_input(rt.alloc(), args)? else {
         return Err(Fault::Usage);
     };
+    let options = Options {
+        is_last: true,
+        ..options
+    };
     if options.file == "-" {
         // Without `/dev/stdin` it is not known which file it is.
         let input = fs::metadata(rt, "/dev/stdin").ok();

@@ -1,24 +1,21 @@
-//! The answer of a unit that is asked what it is doing.
+//! The response of a unit that is asked for its state.
 
 ghost use Rattle.std.specs.Prelude.{◌≡◌, ◌+◌, false};
-ghost use Rattle.plain_text.specs.Indent.{indent};
-ghost use Rattle.writers.specs.Writer.{Puts};
-ghost use Rattle.unit_report.specs.UnitOutput.{layout_of};
-ghost use Rattle.text_parts.specs.Script.{script_of};
-ghost use Rattle.plain_text.specs.Texts.{spaces};
+ghost use Rattle.styled_text.specs.Names.{indent, Puts, spaces};
+ghost use Rattle.text_parts.specs.Names.{layout_of, script_of};
 ghost use Rattle.report_words.specs.Parts.{paint};
 ghost use Rattle.info_text.specs.Response.{HasAnswerOutput, HasValidOutput, answer, answering_script, answering_test, info_layout, info_response_text, is_delay, number_padding, script_answer, script_unit, separator, test_answer, test_unit, told_attempt, unit_answer, valid_output};
 
 use crate::state::{InfoUnit, write_state};
-use plain_text::indenter::indented;
-use plain_text::numbers::spaces_str;
-use plain_text::style::Styles;
-use plain_text::text::Number;
 use report_text::helpers::{ThemeCharacters, decimal_char_width};
 use run_model::info::{InfoResponse, SetupScriptInfoResponse, TestInfoResponse, UnitState};
 use run_model::output::{ChildExecutionOutputDescription, LiveSpec};
 use run_model::status::RetryData;
 use run_model::unit::UnitKind;
+use styled_text::indenter::indented;
+use styled_text::numbers::spaces_str;
+use styled_text::style::Styles;
+use styled_text::text::Number;
 use text_parts::instance::{CountedInstance, InstanceEnd};
 use text_parts::script::{ScriptInstance, ShownScript};
 use text_parts::settings::Settings;
@@ -26,8 +23,8 @@ use unit_report::unit_output::{ChildOutputSpec, OutputHeader, OutputName};
 use writers::text::WriteText;
 use writers::write_str::{WriteFault, WriteStr};
 
-/// Writes the answer of a unit. `index` is its place among all, from 0. Output of the unit must not have been left
-/// unread.
+/// Writes the response of a unit. `index` is its index among all, from 0. Output of the unit must be
+/// loaded.
 #[tactic(auto, unfolding(crate::specs::Response::info_response_text, crate::specs::Response::response_number))]
 pub fn write_info_response<W: WriteStr>(
     w: &mut W,
@@ -55,7 +52,7 @@ pub fn write_info_response<W: WriteStr>(
     "\n".write_to(w)
 }
 
-// A bar before each answer but the first. It is shorter than those round all answers.
+// A bar before each response but the first. It is shorter than those around all responses.
 #[derive(Clone, Copy)]
 struct Separator(ThemeCharacters, usize);
 
@@ -72,7 +69,7 @@ impl WriteText for Separator {
     }
 }
 
-// The spaces after that number, which stands as wide as `status: ` where it has room.
+// The spaces after that number, which is as wide as `status: ` if it has room.
 fn number_padding(number: u128, total: usize) -> &'static str
     ensures { result.now ≡ number_padding number total }
 {
@@ -83,7 +80,7 @@ fn number_padding(number: u128, total: usize) -> &'static str
     spaces_str(left)
 }
 
-// Writes what stands after the number, indented from the second line on.
+// Later lines are indented.
 fn write_indented<W: WriteStr>(
     w: &mut W,
     settings: &Settings,
@@ -99,7 +96,7 @@ fn write_indented<W: WriteStr>(
     result
 }
 
-// Writes who answers, what it is doing and what it has written.
+// Who responds, its state and its output.
 fn write_answer<W: WriteStr>(
     w: &mut W,
     settings: &Settings,
@@ -114,7 +111,6 @@ fn write_answer<W: WriteStr>(
     }
 }
 
-// Writes the answer of a setup script.
 #[tactic(auto, unfolding(crate::specs::Response::script_answer))]
 fn write_script_answer<W: WriteStr>(
     w: &mut W,
@@ -135,7 +131,6 @@ fn write_script_answer<W: WriteStr>(
     )
 }
 
-// The setup script that answers.
 fn script_of_response(response: &SetupScriptInfoResponse) -> ScriptInstance<'_>
     ensures { script_of result ≡ answering_script response.now }
 {
@@ -147,7 +142,6 @@ fn script_of_response(response: &SetupScriptInfoResponse) -> ScriptInstance<'_>
     }
 }
 
-// How its state is told.
 fn script_unit(response: &SetupScriptInfoResponse) -> InfoUnit
     ensures { result ≡ script_unit response.now }
 {
@@ -158,7 +152,6 @@ fn script_unit(response: &SetupScriptInfoResponse) -> InfoUnit
     }
 }
 
-// Writes the answer of a test.
 #[tactic(auto, unfolding(crate::specs::Response::test_answer))]
 fn write_test_answer<W: WriteStr>(
     w: &mut W,
@@ -179,7 +172,7 @@ fn write_test_answer<W: WriteStr>(
     )
 }
 
-// The test that answers. Its line has no counter.
+// Its line has no counter.
 fn test_of_response<'a>(response: &TestInfoResponse<'a>) -> CountedInstance<'a>
     ensures { result ≡ answering_test response.now }
 {
@@ -190,7 +183,6 @@ fn test_of_response<'a>(response: &TestInfoResponse<'a>) -> CountedInstance<'a>
     }
 }
 
-// How its state is told.
 fn test_unit(response: &TestInfoResponse<'_>) -> InfoUnit
     ensures { result ≡ test_unit response.now }
 {
@@ -201,7 +193,7 @@ fn test_unit(response: &TestInfoResponse<'_>) -> InfoUnit
     }
 }
 
-// The attempt, where it is told: of a later one of several, and where the next one waits.
+// The attempt, if it is shown: a later one of several, or one that waits.
 fn told_attempt(retry_data: RetryData, state: &UnitState) -> Option<RetryData>
     ensures { result ≡ told_attempt retry_data state.now }
 {
@@ -212,14 +204,12 @@ fn told_attempt(retry_data: RetryData, state: &UnitState) -> Option<RetryData>
     }
 }
 
-// Whether the next attempt waits.
 fn is_delay(state: &UnitState) -> bool
     ensures { result ≡ is_delay state.now }
 {
     matches!(state, UnitState::DelayBeforeNextAttempt { .. })
 }
 
-// Writes what a unit is doing and what it has written.
 #[tactic(auto, unfolding(crate::specs::Response::unit_answer))]
 fn write_unit_answer<W: WriteStr>(
     w: &mut W,
@@ -235,7 +225,7 @@ fn write_unit_answer<W: WriteStr>(
     write_valid_output(w, settings, unit.kind, state, output)
 }
 
-// Writes the output, where it is that of the unit.
+// The output counts only if it is the unit's own.
 #[tactic(auto, unfolding(crate::specs::Response::valid_output))]
 fn write_valid_output<W: WriteStr>(
     w: &mut W,
@@ -256,7 +246,6 @@ fn write_valid_output<W: WriteStr>(
         .write_child_execution_output(&settings.styles, &spec, output, w)
 }
 
-// How the output within an answer is laid out.
 fn output_spec_for_info(styles: &Styles, kind: UnitKind) -> ChildOutputSpec
     ensures { layout_of result ≡ info_layout styles.now kind }
 {

@@ -1,12 +1,12 @@
-//! That all units are asked what they are doing, and that no further answers are waited for.
+//! All units are asked for their state, and no further responses are waited for.
 
 ghost use Rattle.writers.specs.Writer.{Puts};
 ghost use Rattle.report_words.specs.Parts.{paint};
 ghost use Rattle.info_text.specs.Start.{info_finished_text, info_started_text};
 
-use plain_text::text::{Number, Seconds, Toned};
 use run_model::stats::RunStats;
 use run_model::time::Nanos;
+use styled_text::text::{Number, Seconds, Toned};
 use text_parts::bar::BarLine;
 use text_parts::settings::Settings;
 use text_parts::stats_text::{Progress, failure_style};
@@ -36,7 +36,7 @@ pub fn write_info_started<W: WriteStr>(
         .write_to(w)
 }
 
-/// Writes that no further answers are waited for, and how many are missing.
+/// Writes that no further responses are waited for, and how many are missing.
 #[tactic(auto, unfolding(crate::specs::Start::info_finished_text, crate::specs::Start::missing_note, crate::specs::Start::missing_line))]
 pub fn write_info_finished<W: WriteStr>(
     w: &mut W,

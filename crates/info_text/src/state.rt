@@ -1,24 +1,23 @@
-//! What a unit is doing, in the lines of its answer.
+//! The state of a unit, in the lines of its response.
 
-ghost use Rattle.std.specs.Option.{is_some};
+ghost use Rattle.styled_text.specs.Names.{is_some, Puts};
 ghost use Rattle.std.specs.Prelude.{◌≡◌, ◌++◌};
-ghost use Rattle.writers.specs.Writer.{Puts};
 ghost use Rattle.report_words.specs.Parts.{paint, style_of};
 ghost use Rattle.info_text.specs.State.{attempt_text, marked_slow_end, nanos_of, running_tone, state_text, status_start, taken_end, tentative_info, terminating_line, terminating_note, signal_of};
 
-use plain_text::style::{Style, Styles};
-use plain_text::text::{Number, Seconds, Toned};
 use run_model::info::{UnitState, UnitTerminateMethod, UnitTerminatingState};
 use run_model::status::{ExecutionResultDescription, RetryData};
 use run_model::time::Nanos;
 use run_model::unit::UnitKind;
+use styled_text::style::{Style, Styles};
+use styled_text::text::{Number, Seconds, Toned};
 use text_parts::info_result::InfoResult;
 use text_parts::settings::Settings;
 use unit_report::formatters::DisplayUnitKind;
 use writers::text::{Decimal, Unless, WriteText};
 use writers::write_str::{WriteFault, WriteStr};
 
-/// The unit that a state is told of.
+/// The unit that a state is of.
 #[derive(Clone, Copy)]
 pub struct InfoUnit {
     /// Whether it is a test or a setup script.
@@ -29,7 +28,7 @@ pub struct InfoUnit {
     pub has_errors: bool,
 }
 
-/// Writes what a unit is doing: a line, and a note below it where it is told what is waited for.
+/// Writes the state of a unit: a line, and a note below it if something is waited for.
 #[tactic(auto, unfolding(crate::specs::State::state_text, crate::specs::State::state_line, crate::specs::State::state_note, crate::specs::State::unit_start, crate::specs::State::running_line, crate::specs::State::exiting_line, crate::specs::State::exiting_note, crate::specs::State::leak_note, crate::specs::State::exited_text, crate::specs::State::waiting_line, crate::specs::State::delay_note, crate::specs::State::note_start, crate::specs::State::process_of))]
 pub fn write_state<W: WriteStr>(
     w: &mut W,
@@ -131,7 +130,7 @@ pub fn write_state<W: WriteStr>(
     }
 }
 
-// Writes that a process is being ended, why and how.
+// Why a process is terminated, and how.
 #[tactic(auto, unfolding(crate::specs::State::terminating_line, crate::specs::State::terminating_note, crate::specs::State::process_of, crate::specs::State::note_start))]
 fn write_terminating<W: WriteStr>(
     w: &mut W,
@@ -186,7 +185,7 @@ fn signal_of(method: &UnitTerminateMethod) -> &str
     }
 }
 
-// The style in which a unit runs: one with errors in that of failures, a slow one in that of skipped tests.
+// The style of a running unit: one with errors has that of failures, a slow one that of skipped tests.
 fn running_style(styles: &Styles, has_errors: bool, is_slow: bool) -> Style
     ensures { result ≡ style_of styles.now (running_tone has_errors is_slow) }
 {
@@ -220,7 +219,7 @@ impl WriteText for StatusStart<'_> {
     }
 }
 
-// Which attempt it is, where that is told.
+// Which attempt it is, if that is shown.
 #[derive(Clone, Copy)]
 struct Attempt(Option<RetryData>);
 
@@ -243,7 +242,7 @@ impl WriteText for Attempt {
     }
 }
 
-// How a unit ended as far as that is known.
+// How a unit ended, as far as known.
 #[derive(Clone, Copy)]
 struct TentativeInfo<'a> {
     styles: &'a Styles,
@@ -276,7 +275,7 @@ impl WriteText for TakenEnd {
     }
 }
 
-// When a unit was marked as slow, where it was, and the end of the line.
+// When a unit was marked as slow, if it was, and the end of the line.
 #[derive(Clone, Copy)]
 struct MarkedSlowEnd(Option<Nanos>);
 

@@ -6,12 +6,9 @@ use Rattle.run_model.specs.declared.output.ChildOutputDescription.TheVariants as
 use Rattle.recorded.specs.Outputs.{IsCounted, IsLoaded, counted, stream_at}
 use Rattle.recorded.specs.declared.outputs.LoadFault.{LoadFault}
 use Rattle.recorded.specs.declared.outputs.StreamFault.{StreamFault}
-use Rattle.scene_fields.specs.Stored.{stream_in_field}
-use Rattle.scene_fields.specs.declared.stored.StoredOutput.{StoredOutput}
+use Rattle.scene_text.specs.Names.{stream_in_field, StoredOutput, StoredStream, StreamField}
 use Rattle.scene_fields.specs.declared.stored.StoredOutput.TheVariants.{Split, Combined}
-use Rattle.scene_fields.specs.declared.stored.StoredStream.{StoredStream}
 use Rattle.scene_fields.specs.declared.stored.StoredStream.TheVariants.{NotCaptured, Empty, At}
-use Rattle.scene_fields.specs.declared.stored.StreamField.{StreamField}
 use Rattle.scene_fields.specs.declared.stored.StreamField.TheVariants.{First, Second}
 
 -- what was captured of a stream: nothing, no bytes, or those at its place among all outputs, if they are not damaged

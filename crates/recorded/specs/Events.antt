@@ -4,23 +4,15 @@ use Rattle.std.specs.Option.{is_some, option_or}
 use Rattle.run_model.specs.declared.output.ChildOutputDescription.{ChildOutputDescription}
 use Rattle.run_model.specs.declared.output.ChildOutputDescription.TheVariants as captured
 use Rattle.recorded.specs.Outputs.{bytes_at}
-use Rattle.scene_fields.specs.References.{end_of}
+use Rattle.scene_text.specs.Names.{end_of, field_of, stream_in_field, PlacedOutput, StoredOutput, StoredStream, StreamField, event_with, SceneEvent, LineFault}
 use Rattle.recorded.specs.declared.outputs.LoadFault.{LoadFault}
 use Rattle.recorded.specs.declared.outputs.LoadFault.TheVariants.{CannotRead, PastEnd, WrongSum, OutOfMemory}
-use Rattle.scene_fields.specs.Stored.{field_of, stream_in_field}
 use Rattle.recorded.specs.Captured.{captured_stream_at}
-use Rattle.scene_fields.specs.declared.stored.PlacedOutput.{PlacedOutput}
-use Rattle.scene_fields.specs.declared.stored.StoredOutput.{StoredOutput}
 use Rattle.scene_fields.specs.declared.stored.StoredOutput.TheVariants.{Split, Combined}
-use Rattle.scene_fields.specs.declared.stored.StoredStream.{StoredStream}
 use Rattle.scene_fields.specs.declared.stored.StoredStream.TheVariants.{NotCaptured, Empty, At}
-use Rattle.scene_fields.specs.declared.stored.StreamField.{StreamField}
 use Rattle.scene_fields.specs.declared.stored.StreamField.TheVariants.{First, Second}
 use Rattle.reporter_state.specs.declared.decider.OutputLoadDecider.{OutputLoadDecider}
-use Rattle.scene_events.specs.Loads.{event_with}
-use Rattle.scene_events.specs.declared.scene.event.SceneEvent.{SceneEvent}
 use Rattle.scene_events.specs.declared.scene.event.SceneEvent.TheVariants as scene
-use Rattle.scene_fields.specs.declared.fault.LineFault.{LineFault}
 use Rattle.scene_fields.specs.declared.fault.LineFault.TheVariants.{BadField}
 use Rattle.recorded.specs.Skips.{skips}
 use Rattle.recorded.specs.declared.events.LoadEventFault.{LoadEventFault}

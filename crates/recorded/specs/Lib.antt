@@ -1,5 +1,6 @@
 pub mod Captured
 pub mod Events
+pub mod Names
 pub mod NextLines
 pub mod Outputs
 pub mod ReadAt

@@ -1,9 +1,6 @@
 -- The next line of a recorded run, and what is left where it is wrong.
 use Rattle.std.specs.Prelude.{◌≡◌, ◌⊎◌, ℕ, ◌+◌, Bool, true, false, List, [], ◌∷◌, ◌++◌, length, take, Option, Some}
-use Rattle.command_line.specs.Faults.{fault_of_read}
-use Rattle.command_line.specs.Pieces.{IsUnread}
-use Rattle.command_line.specs.declared.args.Options.{Options}
-use Rattle.command_line.specs.declared.fault.Fault.{Fault}
+use Rattle.scenes.specs.Names.{fault_of_read, IsUnread, Options, Fault}
 use Rattle.command_line.specs.declared.fault.Fault.TheVariants as program
 use Rattle.recorded.specs.declared.outputs.LoadFault.{LoadFault}
 use Rattle.recorded.specs.declared.outputs.LoadFault.TheVariants as load
@@ -11,12 +8,8 @@ use Rattle.recorded.specs.Outputs.{counted}
 use Rattle.recorded.specs.Runs.{needed_for, ended_lines}
 use Rattle.recorded.specs.declared.lines.Taken.{Taken}
 use Rattle.recorded.specs.declared.lines.Taken.TheVariants as taken
-use Rattle.scene_events.specs.declared.scene.event.SceneEvent.{SceneEvent}
-use Rattle.scene_fields.specs.Split.{Lacks}
+use Rattle.scene_text.specs.Names.{SceneEvent, Lacks, ReadFault, IsNextFault, LeavesLines, ReadsLines, RunLine, before_next, is_begun, lines_after, parsed_lines, recorded_line, LinesRead}
 use Rattle.scene_fields.specs.declared.fault.LineFault.TheVariants as line
-use Rattle.scene_fields.specs.declared.fault.ReadFault.{ReadFault}
-use Rattle.scene_text.specs.SceneTexts.{IsNextFault, LeavesLines, ReadsLines, RunLine, before_next, is_begun, lines_after, parsed_lines, recorded_line}
-use Rattle.scene_text.specs.declared.reader.LinesRead.{LinesRead}
 
 -- what was read of a text: its first line, which a line feed parts from what is left; or what stands behind the last line feed
 abbrev pub IsNextLine : List ℕ → Bool → List ℕ → Option (List ℕ) → Type 0

@@ -1,12 +1,8 @@
 -- A recorded run as lines of a run: as they are replayed, and with every output in its place.
 use Rattle.std.specs.Prelude.{ℕ, ◌+◌, List, [], ◌∷◌, map, true, Result, Ok, Err}
-use Rattle.command_line.specs.declared.args.Options.{Options}
+use Rattle.scenes.specs.Names.{Options, decider_for}
 use Rattle.recorded.specs.Events.{event_inline, event_replayed, needed_of}
-use Rattle.scene_fields.specs.Split.{split_on}
-use Rattle.scene_fields.specs.declared.fault.LineFault.{LineFault}
-use Rattle.scene_fields.specs.declared.stored.PlacedOutput.{PlacedOutput}
-use Rattle.scene_text.specs.SceneTexts.{ConfigLine, EventLine, LinesBefore, NoEvent, ParsedLine, RecordedLine, RunLine, lines_before, no_lines, recorded_line}
-use Rattle.scenes.specs.Reports.{decider_for}
+use Rattle.scene_text.specs.Names.{split_on, LineFault, PlacedOutput, ConfigLine, EventLine, LinesBefore, NoEvent, ParsedLine, RecordedLine, RunLine, lines_before, no_lines, recorded_line}
 
 -- options that show a recorded run
 abbrev pub replayed : Options → Options

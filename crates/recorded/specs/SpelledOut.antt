@@ -4,8 +4,7 @@ use Rattle.std.specs.Option.{option_map_or}
 use Rattle.hex.specs.Hex.{lower_digits}
 use Rattle.recorded.specs.Outputs.{bytes_at}
 use Rattle.recorded.specs.Runs.{ended_lines}
-use Rattle.scene_fields.specs.References.{reference_in}
-use Rattle.scene_fields.specs.Split.{split_on}
+use Rattle.scene_text.specs.Names.{reference_in, split_on}
 
 -- each number is a byte
 abbrev pub AreBytes : List ℕ → Type 0

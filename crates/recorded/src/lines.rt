@@ -2,10 +2,8 @@
 
 ghost use Rattle.std.specs.Prelude.{◌≡◌, ℕ, List, [], ◌∷◌, Some, IfErr, IfOk, OnErr, OnOk};
 ghost use Rattle.std.specs.Io.Buffered.{reader_buffer, reader_remaining};
-ghost use Rattle.command_line.specs.Faults.{IsJudgeFault};
-ghost use Rattle.command_line.specs.Pieces.{IsUnread};
-ghost use Rattle.recorded.specs.NextLines.{CountsLine, IsFaultOfLoad, IsLineFault, IsNextLine, KeepsRead, LeavesLine, TakesOf};
-ghost use Rattle.recorded.specs.Runs.{line_replayed};
+ghost use Rattle.scenes.specs.Names.{IsJudgeFault, IsUnread};
+ghost use Rattle.recorded.specs.Names.{CountsLine, IsFaultOfLoad, IsLineFault, IsNextLine, KeepsRead, LeavesLine, TakesOf, line_replayed};
 ghost use Rattle.scene_text.specs.SceneTexts.{ReadsLines};
 
 use super::events::{LoadEventFault, load_outputs};

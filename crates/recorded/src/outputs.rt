@@ -3,9 +3,7 @@
 
 ghost use Rattle.std.specs.Prelude.{◌≡◌, ◌≤◌, ◌↔◌, IsTrue, IfOk, IfSome, OnOk, if◌then◌else◌, is_ok, length, vec_len};
 ghost use Rattle.std.specs.Option.{ForSome};
-ghost use Rattle.recorded.specs.Captured.{IsCaptured, IsCapturedStream, IsCountedOf, IsCountedOfStream};
-ghost use Rattle.recorded.specs.Outputs.{HasSum, IsCounted, IsLoaded, counted};
-ghost use Rattle.recorded.specs.ReadAt.{HasRead};
+ghost use Rattle.recorded.specs.Names.{IsCaptured, IsCapturedStream, IsCountedOf, IsCountedOfStream, HasSum, IsCounted, IsLoaded, counted, HasRead};
 ghost use Rattle.scene_fields.specs.References.{end_of};
 
 use super::read_at::ReadAt;

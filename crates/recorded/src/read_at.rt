@@ -5,8 +5,7 @@
 
 ghost use Rattle.std.specs.Prelude.{◌≡◌, ℕ, List, Option, None, Some, IfOk, IfSome, OnOk, ⊤, if◌then◌else◌, is_ok, length};
 ghost use Rattle.std.specs.Io.Cursor.{cursor_inner};
-ghost use Rattle.recorded.specs.Outputs.{counted};
-ghost use Rattle.recorded.specs.ReadAt.{HasRead};
+ghost use Rattle.recorded.specs.Names.{counted, HasRead};
 
 use std::fs::File;
 use std::io;

@@ -2,13 +2,8 @@
 
 ghost use Rattle.std.specs.Prelude.{◌≡◌, ℕ, List, None, Some, IfErr, IfOk};
 ghost use Rattle.std.specs.Io.Buffered.{reader_remaining};
-ghost use Rattle.recorded.specs.Outputs.{counted};
-ghost use Rattle.recorded.specs.Runs.{lines_inline, lines_replayed, needed_bytes, replayed};
-ghost use Rattle.recorded.specs.Source.{IsLeft};
-ghost use Rattle.recorded.specs.SpelledOut.{AreBytes, scene_spelled};
-ghost use Rattle.scenes.specs.Follow.{StopsBy};
-ghost use Rattle.scenes.specs.ParsedScenes.{OfLines, OfText};
-ghost use Rattle.scenes.specs.Prints.{Begins, Prints, PrintsFollowed, device};
+ghost use Rattle.recorded.specs.Names.{counted, lines_inline, lines_replayed, needed_bytes, replayed, IsLeft, AreBytes, scene_spelled};
+ghost use Rattle.scenes.specs.Names.{StopsBy, OfLines, OfText, Begins, Prints, PrintsFollowed, device};
 
 use super::lines::{next_line, read_line};
 use super::outputs::RecordedOutputs;

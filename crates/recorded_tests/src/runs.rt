@@ -34,6 +34,7 @@ const OPTIONS: Options<'static> = Options {
     status_level: StatusLevel::Pass,
     store: None,
     file: "DIR",
+    is_last: false,
 };
 
 // Records with these outputs.

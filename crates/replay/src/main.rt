@@ -42,6 +42,10 @@ fn run<'a>(rt: &HostRuntime, args: &'a [String]) -> Result<RunOutcome, Fault<'a>
     let Some(options) = words(args) else {
         return Err(Fault::Usage);
     };
+    let options = Options {
+        is_last: true,
+        ..options
+    };
     match open(rt, options.file) {
         Ok(files) => replay(rt, options, files),
         Err(error) => Err(Fault::CannotRead { file: options.file }.by_kind(error.kind())),

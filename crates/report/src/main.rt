@@ -4,7 +4,7 @@
 //! status, and nothing stands on standard output unless the whole scene was accepted and PATH was made or emptied.
 #![tactic(auto)]
 
-use scenes::args::words;
+use scenes::args::{Options, words};
 use scenes::fault::{Fault, Program};
 use scenes::process::{arguments, create_store, fill_standard_descriptors, report_fault};
 use scenes::report::{accept_scene, read_whole, report_accepted};
@@ -30,6 +30,10 @@ fn main(rt: HostRuntime) -> ExitCode {
 fn run<'a>(rt: &HostRuntime, args: &'a [String]) -> Result<(), Fault<'a>> {
     let Some(options) = words(args) else {
         return Err(Fault::Usage);
+    };
+    let options = Options {
+        is_last: true,
+        ..options
     };
     let file = match File::open(rt, options.file) {
         Ok(file) => file,

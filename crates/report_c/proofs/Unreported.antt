@@ -2,12 +2,8 @@
 use Rattle.std.proofs.Common.{ℕ, List, Option, ◌⊎◌, inl, inr}
 use Rattle.report_c.specs.Reported.{IsUnreported, read_fault_of}
 use Rattle.scene_fields.specs.declared.fault.LineFault.{LineFault}
-use Rattle.scenes.specs.Judged.{IsRejected}
-use Rattle.scenes.specs.ParsedScenes.{OfText}
-use Rattle.scenes.specs.Prints.{Begins, IsStop, device}
-use Rattle.command_line.specs.declared.fault.Fault.{Fault}
+use Rattle.scenes.specs.Names.{IsRejected, OfText, Begins, IsStop, device, Fault, Options}
 use Rattle.command_line.specs.declared.fault.Fault.TheVariants as fault
-use Rattle.command_line.specs.declared.args.Options.{Options}
 
 -- a wrong line stops no report
 line_no_stop : (options : Options) (n : ℕ) (f : LineFault) → IsStop options (fault.Line n f) → ⊥

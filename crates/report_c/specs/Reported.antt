@@ -5,12 +5,8 @@ use Rattle.run_names.specs.declared.level.StatusLevel.TheVariants as level
 use Rattle.scene_fields.specs.declared.fault.LineFault.{LineFault}
 use Rattle.scene_fields.specs.declared.fault.ReadFault.{ReadFault}
 use Rattle.scene_fields.specs.declared.fault.ReadFault.TheVariants as read
-use Rattle.scenes.specs.Judged.{IsJudged}
-use Rattle.scenes.specs.ParsedScenes.{OfText}
-use Rattle.scenes.specs.Prints.{Prints, device}
-use Rattle.command_line.specs.declared.fault.Fault.{Fault}
+use Rattle.scenes.specs.Names.{IsJudged, OfText, Prints, device, Fault, Options}
 use Rattle.command_line.specs.declared.fault.Fault.TheVariants as fault
-use Rattle.command_line.specs.declared.args.Options.{Options}
 use Rattle.report_c.specs.declared.NorigullyOptions.{NorigullyOptions}
 
 -- The status level of a number, from none at 0 to all at 7.

@@ -1,8 +1,7 @@
 //! The report of a scene's text, and the options that it is made by.
 
 ghost use Rattle.std.specs.Prelude.{◌≡◌, ◌↔◌, [], IfSome, IfOk, IfErr, None, Some};
-ghost use Rattle.scenes.specs.ParsedScenes.{OfText};
-ghost use Rattle.scenes.specs.Prints.{Prints, device};
+ghost use Rattle.scenes.specs.Names.{OfText, Prints, device};
 ghost use Rattle.report_c.specs.Reported.{AsksFor, IsUnreported, read_fault_of, level_numbered};
 
 use crate::NorigullyOptions;
@@ -29,6 +28,7 @@ pub fn options_of(options: &NorigullyOptions) -> Option<Options<'static>>
             status_level,
             store: None,
             file: "",
+            is_last: false,
         }),
     }
 }

@@ -1,11 +1,8 @@
 -- How a process ended, as text.
 use Rattle.std.specs.Prelude.{ℕ, zero, suc, ◌+◌, ◌/◌, ◌%◌, ℤ, [], ◌∷◌, ◌++◌, Option, None, Some, nat_lt, if◌then◌else◌, codes}
-use Rattle.std.specs.Fmt.{signed_decimal}
-use Rattle.std.specs.Int.{cast_unsigned, w32}
+use Rattle.styled_text.specs.Names.{signed_decimal, cast_unsigned, w32, Text, Plain, part_texts, plain}
 use Rattle.run_names.specs.declared.abort.AbortDescription.{AbortDescription}
 use Rattle.run_names.specs.declared.abort.AbortDescription.TheVariants.{UnixSignal, WindowsNtStatus, WindowsJobObject}
-use Rattle.plain_text.specs.Texts.{Text}
-use Rattle.plain_text.specs.Style.{Plain, part_texts, plain}
 use Rattle.report_text.specs.declared.helpers.failure.ExitDescription.{ExitDescription}
 use Rattle.report_text.specs.declared.helpers.failure.ExitDescription.TheVariants as ended
 
@@ -31,18 +28,18 @@ unfoldable pub signal_name_text : Option Text → Text
 signal_name_text None = []
 signal_name_text (Some name) = part_texts (Plain (codes " (SIG") ∷ Plain name ∷ Plain (codes ")") ∷ [])
 
--- what a system says of a status, if it is known
+-- the message of a status, if it is known
 unfoldable pub message_text : Option Text → Text
 message_text None = []
 message_text (Some message) = part_texts (Plain (codes ": ") ∷ Plain message ∷ [])
 
--- what is said first of a process that was ended from outside
+-- the first words about a process that was aborted
 unfoldable pub abort_words : AbortDescription → Text
 abort_words (UnixSignal signal name) = codes "aborted with signal "
 abort_words (WindowsNtStatus code message) = codes "aborted with code "
 abort_words WindowsJobObject = codes "terminated via job object"
 
--- and what is then said of the signal or the status
+-- and then the signal or the status
 unfoldable pub abort_details : AbortDescription → Text
 abort_details (UnixSignal signal name) = plain (signed_decimal signal) ++ signal_name_text name
 abort_details (WindowsNtStatus code message) = nt_status_text code ++ message_text message
@@ -52,13 +49,13 @@ abort_details WindowsJobObject = []
 unfoldable pub abort_text : AbortDescription → Text
 abort_text abort = plain (abort_words abort) ++ abort_details abort
 
--- what is said first of how a process ended
+-- the first words about how a process ended
 unfoldable pub exit_words : ExitDescription → Text
 exit_words (ended.Code code) = codes "exited with exit code "
 exit_words (ended.Abort abort) = []
 exit_words ended.Unknown = codes "exited with an unknown error"
 
--- and what is said then
+-- and then the details
 unfoldable pub exit_details : ExitDescription → Text
 exit_details (ended.Code code) = plain (signed_decimal code)
 exit_details (ended.Abort abort) = abort_text abort

@@ -1,24 +1,14 @@
 -- Names, iterations and counters as a report shows them.
 use Rattle.std.specs.Prelude.{◌≢◌, ℕ, ◌+◌, List, [], ◌∷◌, ◌++◌, false, Option, None, Some, length, codes, encode_utf8}
-use Rattle.std.specs.Fmt.{decimal}
-use Rattle.std.specs.declared.num.NonZeroU32.{NonZeroU32}
-use Rattle.std.specs.Int.NonZero.{non_zero_u32_get}
+use Rattle.styled_text.specs.Names.{decimal, NonZeroU32, non_zero_u32_get, repeat, Text, right_in, HasNoEscape, shrunk_parts, PartText, Plain, Styled, part_texts, Style, ListStyles}
 use Rattle.run_names.specs.Names.{module_path_of, last_name_of}
-use Rattle.run_names.specs.declared.name.TestInstanceId.{TestInstanceId}
-use Rattle.run_names.specs.declared.stress.StressIndex.{StressIndex}
-use Rattle.std.specs.List.{repeat}
-use Rattle.plain_text.specs.Texts.{Text, right_in}
-use Rattle.plain_text.specs.Escapes.{HasNoEscape}
-use Rattle.plain_text.specs.Fitting.{shrunk_parts}
-use Rattle.plain_text.specs.Style.{PartText, Plain, Styled, part_texts}
-use Rattle.plain_text.specs.declared.style.Style.{Style}
-use Rattle.plain_text.specs.declared.style.Style.TheVariants as style
-use Rattle.plain_text.specs.declared.style.ListStyles.{ListStyles}
+use Rattle.run_model.specs.Names.{TestInstanceId, StressIndex}
+use Rattle.styled_text.specs.declared.style.Style.TheVariants as style
 use Rattle.report_words.specs.Parts.{Parts, Open, drawn_given}
 use Rattle.report_text.specs.declared.helpers.instance.DisplayCounterIndex.{DisplayCounterIndex}
 use Rattle.report_text.specs.declared.helpers.instance.DisplayCounterIndex.TheVariants.{Counter, Padded}
 
--- a name of which the module path and the last part are known
+-- a name with its module path and its last part
 abbrev pub name_parts : ListStyles → Option Text → Text → List PartText
 name_parts s None last = Styled s.test_name last ∷ []
 name_parts s (Some path) last = Styled s.module_path path ∷ Styled s.module_path (codes "::") ∷ Styled s.test_name last ∷ []
@@ -37,7 +27,7 @@ stress_parts s number (Some total) =
 unfoldable pub stress_text : Style → StressIndex → Text
 stress_text s i = part_texts (stress_parts s (i.current + 1) i.total)
 
--- what stands before the rest of a line: the iteration between brackets and a space, if there is one
+-- the iteration between brackets and a space, if there is one
 unfoldable pub stress_prefix : Style → Option StressIndex → Text
 stress_prefix s None = []
 stress_prefix s (Some i) = part_texts (Plain (codes "[") ∷ []) ++ (stress_text s i ++ part_texts (Plain (codes "] ") ∷ []))
@@ -63,7 +53,7 @@ unfoldable pub test_text : ListStyles → Option StressIndex → Option DisplayC
 test_text s stress counter binary_id name =
     stress_prefix s.count stress ++ (counter_prefix counter ++ (id_prefix s.binary_id binary_id ++ test_name_text s name))
 
--- what stands before its name, in parts
+-- the parts before its name
 abbrev pub front_parts : ListStyles → Option StressIndex → Option DisplayCounterIndex → Text → List Text
 front_parts s stress counter binary_id = stress_prefix s.count stress ∷ counter_prefix counter ∷ id_prefix s.binary_id binary_id ∷ []
 
@@ -72,7 +62,7 @@ abbrev pub shown_text : Option ℕ → ListStyles → Option StressIndex → Opt
 shown_text None s stress counter binary_id name = test_text s stress counter binary_id name
 shown_text (Some width) s stress counter binary_id name = shrunk_parts (front_parts s stress counter binary_id) (test_name_text s name) width
 
--- the same of a test whose names are borrowed
+-- a test with borrowed names
 abbrev pub instance_text : ListStyles → Option StressIndex → Option DisplayCounterIndex → TestInstanceId → Text
 instance_text s stress counter i = test_text s stress counter i.binary_id.now i.test_name.now
 

@@ -1,15 +1,9 @@
--- What is said where an interceptor would get more than one test.
+-- The message if an interceptor would get more than one test.
 use Rattle.std.specs.Prelude.{ℕ, ◌-◌, false, List, [], ◌++◌, None, length, nat_lt, if◌then◌else◌, codes}
-use Rattle.std.specs.Fmt.{decimal}
-use Rattle.std.specs.List.{flat_map}
-use Rattle.run_names.specs.declared.config.NextestRunMode.{NextestRunMode}
-use Rattle.run_names.specs.declared.name.OwnedTestInstanceId.{OwnedTestInstanceId}
+use Rattle.styled_text.specs.Names.{decimal, flat_map, plain, styled, Text, Style, ListStyles}
+use Rattle.run_model.specs.Names.{NextestRunMode, OwnedTestInstanceId}
 use Rattle.report_text.specs.Instance.{test_text}
 use Rattle.report_words.specs.Plural.{tests_word, tests_word_if}
-use Rattle.plain_text.specs.Style.{plain, styled}
-use Rattle.plain_text.specs.Texts.{Text}
-use Rattle.plain_text.specs.declared.style.Style.{Style}
-use Rattle.plain_text.specs.declared.style.ListStyles.{ListStyles}
 
 unfoldable pub requires_words : Text
 requires_words = codes " requires exactly one "
@@ -36,7 +30,7 @@ and_words = codes "\n  ... and "
 unfoldable pub rest_text : NextestRunMode → ℕ → Style → Text
 rest_text mode count s = plain and_words ++ (styled s (decimal count) ++ (plain (codes " more ") ++ plain (tests_word mode count)))
 
--- the same where there are such tests
+-- if there are any
 unfoldable pub unlisted_text : NextestRunMode → ℕ → ℕ → Style → Text
 unlisted_text mode count listed s = if nat_lt listed count then rest_text mode (count - listed) s else []
 

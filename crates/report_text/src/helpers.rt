@@ -1,7 +1,7 @@
 //! Words, numbers, durations and names as a report shows them.
 //!
-//! Each type whose text is its own has `write_to`, which allocates nothing and has one clause: the text that was written, or a beginning of
-//! it where a fault came. Its `Display` shows that very text.
+//! Each type with a text has `write_to`, which allocates nothing and has one clause: the text that was written, or a prefix of
+//! it after a fault. Its `Display` shows the same text.
 
 pub mod failure;
 pub mod instance;
@@ -16,8 +16,6 @@ pub use instance::{
     write_test_instance, write_test_name,
 };
 pub use interceptor::format_interceptor_too_many_tests;
-pub use plain_text::decimal::{Unsigned, decimal_char_width};
-pub use plain_text::style::RESET_COLOR;
 pub use quoting::{CommandWord, QuotedDisplay, shell_join};
 pub use report_words::durations::{
     DurationRounding, FormattedDuration, FormattedHhMmSs, FormattedRelativeDuration,
@@ -30,3 +28,5 @@ pub use report_words::run_id::force_or_new_run_id;
 pub use report_words::theme::ThemeCharacters;
 pub use report_words::{durations, paths, plural, run_id, theme};
 pub use script::{DisplayScriptInstance, write_script_instance};
+pub use styled_text::decimal::{Unsigned, decimal_char_width};
+pub use styled_text::style::RESET_COLOR;

@@ -1,8 +1,6 @@
 -- Durations as text. Each is a number of nanoseconds.
 use Rattle.std.specs.Prelude.{ℕ, ◌+◌, ◌/◌, ◌%◌, List, [], ◌∷◌, ◌++◌, Option, None, Some, nat_le, nat_lt, if◌then◌else◌, codes}
-use Rattle.std.specs.Fmt.{decimal}
-use Rattle.plain_text.specs.Texts.{Text}
-use Rattle.plain_text.specs.Numbers.{last_digits, seconds}
+use Rattle.styled_text.specs.Names.{decimal, Text, last_digits, seconds}
 use Rattle.report_words.specs.declared.durations.DurationRounding.{DurationRounding}
 use Rattle.report_words.specs.declared.durations.DurationRounding.TheVariants.{Floor, Ceiling}
 use Rattle.report_words.specs.declared.durations.TimeUnit.{TimeUnit}
@@ -14,7 +12,7 @@ duration_text n =
     if nat_le n 60_000_000_000 then seconds 2 n ++ codes "s"
     else (decimal (n / 60_000_000_000) ++ codes "m ") ++ (seconds 2 (n % 60_000_000_000) ++ codes "s")
 
--- whole seconds: those that have passed, or one more where a whole millisecond has passed since
+-- whole seconds: those that have passed, or one more if a whole millisecond has passed since
 abbrev pub whole_seconds : DurationRounding → ℕ → ℕ
 whole_seconds Floor n = n / 1_000_000_000
 whole_seconds Ceiling n = if nat_lt 0 (n / 1_000_000 % 1000) then n / 1_000_000_000 + 1 else n / 1_000_000_000
@@ -40,7 +38,7 @@ unit_nanos Millisecond = 1_000_000
 unit_nanos Microsecond = 1000
 unit_nanos Nanosecond = 1
 
--- what stands for a unit
+-- the name of a unit
 abbrev pub unit_name : TimeUnit → Text
 unit_name Year = codes "y"
 unit_name Month = codes "mo"

@@ -1,5 +1,6 @@
 pub mod Durations
 pub mod InColour
+pub mod Names
 pub mod Parts
 pub mod Paths
 pub mod PlainTexts

@@ -1,13 +1,6 @@
--- Texts before they are painted: parts in turn, each in a style or in none.
+-- Texts before they are painted: parts in sequence, each in a style or in none.
 use Rattle.std.specs.Prelude.{◌≡◌, ◌==◌, ◌⊎◌, ℕ, Bool, true, false, ◌&&◌, List, [], ◌∷◌, ◌++◌, IsTrue, refl, if◌then◌else◌, codes}
-use Rattle.std.specs.Fmt.{decimal}
-use Rattle.plain_text.specs.Texts.{Text, right_in, spaces}
-use Rattle.plain_text.specs.Indent.{indent}
-use Rattle.std.specs.List.{flat_map}
-use Rattle.plain_text.specs.Escapes.{has_no_escape, HasNoEscape}
-use Rattle.plain_text.specs.Style.{plain, styled}
-use Rattle.plain_text.specs.declared.style.Style.{Style}
-use Rattle.plain_text.specs.declared.style.Styles.{Styles}
+use Rattle.styled_text.specs.Names.{decimal, Text, right_in, spaces, indent, flat_map, has_no_escape, HasNoEscape, plain, styled, Style, Styles}
 
 -- the text ends in a line feed
 abbrev pub EndsLine : Text → Type 0
@@ -38,7 +31,7 @@ style_of s ScriptId = s.script_id
 style_of s RunIdPrefix = s.run_id_prefix
 style_of s RunIdRest = s.run_id_rest
 
--- how a text ends: in a line feed, in none that is known, or it is empty or ends in one
+-- how a text ends: in a line feed, in anything, or it is empty or ends in a line feed
 pub data End : Type 0 where
   Line : End
   Open : End
@@ -60,7 +53,7 @@ either_end Lines Open = Open
 either_end Lines Line = Lines
 either_end Lines Lines = Lines
 
--- of words that are written out it is computed
+-- for literal words it is computed
 abbrev pub ending : Text → End
 ending [] = Lines
 ending (c ∷ []) = if c == 10 then Line else Open
@@ -70,31 +63,31 @@ ending (c ∷ d ∷ t) = ending (d ∷ t)
 pub data Parts : Bool → End → Type 1 where
   none : Parts true Lines
   Words : (t : Text) → HasNoEscape t → Parts true (ending t)
-  -- words that are computed, and those that a definition of their own spells out
+  -- words that are computed, and words with a definition of their own
   Word : (t : Text) → HasNoEscape t → Parts true Open
   Verbatim : (t : Text) → HasNoEscape t → Parts true Open
   Toned : Tone → (t : Text) → HasNoEscape t → Parts true Open
   Right : ℕ → Tone → (t : Text) → HasNoEscape t → Parts true Open
   number : Tone → ℕ → Parts true Open
-  -- what is handed in
+  -- words from outside
   given : Text → Parts false Open
   given_toned : Tone → Text → Parts false Open
   given_right : ℕ → Tone → Text → Parts false Open
   -- one after the other
   Join : {a b : Bool} {d e : End} → Parts a d → Parts b e → Parts (a && b) (joined_end d e)
-  -- the first where the test holds, else the second
+  -- the first if the test holds, else the second
   choice : {a b : Bool} {d e : End} → Bool → Parts a d → Parts b e → Parts (a && b) (either_end d e)
   -- a line for each of the items
   each : {X : Type 0} {a : Bool} → (X → Parts a Line) → List X → Parts a Lines
-  -- lines, each behind so many spaces where it is not empty, the first one only where the flag is set
+  -- lines, each after n spaces if it is not empty, the first one only if the flag is set
   indented : {a : Bool} → ℕ → Bool → Parts a Line → Parts a Line
   -- lines of which the last has no line feed yet
   indented_line : {a : Bool} {d : End} → ℕ → Bool → Parts a d → Parts a Line
-  -- of which no more is known
+  -- a text of which no more is known
   plainly : {a : Bool} {d : End} → Parts a d → Parts false d
   openly : {a : Bool} {d : End} → Parts a d → Parts a Open
   loosely : {a : Bool} → Parts a Line → Parts a Lines
-  -- what is handed in and drawn by a definition of its own, as a test's name or the output of a unit
+  -- text from outside with a definition of its own, as a test's name or the output of a unit
   drawn_given : (f : Styles → Text) → Parts false Open
   drawn_given_line : (f : Styles → Text) → ((s : Styles) → EndsLine (f s)) → Parts false Line
 

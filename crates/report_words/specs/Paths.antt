@@ -1,6 +1,6 @@
 -- Paths of files and directories.
 use Rattle.std.specs.Prelude.{ℕ, Bool, false, ◌==◌, List, [], ◌∷◌, ◌++◌, Option, None, Some, codes, if◌then◌else◌}
-use Rattle.plain_text.specs.Texts.{Text}
+use Rattle.styled_text.specs.Texts.{Text}
 
 -- the path begins with a slash
 abbrev pub is_absolute : Text → Bool
@@ -12,7 +12,7 @@ abbrev pub in_first_path : ℕ → List Text → List Text
 in_first_path c [] = (c ∷ []) ∷ []
 in_first_path c (path ∷ paths) = (c ∷ path) ∷ paths
 
--- what stands between the colons of a text, also where that is nothing
+-- the texts between the colons of a text, also empty ones
 unfoldable pub between_colons : Text → List Text
 between_colons [] = [] ∷ []
 between_colons (c ∷ t) = if c == 58 then [] ∷ between_colons t else in_first_path c (between_colons t)

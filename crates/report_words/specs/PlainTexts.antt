@@ -1,13 +1,12 @@
 -- What is handed in for texts without escape characters.
 use Rattle.std.specs.Prelude.{Option, None, Some}
-use Rattle.std.specs.List.{AllByRecursion}
+use Rattle.styled_text.specs.Names.{AllByRecursion, HasNoEscape}
 use Rattle.run_names.specs.ErrorChains.{MessageAndCauses}
 use Rattle.run_names.specs.declared.abort.AbortDescription.{AbortDescription}
 use Rattle.run_names.specs.declared.abort.AbortDescription.TheVariants.{UnixSignal, WindowsNtStatus, WindowsJobObject}
 use Rattle.run_names.specs.declared.name.TestInstanceId.{TestInstanceId}
-use Rattle.plain_text.specs.Escapes.{HasNoEscape}
 
--- what holds of a value, where there is one
+-- what holds of a value, if there is one
 abbrev pub HoldsIf : {X : Type 0} → (X → Type 0) → Option X → Type 0
 HoldsIf p None = Unit {0}
 HoldsIf p (Some x) = p x

@@ -1,26 +1,26 @@
--- Words that stand for one thing or for any other number of them.
+-- Words in the singular or the plural.
 use Rattle.std.specs.Prelude.{ℕ, Bool, true, false, not, ◌==◌, if◌then◌else◌, codes}
 use Rattle.run_names.specs.declared.config.NextestRunMode.{NextestRunMode}
 use Rattle.run_names.specs.declared.config.NextestRunMode.TheVariants.{Test, Benchmark}
-use Rattle.plain_text.specs.Texts.{Text}
+use Rattle.styled_text.specs.Texts.{Text}
 
 -- the first word for one, the second for any other number
 abbrev pub singular_or_plural : Text → Text → ℕ → Text
 singular_or_plural one other n = if n == 1 then one else other
 
--- was, or were where it is said of several
+-- was, or were for several
 unfoldable pub were_word : Bool → Text
 were_word true = codes "were"
 were_word false = codes "was"
 
--- test or benchmark, and tests or benchmarks where there are several
+-- test or benchmark, and tests or benchmarks for several
 unfoldable pub tests_word_if : NextestRunMode → Bool → Text
 tests_word_if Test false = codes "test"
 tests_word_if Test true = codes "tests"
 tests_word_if Benchmark false = codes "benchmark"
 tests_word_if Benchmark true = codes "benchmarks"
 
--- the same by how many there are
+-- by number
 abbrev pub tests_word : NextestRunMode → ℕ → Text
 tests_word mode n = tests_word_if mode (not (n == 1))
 

@@ -4,7 +4,7 @@ use Rattle.uuid.specs.Parts.{with_variant, with_version}
 use Rattle.uuid.specs.Text.{parsed}
 use Rattle.uuid.specs.declared.Variant.TheVariants.{RFC4122}
 use Rattle.uuid.specs.declared.Version.TheVariants.{Random}
-use Rattle.plain_text.specs.Texts.{Text}
+use Rattle.styled_text.specs.Texts.{Text}
 
 -- the id that is forced: there is a text, and it parses
 abbrev pub forced_id : Option Text → Option (List ℕ)
@@ -23,7 +23,7 @@ abbrev pub warning_without : Option (List ℕ) → Option Text
 warning_without None = Some (codes "__NEXTEST_FORCE_RUN_ID is set but invalid (expected UUID), generating random ID")
 warning_without (Some id) = None
 
--- a warning where there is a text that does not parse
+-- a warning if there is a text that does not parse
 abbrev pub run_id_warning : Option Text → Option Text
 run_id_warning None = None
 run_id_warning (Some text) = warning_without (parsed text)

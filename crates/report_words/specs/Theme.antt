@@ -1,14 +1,13 @@
 -- Bars and trees, in Unicode or in ASCII.
 use Rattle.std.specs.Prelude.{ℕ, Bool, true, false, codes, encode_utf8, encode_utf8_all}
-use Rattle.std.specs.List.{repeat}
-use Rattle.plain_text.specs.Texts.{Text}
+use Rattle.styled_text.specs.Names.{repeat, Text}
 
 -- the character of a bar: a light horizontal line, or a hyphen
 abbrev pub hbar_character : Bool → ℕ
 hbar_character true = 0x2500
 hbar_character false = 45
 
--- a bar of so many characters
+-- a bar of n characters
 unfoldable pub hbar_text : Bool → ℕ → Text
 hbar_text is_unicode width = repeat width (encode_utf8 (hbar_character is_unicode))
 

@@ -1,16 +1,14 @@
-//! Durations as text, from nanoseconds. Every number of them is taken.
+//! Durations as text, from nanoseconds. Every number of them is accepted.
 
 ghost use Rattle.std.specs.Prelude.{◌≡◌, ◌≤◌, ◌++◌, Some, chars, length};
 ghost use Rattle.report_words.specs.Durations.{clock_text, duration_text, leading_zero, relative_text, time_units, unit_name, unit_nanos, unit_within, whole_seconds};
-ghost use Rattle.plain_text.specs.Numbers.{seconds};
-ghost use Rattle.plain_text.specs.Texts.{right_in};
-ghost use Rattle.writers.specs.Writer.{Puts};
+ghost use Rattle.styled_text.specs.Names.{seconds, right_in, Puts};
 
 use itoa::Buffer;
-use plain_text::numbers::{digit_str, round_to, spaces_str};
 use run_names::time::Nanos;
 use std::fmt;
 use std::fmt::Formatter;
+use styled_text::numbers::{digit_str, round_to, spaces_str};
 use writers::show_written;
 use writers::text::WriteText;
 use writers::write_str::{WriteFault, WriteStr, write_strs};
@@ -26,8 +24,8 @@ const MILLISECOND: u128 = 1_000_000;
 
 /// A duration in seconds with two decimals, and above a minute in minutes and seconds.
 ///
-/// The nearest hundredth is shown, ties go up; as nextest does it, the seconds after the
-/// minutes can so be shown as 60.00.
+/// Rounds to the nearest hundredth, ties up; as in nextest, the seconds after the
+/// minutes can then be shown as 60.00.
 ///
 /// ```
 /// assert_eq!(FormattedDuration(Nanos(60_000_000_000)).to_string(alloc)?.as_str(), "60.00s");
@@ -62,7 +60,7 @@ impl fmt::Display for FormattedDuration {
 }
 
 // Writes nanoseconds as seconds with two decimals.
-#[tactic(auto, unfolding(plain_text::specs::Numbers::seconds, plain_text::specs::Numbers::with_point))]
+#[tactic(auto, unfolding(styled_text::specs::Numbers::seconds, styled_text::specs::Numbers::with_point))]
 fn write_seconds<W: WriteStr>(w: &mut W, nanos: u128) -> Result<(), WriteFault>
     ensures { Puts W.meaning w.old (seconds 2 nanos) result w.new }
 {
@@ -79,7 +77,7 @@ fn write_seconds<W: WriteStr>(w: &mut W, nanos: u128) -> Result<(), WriteFault>
     )
 }
 
-/// What becomes of a part of a second.
+/// How a part of a second is rounded.
 #[derive(Clone, Copy, Debug, PartialEq, Eq)]
 pub enum DurationRounding {
     /// It is left out, as for a time that has passed.
@@ -179,8 +177,7 @@ pub fn write_clock_between<W: WriteStr>(
     w.write_str(after)
 }
 
-// Writes seconds as hours, minutes and seconds, right-aligned in the given number of columns.
-#[tactic(auto, unfolding(plain_text::specs::Texts::right_in))]
+#[tactic(auto, unfolding(styled_text::specs::Texts::right_in))]
 fn write_clock_right<W: WriteStr>(
     w: &mut W,
     columns: usize,
@@ -210,7 +207,7 @@ fn leading_zero(n: u128) -> &'static str
     if n < 10 { "0" } else { "" }
 }
 
-/// A duration as the whole number of the longest unit that it has: years, months, days, hours, minutes, seconds,
+/// A duration as a whole number of the longest unit that it reaches: years, months, days, hours, minutes, seconds,
 /// milliseconds, microseconds or nanoseconds.
 ///
 /// A year has 365.25 days and a month 30.44.
@@ -283,7 +280,6 @@ impl TimeUnit {
         None
     }
 
-    // How many nanoseconds it has.
     fn nanos(self) -> u128
         ensures { result ≡ unit_nanos self }
     {
@@ -300,7 +296,6 @@ impl TimeUnit {
         }
     }
 
-    // What stands for it.
     fn name(self) -> &'static str
         ensures { result.now ≡ unit_name self }
     {

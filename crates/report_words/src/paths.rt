@@ -34,7 +34,6 @@ pub fn dylib_path(alloc: Global, value: Option<&str>) -> Result<Vec<&str>, OutOf
     }
 }
 
-// What stands between the colons of the list.
 fn paths_between_colons(alloc: Global, list: &str) -> Result<Vec<&str>, OutOfMemory>
     ensures { IfOk result (λ paths. map (λ path. path.now) paths.items ≡ between_colons list.now) }
 {

@@ -1,14 +1,14 @@
-//! Words that stand for one thing or for any other number of them.
+//! Words in the singular or the plural.
 //!
-//! Each row of the table has one function, which answers its first word for 1 and its second for every other number,
-//! also for 0, as nextest does. What the words are is written once, in the contracts' table `Plural`.
+//! Each row of the table has one function, which returns its first word for 1 and its second for every other number,
+//! including 0, as nextest does. The words are written once, in the contracts' table `Plural`.
 
 ghost use Rattle.std.specs.Prelude.{◌≡◌, true};
 ghost use Rattle.report_words.specs.Plural.{were_word, tests_word, tests_word_if, setup_scripts_word, binaries_word, paths_word, files_word, directories_word, this_crate_word, libraries_word, filters_word, sections_word, iterations_word, runs_word, orphans_word, errors_word, exist_word, end_word, remain_word};
 
 use run_names::config::NextestRunMode;
 
-/// "were" of several, "was" of one.
+/// "were" for several, "was" for one.
 #[tactic(auto, unfolding(crate::specs::Plural::were_word))]
 pub fn were_plural_if(plural: bool) -> &'static str
     ensures { result.now ≡ were_word plural }
@@ -23,7 +23,7 @@ pub fn tests_str(mode: NextestRunMode, count: usize) -> &'static str
     tests_plural_if(mode, count != 1)
 }
 
-/// "tests" of several and "test" of one, in benchmark mode "benchmarks" and "benchmark".
+/// "tests" for several and "test" for one, in benchmark mode "benchmarks" and "benchmark".
 #[tactic(auto, unfolding(crate::specs::Plural::tests_word_if))]
 pub fn tests_plural_if(mode: NextestRunMode, plural: bool) -> &'static str
     ensures { result.now ≡ tests_word_if mode plural }

@@ -7,17 +7,14 @@ ghost use Rattle.report_words.specs.RunId.{random_id, run_id, run_id_warning};
 
 use uuid::{Builder, Uuid};
 
-/// The name of the environment's variable whose value forces a run's id.
-pub const FORCE_RUN_ID_ENV: &str = "__NEXTEST_FORCE_RUN_ID";
-
-/// What is said where that variable's value is no id.
+// The warning if the value is no id.
 const INVALID_RUN_ID: &str =
     "__NEXTEST_FORCE_RUN_ID is set but invalid (expected UUID), generating random ID";
 
-/// The id that the value forces, or the version 4 id of sixteen random bytes; and a warning where there is a value that
+/// The id that the value forces, or the version 4 id of sixteen random bytes; and a warning if there is a value that
 /// is no id.
 ///
-/// The value is that of [`FORCE_RUN_ID_ENV`], in any form that `uuid` parses.
+/// The value is that of the environment's variable `__NEXTEST_FORCE_RUN_ID`, in any form that `uuid` parses.
 ///
 /// ```
 /// let (id, refused) = force_or_new_run_id(None, [0; 16]);
@@ -37,14 +34,12 @@ pub fn force_or_new_run_id(value: Option<&str>, random: [u8; 16]) -> (Uuid, Opti
     }
 }
 
-// The id that the text says, if it is one.
 fn parsed_id(text: &str) -> Option<Uuid>
     ensures { result ≡ parsed text.now }
 {
     Uuid::parse_str(text).ok()
 }
 
-// The version 4 id of sixteen random bytes.
 fn random_id(random: [u8; 16]) -> Uuid
     ensures { result ≡ random_id random }
 {

@@ -1,12 +1,12 @@
-//! The characters of bars and trees, in Unicode where the terminal has it, else in ASCII.
+//! The characters of bars and trees, in Unicode if the terminal has it, else in ASCII.
 
 ghost use Rattle.std.specs.Prelude.{◌≡◌, IfOk, codes, string_bytes, true};
 ghost use Rattle.report_words.specs.Theme.{hbar_character, hbar_text, progress_text, tree_branch_text, tree_continuation_text, tree_last_text};
 ghost use Rattle.writers.specs.Writer.{Puts};
 
-use plain_text::repeated::write_repeated;
 use run_names::memory::OutOfMemory;
 use std::alloc::Global;
+use styled_text::repeated::write_repeated;
 use writers::write_str::{WriteFault, WriteStr};
 
 /// The characters of bars and trees. By default they are ASCII.
@@ -34,7 +34,7 @@ impl ThemeCharacters {
     ///
     /// # Errors
     ///
-    /// Memory was refused. A writer takes the bar without any: [`ThemeCharacters::write_hbar`].
+    /// Memory was refused. [`ThemeCharacters::write_hbar`] writes the bar without allocating.
     pub fn hbar(&self, alloc: Global, width: usize) -> Result<String, OutOfMemory>
         ensures { IfOk result (λ bar. string_bytes bar ≡ hbar_text self.now.is_unicode width) }
     {
@@ -57,7 +57,6 @@ impl ThemeCharacters {
         write_repeated(w, width, self.hbar_char())
     }
 
-    // A bar of three characters.
     #[tactic(auto, unfolding(crate::specs::Theme::hbar_text))]
     fn short_bar(&self) -> &'static str
         ensures { result.now ≡ hbar_text self.now.is_unicode 3 }
@@ -72,28 +71,30 @@ impl ThemeCharacters {
         if self.is_unicode { "█▉▊▋▌▍▎▏ " } else { "=> " }
     }
 
-    /// What stands before a child that is not the last one: `├─` or `|-`.
+    /// The branch to a child that is not the last one: `├─` or `
+    /// -`.
     pub fn tree_branch(&self) -> &'static str
         ensures { result.now ≡ tree_branch_text self.now.is_unicode }
     {
         if self.is_unicode { "├─" } else { "|-" }
     }
 
-    /// What stands before the last child: `└─` or `\-`.
+    /// The branch to the last child: `└─` or `\-`.
     pub fn tree_last(&self) -> &'static str
         ensures { result.now ≡ tree_last_text self.now.is_unicode }
     {
         if self.is_unicode { "└─" } else { "\\-" }
     }
 
-    /// What stands below a child that is not the last one: `│ ` or `| `.
+    /// The line below a child that is not the last one: `│ ` or `
+    ///  `.
     pub fn tree_continuation(&self) -> &'static str
         ensures { result.now ≡ tree_continuation_text self.now.is_unicode }
     {
         if self.is_unicode { "│ " } else { "| " }
     }
 
-    /// What stands below the last child: two spaces.
+    /// The space below the last child: two spaces.
     pub fn tree_space(&self) -> &'static str
         ensures { result.now ≡ codes "  " }
     {

@@ -1,36 +1,22 @@
 -- The entries that are kept of the calls, and how the summary lists them.
 use Rattle.std.specs.Prelude.{ℕ, ◌-◌, Bool, false, List, [], ◌∷◌, ◌++◌, Option, Some, None, max}
-use Rattle.std.specs.Option.{option_to_list}
-use Rattle.std.specs.declared.cmp.Ordering.{Ordering}
-use Rattle.std.specs.Ordering.{is_lt}
-use Rattle.std.specs.List.Sorted.{IsSorted, IsStable}
-use Rattle.run_names.specs.Levels.{final_rank, reason_rank}
-use Rattle.run_model.specs.Statuses.{final_level_of}
-use Rattle.run_names.specs.Stress.{stress_key}
-use Rattle.run_names.specs.declared.name.OwnedTestInstanceId.{OwnedTestInstanceId}
-use Rattle.run_names.specs.UniquePrefixes.{UniquePrefix}
+use Rattle.styled_text.specs.Names.{option_to_list, Ordering, is_lt, IsSorted, IsStable, Text}
+use Rattle.run_model.specs.Names.{final_rank, reason_rank, final_level_of, stress_key, OwnedTestInstanceId, UniquePrefix, FinalStatusLevel, StressIndex, ReportCall}
 use Rattle.run_names.specs.declared.level.CancelReason.TheVariants as cause
-use Rattle.run_names.specs.declared.level.FinalStatusLevel.{FinalStatusLevel}
 use Rattle.run_names.specs.declared.level.FinalStatusLevel.TheVariants as final
-use Rattle.run_names.specs.declared.stress.StressIndex.{StressIndex}
-use Rattle.plain_text.specs.Texts.{Text}
-use Rattle.report_text.specs.declared.helpers.instance.DisplayCounterIndex.{DisplayCounterIndex}
+use Rattle.text_parts.specs.Names.{DisplayCounterIndex, attempt_output, CountedInstance, Settings}
 use Rattle.report_text.specs.declared.helpers.instance.DisplayCounterIndex.TheVariants.{Counter, Padded}
 use Rattle.report_words.specs.Parts.{Parts, Line, Lines, ◌⧺◌, each, paint}
 use Rattle.reporter_state.specs.Effects.{effect_of, entry_of}
 use Rattle.reporter_state.specs.KeptTests.{borrowed_test}
 use Rattle.reporter_state.specs.Order.{key_cmp, ordered_by}
-use Rattle.text_parts.specs.AttemptOutput.{attempt_output}
 use Rattle.test_text.specs.TestSkipped.{skip_line}
 use Rattle.test_text.specs.StatusLine.{status_line}
-use Rattle.run_model.specs.declared.call.ReportCall.{ReportCall}
 use Rattle.run_model.specs.declared.call.ReportCall.TheVariants.{Event, Header, Prefix}
 use Rattle.reporter_state.specs.declared.final_output.FinalOutput.{FinalOutput}
 use Rattle.reporter_state.specs.declared.final_output.FinalOutput.TheVariants.{Executed, ExecutedWithOutput, Skipped}
 use Rattle.reporter_state.specs.declared.final_output.FinalOutputEntry.{FinalOutputEntry}
 use Rattle.reporter_state.specs.declared.kept_test.KeptTest.{KeptTest}
-use Rattle.text_parts.specs.declared.instance.CountedInstance.{CountedInstance}
-use Rattle.text_parts.specs.declared.settings.Settings.{Settings}
 use Rattle.test_text.specs.declared.status_line.StatusLineKind.TheVariants.{Final}
 
 -- the greatest reason that a call of a past carries; the latest call of a past is its first

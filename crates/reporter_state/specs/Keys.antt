@@ -1,11 +1,6 @@
 -- The keys of kept entries, and what a map of them shows.
 use Rattle.std.specs.Prelude.{◌≡◌, ℕ, ◌<◌, None, List, [], ◌∷◌, map, reverse}
-use Rattle.std.specs.declared.cmp.Ordering.{Ordering}
-use Rattle.std.specs.declared.cmp.Reverse.{Reverse}
-use Rattle.std.specs.Ordering.{nat_cmp, on, then_cmp}
-use Rattle.std.specs.Cmp.{IsTotalOrder, then_total, on_total, nat_cmp_total}
-use Rattle.std.specs.Cmp.Lexicographic.{lists_total, nat_list_cmp_total}
-use Rattle.std.specs.List.{AllByRecursion}
+use Rattle.styled_text.specs.Names.{Ordering, Reverse, nat_cmp, on, then_cmp, IsTotalOrder, then_total, on_total, nat_cmp_total, lists_total, nat_list_cmp_total, AllByRecursion}
 use Rattle.reporter_state.specs.Entries.{level_key, test_key}
 use Rattle.reporter_state.specs.Order.{key_cmp}
 use Rattle.reporter_state.specs.declared.final_output.FinalOutput.{FinalOutput}

@@ -6,6 +6,7 @@ pub mod KeptTests
 pub mod Keys
 pub mod Loads
 pub mod Metadata
+pub mod Names
 pub mod Order
 pub mod Refusals
 pub mod Unread

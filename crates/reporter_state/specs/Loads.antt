@@ -1,28 +1,14 @@
 -- Which captured outputs a report shows or a store keeps, from results, display settings and levels: no output is looked at.
 use Rattle.std.specs.Prelude.{Bool, false, not, ◌&&◌, ◌||◌, nat_le, Option, None, Some, unwrap_or, if◌then◌else◌}
 use Rattle.std.specs.Option.{option_map_or}
-use Rattle.run_names.specs.Displays.{is_immediate}
-use Rattle.run_model.specs.Infos.{has_valid_output}
-use Rattle.run_names.specs.Levels.{status_rank}
-use Rattle.run_model.specs.Outputs.{has_loaded_output}
-use Rattle.run_model.specs.Statuses.{is_success, is_success_case, summary_of}
-use Rattle.run_names.specs.declared.config.TestOutputDisplay.{TestOutputDisplay}
-use Rattle.run_model.specs.declared.event.TestEventKind.{TestEventKind}
+use Rattle.run_model.specs.Names.{is_immediate, has_valid_output, status_rank, has_loaded_output, is_success, is_success_case, summary_of, TestOutputDisplay, TestEventKind, InfoResponse as Response}
+use Rattle.run_model.specs.Names.{UnitState, LoadOutput, OutputEventKind, ExecutionResultDescription, StatusCase, StatusSummary, Written}
 use Rattle.run_model.specs.declared.event.TestEventKind.TheVariants.{SetupScriptFinished, TestAttemptFailedWillRetry, TestFinished, InfoResponse}
-use Rattle.run_model.specs.declared.info.InfoResponse.{InfoResponse as Response}
 use Rattle.run_model.specs.declared.info.InfoResponse.TheVariants.{SetupScript, Test}
-use Rattle.run_model.specs.declared.info.UnitState.{UnitState}
 use Rattle.run_names.specs.declared.level.StatusLevel.TheVariants as level
-use Rattle.run_model.specs.declared.output_event.LoadOutput.{LoadOutput}
 use Rattle.run_model.specs.declared.output_event.LoadOutput.TheVariants.{Load, Skip}
-use Rattle.run_model.specs.declared.output_event.OutputEventKind.{OutputEventKind}
 use Rattle.run_model.specs.declared.output_event.OutputEventKind.TheVariants as decided
-use Rattle.run_model.specs.declared.status.ExecutionResultDescription.{ExecutionResultDescription}
-use Rattle.run_model.specs.declared.status.StatusCase.{StatusCase}
-use Rattle.run_model.specs.declared.status.StatusSummary.{StatusSummary}
-use Rattle.unit_report.specs.Overrides.{display_for}
-use Rattle.run_model.specs.Attempts.{Written}
-use Rattle.text_parts.specs.Finish.{is_ever_shown}
+use Rattle.text_parts.specs.Names.{display_for, is_ever_shown}
 use Rattle.store_text.specs.StoredOutput.{is_switched_on}
 use Rattle.store_text.specs.declared.config.StoreConfig.{StoreConfig}
 use Rattle.reporter_state.specs.declared.decider.OutputLoadDecider.{OutputLoadDecider}

@@ -1,8 +1,6 @@
 -- The final order of entries: by key, and those of one key in their order of arrival.
 use Rattle.std.specs.Prelude.{ℕ, List, [], ◌∷◌, Bool, if◌then◌else◌}
-use Rattle.std.specs.declared.cmp.Ordering.{Ordering}
-use Rattle.std.specs.Ordering.{nat_cmp}
-use Rattle.std.specs.Cmp.Lexicographic.{slice_cmp}
+use Rattle.styled_text.specs.Names.{Ordering, nat_cmp, slice_cmp}
 
 -- keys are lists of lists of numbers, in the order of words
 abbrev pub key_cmp : List (List ℕ) → List (List ℕ) → Ordering

@@ -1,8 +1,7 @@
 //! The ids of the binaries whose tests are kept.
 
 ghost use Rattle.std.specs.Prelude.{◌≡◌, ◌≤◌, IfOk, IsTrue, slice_index};
-ghost use Rattle.std.specs.Cmp.Lexicographic.{slice_cmp};
-ghost use Rattle.std.specs.Ordering.{nat_cmp};
+ghost use Rattle.styled_text.specs.Names.{slice_cmp, nat_cmp};
 ghost use Rattle.reporter_state.specs.Fronts.{word_of};
 
 use run_model::memory::OutOfMemory;

@@ -1,12 +1,8 @@
 //! The keys of summary entries.
 
 ghost use Rattle.std.specs.Prelude.{◌≡◌, refl, Some, IfOk};
-ghost use Rattle.std.specs.Ordering.{as_partial_cmp, eq_by_cmp, nat_cmp};
-ghost use Rattle.std.specs.Cmp.{eq_by_cmp_equiv, partial_equiv_from_equiv, partial_order_from_total};
-ghost use Rattle.std.specs.Cmp.Lexicographic.{slice_cmp};
-ghost use Rattle.reporter_state.specs.Entries.{counter_key, iteration_key, level_key, test_key};
-ghost use Rattle.reporter_state.specs.Keys.{Placed, placed_cmp, placed_key, placed_total};
-ghost use Rattle.reporter_state.specs.Order.{key_cmp};
+ghost use Rattle.styled_text.specs.Names.{as_partial_cmp, eq_by_cmp, nat_cmp, eq_by_cmp_equiv, partial_equiv_from_equiv, partial_order_from_total, slice_cmp};
+ghost use Rattle.reporter_state.specs.Names.{counter_key, iteration_key, level_key, test_key, Placed, placed_cmp, placed_key, placed_total, key_cmp};
 
 use crate::final_output::FinalOutput;
 use crate::kept_test::KeptTest;

@@ -2,9 +2,7 @@
 
 ghost use Rattle.std.specs.Prelude.{◌≡◌, IfOk, IsOk, false};
 ghost use Rattle.run_model.specs.Statuses.{is_aborted};
-ghost use Rattle.test_text.specs.TestFinished.{HasShownOutput, finish_of};
-ghost use Rattle.reporter_state.specs.Effects.{final_output, finished_entry, skipped_entry};
-ghost use Rattle.reporter_state.specs.Entries.{final_level_of_output};
+ghost use Rattle.reporter_state.specs.Names.{HasShownOutput, finish_of, final_output, finished_entry, skipped_entry, final_level_of_output};
 ghost use Rattle.text_parts.specs.Finish.{timed_at_end};
 
 use crate::binary_ids::BinaryIds;

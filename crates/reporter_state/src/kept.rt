@@ -2,13 +2,9 @@
 
 ghost use Rattle.std.specs.Prelude.{◌≡◌, List, [], ◌∷◌, ◌++◌, OnOk, OnErr};
 ghost use Rattle.writers.specs.Writer.{Puts};
-ghost use Rattle.test_text.specs.StatusLine.{status_line};
-ghost use Rattle.test_text.specs.declared.status_line.StatusLineKind.{StatusLineKind};
+ghost use Rattle.reporter_state.specs.Names.{status_line, StatusLineKind, final_text, shown_entries, final_order, IsFinalOrder, borrowed_test, FinalOutputEntry};
 ghost use Rattle.report_words.specs.Parts.{paint};
-ghost use Rattle.reporter_state.specs.Entries.{final_text, shown_entries, final_order, IsFinalOrder};
-ghost use Rattle.reporter_state.specs.KeptTests.{borrowed_test};
 ghost use Rattle.reporter_state.specs.declared.final_output.FinalOutput.TheVariants.{ExecutedWithOutput};
-ghost use Rattle.reporter_state.specs.declared.final_output.FinalOutputEntry.{FinalOutputEntry};
 
 use crate::entry_key::EntryKey;
 use crate::final_output::{FinalOutput, FinalOutputEntry};
@@ -37,8 +33,7 @@ pub struct KeptEntries {
 impl Model for KeptEntries {
     ghost use Rattle.std.specs.Prelude.{List};
     ghost use Rattle.std.specs.BTreeMap.{btree_map_len};
-    ghost use Rattle.reporter_state.specs.Keys.{ArePlaced, shown_of};
-    ghost use Rattle.reporter_state.specs.declared.final_output.FinalOutputEntry.{FinalOutputEntry};
+    ghost use Rattle.reporter_state.specs.Names.{ArePlaced, shown_of, FinalOutputEntry};
 
     ghost Value = { List FinalOutputEntry };
 

@@ -1,9 +1,7 @@
 //! A kept test: it has its own names, so that the event that named it need not live on.
 
 ghost use Rattle.std.specs.Prelude.{◌≡◌, IfOk};
-ghost use Rattle.reporter_state.specs.Entries.{instance_key};
-ghost use Rattle.reporter_state.specs.KeptTests.{kept_test};
-ghost use Rattle.reporter_state.specs.Order.{key_cmp};
+ghost use Rattle.reporter_state.specs.Names.{instance_key, kept_test, key_cmp};
 
 use crate::binary_ids::{BinaryIds, KeptBinaryId};
 use report_text::helpers::DisplayCounterIndex;

@@ -17,8 +17,7 @@ pub struct LoadedOutput {
 
 impl Model for LoadedOutput {
     ghost use Rattle.std.specs.Prelude.{◌≡◌, true};
-    ghost use Rattle.run_model.specs.Outputs.{has_loaded_output};
-    ghost use Rattle.run_model.specs.Attempts.{Written};
+    ghost use Rattle.run_model.specs.Names.{has_loaded_output, Written};
 
     ghost Value = { Written };
 

@@ -3,12 +3,8 @@
 ghost use Rattle.std.specs.Prelude.{◌≡◌, ◌++◌, ◌∷◌, List, [], OnOk, OnErr, None, max, true, false};
 ghost use Rattle.std.specs.Option.{is_some, option_to_list};
 ghost use Rattle.run_names.specs.Levels.{reason_rank};
-ghost use Rattle.test_text.specs.TestFinished.{HasShownOutput, finish_of};
-ghost use Rattle.reporter_state.specs.declared.final_output.FinalOutputEntry.{FinalOutputEntry};
-ghost use Rattle.reporter_state.specs.Effects.{IsFinishOf, TestEnd, effect_of, entry_of, finished_entry, kept_entry, may_grow_for};
-ghost use Rattle.reporter_state.specs.Loads.{lacks_output};
-ghost use Rattle.reporter_state.specs.Refusals.{decider_by};
-ghost use Rattle.reporter_state.specs.Entries.{final_order};
+ghost use Rattle.reporter_state.specs.Names.{HasShownOutput, finish_of, FinalOutputEntry, IsFinishOf, TestEnd, effect_of, entry_of, finished_entry, kept_entry, may_grow_for, lacks_output, decider_by};
+ghost use Rattle.reporter_state.specs.Names.{final_order};
 
 use crate::binary_ids::BinaryIds;
 use crate::faults::WriteEventError;

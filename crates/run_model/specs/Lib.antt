@@ -2,6 +2,7 @@ pub mod Attempts
 pub mod Decoded
 pub mod Events
 pub mod Infos
+pub mod Names
 pub mod Outputs
 pub mod Recorded
 pub mod Stats

@@ -1,9 +1,7 @@
 //! What happens in a run.
 
 ghost use Rattle.std.specs.Prelude.{◌≡◌, IfOk};
-ghost use Rattle.run_model.specs.Events.{run_finished, run_started, test_attempt_failed_will_retry, test_finished, test_skipped};
-ghost use Rattle.run_model.specs.Recorded.{recorded_kind};
-ghost use Rattle.run_model.specs.Unloaded.{unloaded_event};
+ghost use Rattle.run_model.specs.Names.{run_finished, run_started, test_attempt_failed_will_retry, test_finished, test_skipped, recorded_kind, unloaded_event};
 
 use crate::info::InfoResponse;
 use crate::output::{LiveSpec, RecordingSpec};

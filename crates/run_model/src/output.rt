@@ -5,11 +5,8 @@ ghost use Rattle.std.specs.Option.{unwrap_or};
 ghost use Rattle.std.specs.Cow.{cow_str_bytes, IsOwnedStr};
 ghost use Rattle.std.specs.Str.{encode_utf8_all};
 ghost use Rattle.bstr.specs.Utf8.{lossy_chars};
-ghost use Rattle.run_model.specs.Attempts.{execution_with_output, silent_execution, silent_output};
-ghost use Rattle.run_model.specs.Decoded.{decoded_text};
-ghost use Rattle.run_model.specs.Outputs.{subslice_value, stdout_part, stderr_part, combined_part, has_errors, has_loaded_output, is_loaded};
-ghost use Rattle.run_model.specs.Recorded.{recorded_execution, recorded_member, recorded_output};
-ghost use Rattle.run_model.specs.Unloaded.{unloaded_output};
+ghost use Rattle.run_model.specs.Names.{execution_with_output, silent_execution, silent_output, decoded_text, subslice_value, stdout_part, stderr_part, combined_part, has_errors, has_loaded_output};
+ghost use Rattle.run_model.specs.Names.{is_loaded, recorded_execution, recorded_member, recorded_output, unloaded_output};
 
 use crate::status::ExecutionResultDescription;
 use bstr::ByteSlice;

@@ -1,17 +1,9 @@
 -- What is handed in for the texts of a run without escape characters.
 use Rattle.std.specs.Prelude.{Bool, Option}
-use Rattle.std.specs.List.{AllByRecursion}
-use Rattle.run_names.specs.UniquePrefixes.{UniquePrefix}
-use Rattle.run_names.specs.declared.name.OwnedTestInstanceId.{OwnedTestInstanceId}
-use Rattle.run_names.specs.declared.not_seen.NotSeen.{NotSeen}
-use Rattle.run_model.specs.declared.output.ChildOutputDescription.{ChildOutputDescription}
-use Rattle.run_model.specs.declared.output.LiveSpec.{LiveSpec}
-use Rattle.run_model.specs.declared.replay.ReplayHeader.{ReplayHeader}
-use Rattle.run_model.specs.declared.status.SetupScriptExecuteStatus.{SetupScriptExecuteStatus}
-use Rattle.plain_text.specs.Escapes.{HasNoEscape}
+use Rattle.styled_text.specs.Names.{AllByRecursion, HasNoEscape}
+use Rattle.run_model.specs.Names.{UniquePrefix, OwnedTestInstanceId, NotSeen, ChildOutputDescription, LiveSpec, ReplayHeader, SetupScriptExecuteStatus}
 use Rattle.report_words.specs.PlainTexts.{HoldsIf}
-use Rattle.report_text.specs.PlainResults.{IsPlainResult}
-use Rattle.unit_report.specs.PlainOutputs.{IsPlainWritten}
+use Rattle.text_parts.specs.Names.{IsPlainResult, IsPlainWritten}
 
 -- a run's id in two parts holds no escape character
 abbrev pub IsPlainPrefix : UniquePrefix → Type 0

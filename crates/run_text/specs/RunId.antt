@@ -2,8 +2,7 @@
 use Rattle.std.specs.Prelude.{ℕ, false, List, Option, None, Some}
 use Rattle.uuid.specs.Text.{hyphenated_text, lower}
 use Rattle.run_names.specs.UniquePrefixes.{UniquePrefix}
-use Rattle.plain_text.specs.Texts.{Text}
-use Rattle.plain_text.specs.Escapes.{HasNoEscape}
+use Rattle.styled_text.specs.Names.{Text, HasNoEscape}
 use Rattle.report_words.proofs.lemmas.FreeWords.{free-run_id}
 use Rattle.report_words.specs.Parts.{Parts, Open, Count, RunIdPrefix, RunIdRest, Toned, given_toned, ◌⧺◌, plainly}
 

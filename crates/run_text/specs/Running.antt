@@ -1,9 +1,8 @@
 -- What runs while a run is cancelled, killed or paused.
 use Rattle.std.specs.Prelude.{ℕ, Bool, ◌&&◌, ◌==◌, codes}
 use Rattle.run_names.specs.declared.config.NextestRunMode.{NextestRunMode}
-use Rattle.report_words.specs.Plural.{setup_scripts_word, tests_word}
+use Rattle.report_words.specs.Names.{setup_scripts_word, tests_word, Fixed, Open, Word, words, number, ◌⧺◌, choice, Count}
 use Rattle.report_words.proofs.lemmas.FreeWords.{free-setup_scripts_word, free-tests_word_if}
-use Rattle.report_words.specs.Parts.{Fixed, Open, Word, words, number, ◌⧺◌, choice, Count}
 use Rattle.run_text.specs.declared.running.Running.{Running}
 
 -- so many setup scripts, and so many tests

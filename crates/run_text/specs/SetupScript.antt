@@ -1,25 +1,12 @@
 -- Setup scripts: that one has started, runs for long or has finished.
 use Rattle.std.specs.Prelude.{◌≡◌, ℕ, ◌+◌, Bool, true, false, ◌++◌, codes}
-use Rattle.std.specs.Fmt.{decimal}
-use Rattle.run_model.specs.Outputs.{has_loaded_output}
-use Rattle.run_model.specs.Statuses.{is_success}
-use Rattle.run_names.specs.declared.level.StatusLevel.{StatusLevel}
+use Rattle.styled_text.specs.Names.{decimal, Text, right_in, plain}
+use Rattle.run_model.specs.Names.{has_loaded_output, is_success, StatusLevel, ChildOutputDescription, LiveSpec, ExecutionResultDescription, SetupScriptExecuteStatus}
 use Rattle.run_names.specs.declared.level.StatusLevel.TheVariants as level
-use Rattle.run_model.specs.declared.output.ChildOutputDescription.{ChildOutputDescription}
-use Rattle.run_model.specs.declared.output.LiveSpec.{LiveSpec}
-use Rattle.run_model.specs.declared.status.ExecutionResultDescription.{ExecutionResultDescription}
 use Rattle.run_model.specs.declared.status.ExecutionResultDescription.TheVariants as outcome
 use Rattle.run_model.specs.declared.status.LeakTimeoutResult.TheVariants as leak
-use Rattle.run_model.specs.declared.status.SetupScriptExecuteStatus.{SetupScriptExecuteStatus}
-use Rattle.plain_text.specs.Texts.{Text, right_in}
-use Rattle.plain_text.specs.Style.{plain}
 use Rattle.report_words.specs.Parts.{Parts, Fixed, Open, Line, Lines, Tone, Pass, Fail, Skip, none, words, right, given_right, ◌⧺◌, choice, drawn_given}
-use Rattle.unit_report.specs.Durations.{bracketed, exceeded}
-use Rattle.text_parts.specs.AttemptOutput.{script_output}
-use Rattle.text_parts.specs.ResultWords.{short_word}
-use Rattle.text_parts.specs.Script.{Script, shown_script}
-use Rattle.text_parts.specs.Settings.{is_level_shown}
-use Rattle.text_parts.specs.declared.settings.Settings.{Settings}
+use Rattle.text_parts.specs.Names.{bracketed, exceeded, script_output, short_word, Script, shown_script, is_level_shown, Settings}
 
 -- which of so many scripts it is, from 1
 unfoldable pub script_counter : ℕ → ℕ → Text

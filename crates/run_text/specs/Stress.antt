@@ -1,25 +1,17 @@
--- The iterations of a stress run: that one has started or has finished.
+-- The iterations of a stress run: one has started or has finished.
 use Rattle.std.specs.Prelude.{ℕ, ◌+◌, Option, None, Some, codes}
 use Rattle.std.specs.Int.NonZero.{non_zero_u32_get}
-use Rattle.run_names.specs.declared.config.NextestRunMode.{NextestRunMode}
-use Rattle.run_model.specs.Stats.{final_stats_of}
-use Rattle.run_names.specs.Stress.{Remaining, Iterations, Endless, TimeLeft, completed_of, elapsed_of, remaining_of}
-use Rattle.run_model.specs.declared.stats.RunStats.{RunStats}
+use Rattle.run_model.specs.Names.{NextestRunMode, final_stats_of, Remaining, Iterations, Endless, TimeLeft, completed_of, elapsed_of, remaining_of, RunStats, StressProgress}
 use Rattle.run_names.specs.declared.stress.StressCount.TheVariants as total
-use Rattle.run_names.specs.declared.stress.StressProgress.{StressProgress}
 use Rattle.run_names.specs.declared.stress.StressProgress.TheVariants.{Count, Time}
-use Rattle.report_words.specs.Durations.{clock_text, whole_seconds}
-use Rattle.report_words.specs.Plural.{iterations_word}
+use Rattle.report_words.specs.Names.{clock_text, whole_seconds, iterations_word, ThemeCharacters, Fixed, Open, Line, Pass, none, words, Word, Toned, right, number, ◌⧺◌, openly}
 use Rattle.report_words.specs.declared.durations.DurationRounding.TheVariants.{Floor, Ceiling}
-use Rattle.report_words.specs.declared.theme.ThemeCharacters.{ThemeCharacters}
 use Rattle.report_words.proofs.lemmas.FreeWords.{free-clock_text, free-iterations_word}
-use Rattle.report_words.specs.Parts.{Fixed, Open, Line, Pass, none, words, Word, Toned, right, number, ◌⧺◌, openly}
 use Rattle.report_words.specs.Parts as tone
-use Rattle.unit_report.specs.Durations.{bracketed}
-use Rattle.text_parts.specs.Bar.{bar_line}
+use Rattle.text_parts.specs.Names.{bracketed, bar_line}
 use Rattle.run_text.specs.Summary.{outcome_tone, run_counts_text}
 
--- of how many iterations it is one, where that is known
+-- of how many iterations it is one, if that is known
 unfoldable pub of_iterations : StressProgress → Fixed Open
 of_iterations (Count (total.Count count) elapsed completed) = words (codes "/") ⧺ number tone.Count (non_zero_u32_get count)
 of_iterations (Count total.Infinite elapsed completed) = openly none
@@ -33,7 +25,7 @@ iteration_text x number_of = words (codes "iteration ") ⧺ number tone.Count nu
 abbrev pub toned_clock : ℕ → Fixed Open
 toned_clock n = Toned tone.Count (clock_text n) (free-clock_text n)
 
--- of how much time so much has passed, where that is known
+-- the time that has passed of the total, if that is known
 unfoldable pub of_time : StressProgress → Fixed Open
 of_time (Count all elapsed completed) = openly none
 of_time (Time all elapsed completed) = words (codes "/") ⧺ toned_clock (whole_seconds Floor all.0)

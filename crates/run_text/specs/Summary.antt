@@ -1,36 +1,24 @@
 -- The end of a run before its entries: how long it took, and its counts.
 use Rattle.std.specs.Prelude.{ℕ, not, ◌&&◌, ◌==◌, Option, None, Some, codes}
-use Rattle.std.specs.declared.num.NonZeroU32.{NonZeroU32}
-use Rattle.std.specs.Int.NonZero.{non_zero_u32_get}
-use Rattle.run_names.specs.Levels.{reason_words}
-use Rattle.run_model.specs.Stats.{final_stats_of, stress_stats_of}
-use Rattle.run_names.specs.declared.config.NextestRunMode.{NextestRunMode}
-use Rattle.run_names.specs.declared.level.CancelReason.{CancelReason}
-use Rattle.run_model.specs.declared.stats.RunStats.{RunStats}
-use Rattle.run_model.specs.declared.stats.FinalRunStats.{FinalRunStats}
+use Rattle.styled_text.specs.Names.{NonZeroU32, non_zero_u32_get}
+use Rattle.run_model.specs.Names.{reason_words, final_stats_of, stress_stats_of, NextestRunMode, CancelReason, RunStats, FinalRunStats, RunFinishedStats, StressFinalRunStats, StressRunStats}
+use Rattle.run_model.specs.Names.{StressIndex}
 use Rattle.run_model.specs.declared.stats.FinalRunStats.TheVariants.{Success, NoTestsRun, Cancelled, Failed}
-use Rattle.run_model.specs.declared.stats.RunFinishedStats.{RunFinishedStats}
 use Rattle.run_model.specs.declared.stats.RunFinishedStats.TheVariants.{Single, Stress}
-use Rattle.run_model.specs.declared.stats.StressFinalRunStats.{StressFinalRunStats}
 use Rattle.run_model.specs.declared.stats.StressFinalRunStats.TheVariants as stress
-use Rattle.run_model.specs.declared.stats.StressRunStats.{StressRunStats}
-use Rattle.run_names.specs.declared.stress.StressIndex.{StressIndex}
-use Rattle.report_words.specs.Plural.{iterations_word, tests_word_if}
-use Rattle.unit_report.specs.Durations.{bracketed}
-use Rattle.text_parts.specs.Bar.{bar_line}
-use Rattle.text_parts.specs.StatsText.{counted_text, summary_text}
-use Rattle.report_words.specs.declared.theme.ThemeCharacters.{ThemeCharacters}
+use Rattle.report_words.specs.Names.{iterations_word, tests_word_if, ThemeCharacters, Fixed, Open, Line, Tone, Pass, Fail, Skip, Count, none, words, Word, toned, Toned, right, number, ◌⧺◌, choice}
+use Rattle.report_words.specs.Names.{openly}
+use Rattle.text_parts.specs.Names.{bracketed, bar_line, counted_text, summary_text}
 use Rattle.report_words.proofs.lemmas.FreeWords.{free-iterations_word, free-reason_words, free-tests_word_if}
-use Rattle.report_words.specs.Parts.{Fixed, Open, Line, Tone, Pass, Fail, Skip, Count, none, words, Word, toned, Toned, right, number, ◌⧺◌, choice, openly}
 
--- what a run came to
+-- the style of the outcome of a run
 abbrev pub outcome_tone : FinalRunStats → Tone
 outcome_tone Success = Pass
 outcome_tone NoTestsRun = Skip
 outcome_tone (Cancelled reason kind) = Fail
 outcome_tone (Failed kind) = Fail
 
--- of how many tests so many ran, where that is another number
+-- the number of tests that were planned, if it differs from those that ran
 unfoldable pub initial_count_text : RunStats → Fixed Open
 initial_count_text x =
     choice (x.finished_count == x.initial_run_count) none (words (codes "/") ⧺ number Count x.initial_run_count)
@@ -46,12 +34,12 @@ run_counts_text mode x =
     ⧺ summary_text x
     ⧺ words (codes "\n")
 
--- of how many iterations so many have finished, where that is known
+-- the number of iterations that were planned, if it is known
 unfoldable pub of_total : Option NonZeroU32 → Fixed Open
 of_total None = openly none
 of_total (Some total) = words (codes "/") ⧺ number Count (non_zero_u32_get total)
 
--- how many iterations there were to be, and where that is not known how many have finished
+-- how many iterations were planned, or if that is not known how many have finished
 abbrev pub number_of : ℕ → Option NonZeroU32 → ℕ
 number_of current None = current
 number_of current (Some total) = non_zero_u32_get total
@@ -68,11 +56,11 @@ iterations_run_text i =
     ⧺ Word (iterations_word (last_number i)) (free-iterations_word _)
     ⧺ words (codes ": ")
 
--- how many iterations failed, where there is one
+-- how many iterations failed, if any
 unfoldable pub failed_iterations : ℕ → Fixed Open
 failed_iterations n = choice (n == 0) none (words (codes ", ") ⧺ counted_text n (toned Fail (codes "failed")))
 
--- why the last iteration was cancelled, where that is known
+-- why the last iteration was cancelled, if that is known
 unfoldable pub cancel_reason_text : Option CancelReason → Fixed Open
 cancel_reason_text None = openly none
 cancel_reason_text (Some reason) = words (codes "; cancelled due to ") ⧺ Toned Fail (reason_words reason) (free-reason_words reason)
@@ -92,7 +80,7 @@ stress_counts_text x =
     ⧺ cancelled_due_to x.last_final_stats
     ⧺ words (codes "\n")
 
--- what a stress run came to, and either run
+-- the style of the outcome of a stress run, and of either run
 abbrev pub stress_outcome_tone : StressFinalRunStats → Tone
 stress_outcome_tone stress.Success = Pass
 stress_outcome_tone stress.NoTestsRun = Skip

@@ -6,9 +6,9 @@ ghost use Rattle.report_words.specs.Parts.{paint};
 ghost use Rattle.run_text.specs.Cancel.{begin_cancel_text, begin_kill_text, ends_at_once, reason_text, still_running};
 
 use crate::running::{Running, ShownRunning};
-use plain_text::style::Styles;
-use plain_text::text::{Right, Toned};
 use run_model::level::CancelReason;
+use styled_text::style::Styles;
+use styled_text::text::{Right, Toned};
 use text_parts::settings::Settings;
 use writers::text::{Unless, When, WriteText};
 use writers::write_str::{WriteFault, WriteStr};
@@ -58,7 +58,7 @@ pub fn write_begin_kill<W: WriteStr>(
     (word, Reason(&settings.styles, reason), still, "\n").write_to(w)
 }
 
-// Whether a run that is cancelled for this reason does not wait for what runs.
+// Whether a run that is cancelled for this reason terminates what runs.
 fn ends_at_once(reason: Option<CancelReason>) -> bool
     ensures { result ≡ ends_at_once reason }
 {
@@ -68,7 +68,7 @@ fn ends_at_once(reason: Option<CancelReason>) -> bool
     }
 }
 
-// Why, where that is known.
+// The reason, if it is known.
 #[derive(Clone, Copy)]
 struct Reason<'a>(&'a Styles, Option<CancelReason>);
 
@@ -84,7 +84,7 @@ impl WriteText for Reason<'_> {
     }
 }
 
-// How many still run, where anything does; the flag says that they are terminated.
+// How many still run, if any; the flag says that they are terminated.
 #[derive(Clone, Copy)]
 struct StillRunning<'a>(&'a Settings, bool, Running);
 

@@ -1,13 +1,13 @@
-//! How a run stands, when it is asked for by a key.
+//! The state of a run, when it is requested by a key.
 
 ghost use Rattle.writers.specs.Writer.{Puts};
 ghost use Rattle.report_words.specs.Parts.{paint};
 ghost use Rattle.run_text.specs.Input.{input_enter_text};
 
-use plain_text::style::Styles;
-use plain_text::text::{Number, Right};
 use run_model::stats::RunStats;
 use run_model::time::Nanos;
+use styled_text::style::Styles;
+use styled_text::text::{Number, Right};
 use text_parts::stats_text::{Progress, failure_style};
 use unit_report::formatters::DisplayBracketedHhMmSs;
 use writers::text::WriteText;

@@ -1,14 +1,12 @@
 //! A run that is stopped for a while, and goes on.
 
 ghost use Rattle.std.specs.Prelude.{◌++◌};
-ghost use Rattle.writers.specs.Writer.{Puts};
-ghost use Rattle.plain_text.specs.Style.{styled};
-ghost use Rattle.plain_text.specs.Texts.{right_in};
+ghost use Rattle.styled_text.specs.Names.{Puts, styled, right_in};
 ghost use Rattle.report_words.specs.Parts.{paint};
 ghost use Rattle.run_text.specs.Pause.{due_to_signal, run_continued_text, run_paused_text};
 
 use crate::running::{Running, ShownRunning};
-use plain_text::text::{Right, Toned};
+use styled_text::text::{Right, Toned};
 use text_parts::settings::Settings;
 use writers::text::{Unless, WriteText};
 use writers::write_str::{WriteFault, WriteStr};
@@ -44,7 +42,6 @@ pub fn write_run_continued<W: WriteStr>(
     write_pause(w, settings, "Continuing", setup_scripts_running, running)
 }
 
-// Writes what the run does on a signal, and how many run.
 #[tactic(auto, unfolding(crate::specs::Pause::due_to_signal, crate::specs::Pause::now_running))]
 fn write_pause<W: WriteStr>(
     w: &mut W,

@@ -4,14 +4,14 @@ ghost use Rattle.std.specs.Prelude.{◌≡◌, ◌≤◌, length};
 ghost use Rattle.report_words.specs.Parts.{paint};
 ghost use Rattle.run_text.specs.RunId.{run_id_text, id_text};
 
-use plain_text::style::Styles;
-use plain_text::text::Toned;
 use run_model::run_id::ShortestRunIdPrefix;
+use styled_text::style::Styles;
+use styled_text::text::Toned;
 use uuid::Uuid;
 use writers::text::WriteText;
 use writers::write_str::{WriteFault, WriteStr};
 
-/// A run's id, with its unique prefix where that is known.
+/// A run's id, with its unique prefix if that is known.
 #[derive(Clone, Copy)]
 pub struct ShownRunId<'a>(
     pub &'a Styles,

@@ -4,14 +4,14 @@ ghost use Rattle.std.specs.Prelude.{◌≡◌};
 ghost use Rattle.report_words.specs.Parts.{paint};
 ghost use Rattle.run_text.specs.Running.{is_none_running, running_text};
 
-use plain_text::style::Styles;
-use plain_text::text::Number;
 use report_text::helpers::plural::{setup_scripts_str, tests_str};
 use run_model::config::NextestRunMode;
+use styled_text::style::Styles;
+use styled_text::text::Number;
 use writers::text::WriteText;
 use writers::write_str::{WriteFault, WriteStr};
 
-/// What runs. Setup scripts and tests never run at the same time; where both are counted, the scripts are told.
+/// What runs. Setup scripts and tests never run at the same time; if both are counted, the scripts are shown.
 #[derive(Clone, Copy)]
 pub struct Running {
     /// How many setup scripts run.

@@ -1,17 +1,17 @@
-//! The start of a run: its id and profile, and what it is to run.
+//! The start of a run: its id and profile, and the tests that will run.
 
 ghost use Rattle.writers.specs.Writer.{Puts};
 ghost use Rattle.report_words.specs.Parts.{paint};
 ghost use Rattle.run_text.specs.Start.{run_started_text, test_counts_text};
 
 use crate::run_id::ShownRunId;
-use plain_text::style::Styles;
-use plain_text::text::{Number, Right, Toned};
 use report_text::helpers::plural::{binaries_str, tests_str};
 use run_model::config::NextestRunMode;
 use run_model::event::TestCounts;
 use run_model::name::ProfileName;
 use run_model::run_id::ShortestRunIdPrefix;
+use styled_text::style::Styles;
+use styled_text::text::{Number, Right, Toned};
 use text_parts::bar::BarLine;
 use text_parts::settings::Settings;
 use unit_report::formatters::write_skip_counts;

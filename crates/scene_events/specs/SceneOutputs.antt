@@ -1,12 +1,9 @@
 -- What a unit wrote, as a scene holds it and as an event says it, and what the attempts of a test wrote that stand before the last one.
 use Rattle.std.specs.Prelude.{ℕ, List, [], length, slice_get, slice_set, Bool, ◌==◌, if◌then◌else◌, Option, None, Some}
 use Rattle.std.specs.Option.{option_map_or}
-use Rattle.run_model.specs.Attempts.{Attempt, Written, attempt_with_output}
-use Rattle.run_model.specs.Outputs.{has_loaded_output}
+use Rattle.run_model.specs.Names.{Attempt, Written, attempt_with_output, has_loaded_output, ChildOutputDescription, ExecutionResultDescription}
 use Rattle.run_model.specs.declared.output.ChildExecutionOutputDescription.TheVariants as described
-use Rattle.run_model.specs.declared.output.ChildOutputDescription.{ChildOutputDescription}
 use Rattle.run_model.specs.declared.output.ChildOutputDescription.TheVariants.{Split}
-use Rattle.run_model.specs.declared.status.ExecutionResultDescription.{ExecutionResultDescription}
 use Rattle.scene_events.specs.declared.scene.outputs.SceneOutput.{SceneOutput}
 use Rattle.scene_events.specs.declared.scene.outputs.SceneOutput.TheVariants.{Output, StartError}
 

@@ -1,16 +1,8 @@
 -- What a scene asks of a reporter.
 use Rattle.std.specs.Prelude.{◌≡◌, ℕ, List, [], ◌∷◌, ◌++◌, Bool, true, false, not, ◌||◌, Option, Result, Ok, Err}
-use Rattle.run_model.specs.Outputs.{has_loaded_output}
-use Rattle.run_model.specs.Stats.{planned_stats}
-use Rattle.run_model.specs.Statuses.{is_success}
-use Rattle.run_model.specs.declared.event.TestEventKind.{TestEventKind}
+use Rattle.run_model.specs.Names.{has_loaded_output, planned_stats, is_success, TestEventKind, CancelReason, TestInstanceId, ReplayHeader, RunStats, ReportCall}
 use Rattle.run_model.specs.declared.event.TestEventKind.TheVariants as kind
 use Rattle.run_model.specs.declared.info.InfoResponse.TheVariants as response
-use Rattle.run_names.specs.declared.level.CancelReason.{CancelReason}
-use Rattle.run_names.specs.declared.name.TestInstanceId.{TestInstanceId}
-use Rattle.run_model.specs.declared.replay.ReplayHeader.{ReplayHeader}
-use Rattle.run_model.specs.declared.stats.RunStats.{RunStats}
-use Rattle.run_model.specs.declared.call.ReportCall.{ReportCall}
 use Rattle.run_model.specs.declared.call.ReportCall.TheVariants as call
 use Rattle.scene_events.specs.Moments.{moment_of}
 use Rattle.scene_events.specs.SceneAttempts.{script_status}

@@ -1,8 +1,7 @@
 -- Lists of words, with `\,` between them.
 use Rattle.std.specs.Prelude.{ℕ, List, [], ◌∷◌, ◌++◌, Bool, false, ◌==◌, if◌then◌else◌, Option, None, Some, codes, bytes_eq}
 use Rattle.std.specs.Option.{option_map, option_and_then}
-use Rattle.run_names.specs.ErrorChains.{MessageAndCauses}
-use Rattle.run_names.specs.declared.name.OwnedTestInstanceId.{OwnedTestInstanceId}
+use Rattle.run_model.specs.Names.{MessageAndCauses, OwnedTestInstanceId}
 use Rattle.scene_fields.specs.Texts.{escape_byte, unescaped_after}
 
 abbrev pub Words : Type 0

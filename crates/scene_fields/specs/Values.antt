@@ -3,18 +3,12 @@ use Rattle.std.specs.Prelude.{ℕ, zero, suc, List, [], ◌∷◌, map, Bool, tr
 use Rattle.std.specs.Option.{option_map}
 use Rattle.std.specs.declared.num.NonZeroU32.{NonZeroU32}
 use native.Mathlib.Nat.{zero-lt-suc}
-use Rattle.run_names.specs.Displays.{display_name}
-use Rattle.run_names.specs.declared.config.NextestRunMode.{NextestRunMode}
+use Rattle.run_model.specs.Names.{display_name, NextestRunMode, TestOutputDisplay, CancelReason, FinalStatusLevel, FlakyResult, StressIndex}
 use Rattle.run_names.specs.declared.config.NextestRunMode.TheVariants as mode
-use Rattle.run_names.specs.declared.config.TestOutputDisplay.{TestOutputDisplay}
 use Rattle.run_names.specs.declared.config.TestOutputDisplay.TheVariants as display
-use Rattle.run_names.specs.declared.level.CancelReason.{CancelReason}
 use Rattle.run_names.specs.declared.level.CancelReason.TheVariants as reason
-use Rattle.run_names.specs.declared.level.FinalStatusLevel.{FinalStatusLevel}
 use Rattle.run_names.specs.declared.level.FinalStatusLevel.TheVariants as final
-use Rattle.run_model.specs.declared.status.FlakyResult.{FlakyResult}
 use Rattle.run_model.specs.declared.status.FlakyResult.TheVariants as flaky
-use Rattle.run_names.specs.declared.stress.StressIndex.{StressIndex}
 use Rattle.scene_fields.specs.Split.{cut}
 use Rattle.scene_fields.specs.Numbers.{number_in}
 use Rattle.scene_fields.specs.declared.values.ConfigKey.{ConfigKey}

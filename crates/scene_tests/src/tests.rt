@@ -31,6 +31,7 @@ const OPTIONS: Options<'static> = Options {
     status_level: StatusLevel::Pass,
     store: None,
     file: "FILE",
+    is_last: false,
 };
 
 const IN_COLOUR: Options<'static> = Options {

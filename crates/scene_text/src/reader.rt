@@ -122,8 +122,8 @@ impl LinesRead {
         Err(ReadFault::OutOfMemory)
     }
 
-    /// Reads the lines of a text as `read_more` does. A line that stands alone there gives its memory to a large output in it, which
-    /// is decoded where it stands. The errors are those of `read_more`.
+    /// Reads the lines of a text as `read_more` does. A line that is alone there gives its memory to a large output in it, which is
+    /// decoded in place. The errors are those of `read_more`.
     ///
     /// ```
     /// let mut read = LinesRead::new(alloc);
@@ -135,8 +135,9 @@ impl LinesRead {
         ensures left { IfErr result (LeavesLines self.old self.new (text_lines text.items)) }
         ensures stored { self.new.stored ≡ self.old.stored }
     {
-        if memchr(b'\n', text.as_slice()).is_some() || self.next == u64::MAX {
-            return self.read_more(alloc, text.as_slice());
+        let bytes = text.as_slice();
+        if memchr(b'\n', bytes).is_some() || self.next == u64::MAX || !has_large_field(bytes) {
+            return self.read_more(alloc, bytes);
         }
         let number = self.next;
         match self.read_owned_line(alloc, text) {
@@ -294,4 +295,10 @@ fn is_passed_over(line: &[u8]) -> bool
     ensures { result ≡ is_passed_over line.now }
 {
     matches!(line, [] | [b'#', ..])
+}
+
+// Whether a block of half that size has no tab, as each field of that size has one.
+fn has_large_field(line: &[u8]) -> bool {
+    line.chunks_exact(LARGE / 2)
+        .any(|block| memchr(b'\t', block).is_none())
 }

@@ -16,7 +16,7 @@ pub use Rattle.console_reporter.specs.Telling.{IsSameReporter}
 pub use Rattle.console_reporter.specs.declared.imp.store.Store.{Store}
 pub use Rattle.writers.specs.StringWriter.{string_meaning}
 pub use Rattle.writers.specs.TextBuffer.{BufferAccepts, buffer_meaning}
-pub use Rattle.plain_text.specs.Texts.{Text}
+pub use Rattle.styled_text.specs.Texts.{Text}
 pub use Rattle.writers.specs.Writer.{Meaning, WriterLaws}
 pub use Rattle.writers.specs.declared.write_str.text_buffer.TextBuffer.{TextBuffer}
 pub use Rattle.reporter_state.specs.Refusals.{first_refused, refusal_by}

@@ -1,9 +1,7 @@
 -- A writer whose delivery is put off, and the delivery of the rest.
 use Rattle.std.specs.Prelude.{◌≡◌, ◌⊎◌, ℕ, List, [], Option, Result, Err, ⊤}
-use Rattle.writers.specs.TextBuffer.{BufferAccepts, BufferStops}
-use Rattle.writers.specs.Writer.{Meaning, WriterLaws}
+use Rattle.styled_text.specs.Names.{BufferAccepts, BufferStops, Meaning, WriterLaws, TextBuffer}
 use Rattle.writers.specs.declared.write_str.WriteFault.TheVariants.{Device}
-use Rattle.writers.specs.declared.write_str.text_buffer.TextBuffer.{TextBuffer}
 use Rattle.command_line.specs.declared.fault.Fault.{Fault}
 use Rattle.command_line.specs.declared.fault.Fault.TheVariants.{WriteFailed}
 use Rattle.scenes.specs.declared.deferred.Deferred.{Deferred}

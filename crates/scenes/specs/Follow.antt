@@ -1,12 +1,8 @@
 -- A report that keeps up with its lines: what stops one, and what the run came to.
 use Rattle.std.specs.Prelude.{◌≡◌, ◌⊎◌, ℕ, List, ◌∷◌, ◌++◌, Bool, true, Result, Ok, Err, IfErr, IfOk, OnOk}
-use Rattle.std.specs.Borrow.{Bor}
-use Rattle.writers.specs.Writer.{Meaning}
+use Rattle.styled_text.specs.Names.{Bor, Meaning}
 use Rattle.console_reporter.specs.OptionalStore.{store_meaning}
-use Rattle.scene_text.specs.SceneTexts.{EventLine, ParsedLines, RunLine, is_begun, line_value, lines_before}
-use Rattle.scene_text.specs.declared.reader.LinesRead.{LinesRead}
-use Rattle.scene_events.specs.declared.scene.event.SceneEvent.{SceneEvent}
-use Rattle.scene_fields.specs.declared.fault.LineFault.{LineFault}
+use Rattle.scene_text.specs.Names.{EventLine, ParsedLines, RunLine, is_begun, line_value, lines_before, LinesRead, SceneEvent, LineFault}
 use Rattle.scenes.specs.Judged.{RefusesEvent}
 use Rattle.scenes.specs.ParsedScenes.{OfLines}
 use Rattle.scenes.specs.Prints.{Begins, Prints, PrintsFollowed}

@@ -8,3 +8,4 @@ pub mod Read
 pub mod Reports
 pub mod SceneReporter
 pub mod ParsedScenes
+pub mod Names

@@ -1,8 +1,6 @@
 -- Scenes as lines that were read.
 use Rattle.std.specs.Prelude.{◌≡◌, ℕ, List, Result, Ok, Err, ⊤}
-use Rattle.scene_text.specs.SceneTexts.{IsFirstFault, ParsedLines, RunLine, lines_read, no_lines, parsed_lines, text_lines}
-use Rattle.scene_fields.specs.declared.fault.LineFault.{LineFault}
-use Rattle.scene_events.specs.declared.scene.ParsedRun.{ParsedRun}
+use Rattle.scene_text.specs.Names.{IsFirstFault, ParsedLines, RunLine, lines_read, no_lines, parsed_lines, text_lines, LineFault, ParsedRun}
 use Rattle.command_line.specs.declared.fault.Fault.{Fault}
 use Rattle.command_line.specs.declared.fault.Fault.TheVariants as fault
 use Rattle.scenes.specs.declared.scene.Scene.{Scene}

@@ -1,18 +1,11 @@
 -- What two writers have of the report of a run and of what is stored of it: all of both, or a beginning of each.
 use Rattle.std.specs.Prelude.{◌≡◌, ◌≤◌, ◌⊎◌, ℕ, List, ◌++◌, true, length, reverse, Option, None, Result, IfErr, OnOk, ⊤}
-use Rattle.std.specs.Io.KnownBytes.{Appends}
-use Rattle.std.specs.List.{AllZip}
-use Rattle.std.specs.Option.{is_some}
-use Rattle.plain_text.specs.Texts.{Text}
-use Rattle.writers.specs.Writer.{AppendsFront, Meaning}
-use Rattle.writers.specs.declared.write_str.WriteFault.{WriteFault}
+use Rattle.styled_text.specs.Names.{Appends, AllZip, is_some, Text, AppendsFront, Meaning, WriteFault}
 use Rattle.writers.specs.declared.write_str.WriteFault.TheVariants.{Device, Memory}
 use Rattle.console_reporter.specs.Outcomes.{HasFront}
 use Rattle.reporter_state.specs.Refusals.{first_refused}
 use Rattle.run_model.specs.declared.call.ReportCall.{ReportCall}
-use Rattle.scene_events.specs.Scenes.{IsCallOf}
-use Rattle.scene_events.specs.declared.scene.SceneConfig.{SceneConfig}
-use Rattle.scene_text.specs.SceneTexts.{ParsedLines}
+use Rattle.scene_text.specs.Names.{IsCallOf, SceneConfig, ParsedLines}
 use Rattle.scenes.specs.Outcomes.{run_outcome}
 use Rattle.scenes.specs.Reports.{report_of, store_for, stored_of, decider_for}
 use Rattle.scenes.specs.declared.outcome.RunOutcome.{RunOutcome}

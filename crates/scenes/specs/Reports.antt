@@ -1,36 +1,20 @@
 -- What the program writes of a scene, and the calls that its reporter gets: those of its events, where it is asked for with the output left unread
 -- that no report shows.
 use Rattle.std.specs.Prelude.{ℕ, List, reverse, false, if◌then◌else◌, Option, ◌≡◌, Bool}
-use Rattle.std.specs.Option.{option_map}
-use Rattle.std.specs.List.{AllZip}
-use Rattle.run_names.specs.Filters.{default_config_filter}
-use Rattle.unit_report.specs.Levels.{overridden}
-use Rattle.unit_report.specs.declared.config.ShowProgress.{ShowProgress}
+use Rattle.styled_text.specs.Names.{option_map, AllZip, Text}
+use Rattle.run_model.specs.Names.{default_config_filter, ReportCall}
+use Rattle.text_parts.specs.Names.{overridden, ShowProgress, DisplayerKind}
 use Rattle.unit_report.specs.declared.config.ShowProgress.TheVariants as progress
-use Rattle.unit_report.specs.declared.unit_output.DisplayerKind.{DisplayerKind}
 use Rattle.unit_report.specs.declared.unit_output.DisplayerKind.TheVariants as displayer
-use Rattle.plain_text.specs.Texts.{Text}
-use Rattle.store_text.specs.declared.config.StoreConfig.{StoreConfig}
-use Rattle.console_reporter.specs.Configuration.{Configuration, configured_in}
-use Rattle.console_reporter.specs.Report.{report}
-use Rattle.console_reporter.specs.Stored.{stored}
-use Rattle.console_reporter.specs.declared.imp.builder.DisplayReporterBuilder.{DisplayReporterBuilder}
-use Rattle.console_reporter.specs.declared.imp.builder.Surroundings.{Surroundings}
-use Rattle.run_model.specs.declared.call.ReportCall.{ReportCall}
-use Rattle.reporter_state.specs.declared.faults.WriteEventError.{WriteEventError}
+use Rattle.reporter_state.specs.Names.{StoreConfig, WriteEventError, unread, unread_call, OutputLoadDecider}
+use Rattle.console_reporter.specs.Names.{Configuration, configured_in, report, stored, DisplayReporterBuilder, Surroundings, decider_of, IsIsolated}
 use Rattle.reporter_state.specs.declared.faults.WriteEventError.TheVariants.{RetriedSuccess, OutputNotLoaded, Io, Memory, Failed, StoreIo}
-use Rattle.scene_events.specs.Scenes.{IsCallOf}
+use Rattle.scene_text.specs.Names.{IsCallOf, SceneConfig, SceneEvent}
 use Rattle.scene_fields.specs.declared.fault.LineFault.TheVariants as line
-use Rattle.scene_events.specs.declared.scene.SceneConfig.{SceneConfig}
 use Rattle.command_line.specs.declared.fault.Fault.{Fault}
 use Rattle.command_line.specs.declared.fault.Fault.TheVariants.{Line, WriteFailed, StoreFailed, OutOfMemory}
 use Rattle.scenes.specs.declared.scene.Scene.{Scene}
 use Rattle.command_line.specs.declared.args.Options.{Options}
-use Rattle.console_reporter.specs.Accepted.{decider_of}
-use Rattle.console_reporter.specs.Isolation.{IsIsolated}
-use Rattle.reporter_state.specs.Unread.{unread, unread_call}
-use Rattle.reporter_state.specs.declared.decider.OutputLoadDecider.{OutputLoadDecider}
-use Rattle.scene_events.specs.declared.scene.event.SceneEvent.{SceneEvent}
 
 -- the calls of a scene: for each event one, in order
 abbrev pub AreCallsOf : Scene → List ReportCall → Type 0

@@ -4,15 +4,9 @@
 //! each event is written and delivered, and then the next are read. What is held is what the summary will list, and those lines.
 
 ghost use Rattle.std.specs.Prelude.{◌≡◌, ℕ, List, [], true, Option, None, Some, Ok, IfOk, IfErr, OnOk};
-ghost use Rattle.console_reporter.specs.OptionalStore.{IsSameStore, config_of, store_delivered, store_meaning};
-ghost use Rattle.console_reporter.specs.Telling.{IsSameReporter};
+ghost use Rattle.console_reporter.specs.Names.{IsSameStore, config_of, store_delivered, store_meaning, IsSameReporter};
 ghost use Rattle.scene_text.specs.SceneTexts.{RunLine, is_begun, no_lines, text_lines};
-ghost use Rattle.scenes.specs.Follow.{Followed, StopsBy};
-ghost use Rattle.scenes.specs.ParsedScenes.{OfLines, OfText};
-ghost use Rattle.scenes.specs.Prints.{Begins, Prints, PrintsFollowed, device};
-ghost use Rattle.scenes.specs.Read.{HasReadLines};
-ghost use Rattle.scenes.specs.Reports.{store_for};
-ghost use Rattle.scenes.specs.SceneReporter.{Follows, writers};
+ghost use Rattle.scenes.specs.Names.{Followed, StopsBy, OfLines, OfText, Begins, Prints, PrintsFollowed, device, HasReadLines, store_for, Follows, writers};
 
 use crate::devices::{RecordDevice, buffered};
 pub use crate::outcome::RunOutcome;
@@ -125,7 +119,7 @@ fn follow_to<'a, 'w, L: RunSource, W: WriteStr, S: WriteStr>(
     };
     let mut reporter = SceneReporter::build(alloc, builder, &read.run.config, writer, store);
     let followed = follow_lines(alloc, options, source, &mut read, more, &mut reporter);
-    let (writer, store) = reporter.reporter.into_parts();
+    let (writer, store) = reporter.into_parts(options);
     (followed, writer, store)
 }
 

@@ -4,9 +4,7 @@
 
 ghost use Rattle.std.specs.Prelude.{◌≡◌, ℕ, List, Option, None, Some, IfErr, OnOk, get_or};
 ghost use Rattle.reporter_state.specs.Refusals.{first_refused};
-ghost use Rattle.scenes.specs.Judged.{fault_of_first};
-ghost use Rattle.scenes.specs.Prints.{AreBegun, AreWhole, device};
-ghost use Rattle.scenes.specs.Reports.{decider_for, fault_at_call, store_for};
+ghost use Rattle.scenes.specs.Names.{fault_of_first, AreBegun, AreWhole, device, decider_for, fault_at_call, store_for};
 
 use crate::reporter::{builder_of, fault_at_call};
 use crate::scene::Scene;

@@ -3,8 +3,7 @@
 
 ghost use Rattle.std.specs.Fd.{file_raw_fd};
 ghost use Rattle.std.specs.Prelude.{◌≡◌, ◌⊎◌, ◌↔◌, ◌≤ℤ◌, ◌<ℤ◌, pos, IfErr, IfOk, IsTrue};
-ghost use Rattle.command_line.specs.Faults.{status_of};
-ghost use Rattle.command_line.specs.declared.fault.Fault.{Fault};
+ghost use Rattle.scenes.specs.Names.{status_of, Fault};
 
 use command_line::fault::{Fault, FaultLine, Program};
 use std::fmt::Display;

@@ -2,9 +2,8 @@
 
 ghost use Rattle.std.specs.Prelude.{◌≡◌, ℕ, List, [], Ok, true, IfErr, IfOk, OnOk};
 ghost use Rattle.std.specs.Io.Buffered.{reader_remaining};
-ghost use Rattle.command_line.specs.Faults.{IsJudgeFault};
+ghost use Rattle.scenes.specs.Names.{IsJudgeFault, AreLeftOf, HasReadLines};
 ghost use Rattle.scene_text.specs.SceneTexts.{LeavesLines, ParsedLines, ReadsLines, RunLine, is_begun, text_lines};
-ghost use Rattle.scenes.specs.Read.{AreLeftOf, HasReadLines};
 
 use command_line::fault::Fault;
 use command_line::pieces::next_piece;

@@ -4,16 +4,12 @@
 //! byte is written before a scene is accepted, and none of a scene that is refused.
 
 ghost use Rattle.std.specs.Prelude.{◌≡◌, ◌⊎◌, ℕ, List, [], Option, None, Some, IfOk, IfErr, OnOk};
-ghost use Rattle.command_line.specs.declared.fault.Fault.{Fault};
-ghost use Rattle.command_line.specs.Faults.{IsJudgeFault};
+ghost use Rattle.scenes.specs.Names.{Fault, IsJudgeFault, IsJudged, IsRefusedText, IsRejected, IsSceneAccepted, IsSceneRefused, ChecksEvent, Begins, Prints, Reported, StandAtOneCall, device};
+ghost use Rattle.scenes.specs.Names.{store_for, IsReadFault, IsSceneRead, OfText, scene_lines};
 ghost use Rattle.console_reporter.specs.OptionalStore.{IsSameStore, config_of, store_delivered, store_meaning};
-ghost use Rattle.scenes.specs.Judged.{IsJudged, IsRefusedText, IsRejected, IsSceneAccepted, IsSceneRefused, ChecksEvent};
-ghost use Rattle.plain_text.specs.Texts.{Text};
+ghost use Rattle.styled_text.specs.Texts.{Text};
 ghost use Rattle.run_model.specs.declared.call.ReportCall.{ReportCall};
-ghost use Rattle.scenes.specs.Prints.{Begins, Prints, Reported, StandAtOneCall, device};
-ghost use Rattle.scenes.specs.Reports.{store_for};
 ghost use Rattle.scene_text.specs.SceneTexts.{AllRead, event_lines, no_lines, text_lines, text_read};
-ghost use Rattle.scenes.specs.ParsedScenes.{IsReadFault, IsSceneRead, OfText, scene_lines};
 
 use crate::deferred::{Deferred, deliver_rest};
 use crate::devices::{RecordDevice, buffered};
@@ -328,6 +324,6 @@ fn report_to<'w, W: WriteStr, S: WriteStr>(
     let mut reporter = SceneReporter::build(alloc, builder, &scene.config, writer, store);
     let (events, lines) = (scene.events.as_slice(), scene.lines.as_slice());
     let reported = reporter.report_events(alloc, options, events, lines);
-    let (writer, store) = reporter.reporter.into_parts();
+    let (writer, store) = reporter.into_parts(options);
     (reported, writer, store)
 }

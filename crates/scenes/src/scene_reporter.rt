@@ -1,12 +1,9 @@
 //! The events of a scene, each made a call of the reporter: what each program does with the lines that were read.
 
 ghost use Rattle.std.specs.Prelude.{◌≡◌, ◌++◌, List, [], IfOk, IfErr, OnOk};
-ghost use Rattle.console_reporter.specs.HeldState.{HasFailed};
-ghost use Rattle.console_reporter.specs.OptionalStore.{config_of, store_delivered};
-ghost use Rattle.console_reporter.specs.Telling.{IsSameReporter};
+ghost use Rattle.console_reporter.specs.Names.{HasFailed, config_of, store_delivered, IsSameReporter};
 ghost use Rattle.scene_events.specs.Scenes.{IsCallOf, PushesCallOf};
-ghost use Rattle.scenes.specs.Reports.{builder_for, store_for, IsReadyCall};
-ghost use Rattle.scenes.specs.SceneReporter.{Follows, StopsAtEvent, writers};
+ghost use Rattle.scenes.specs.Names.{builder_for, store_for, IsReadyCall, Follows, StopsAtEvent, writers};
 
 use crate::outcome::RunOutcome;
 use crate::reporter::{fault_at_call, surroundings_of};
@@ -79,6 +76,20 @@ impl<'a, W: WriteStr, S: WriteStr> SceneReporter<'a, W, S> {
             }
         }
         Ok(())
+    }
+}
+
+impl<'a, W: WriteStr, S: WriteStr> SceneReporter<'a, W, S> {
+    /// Gives the writer and the store back. What the reporter kept is freed, unless the process ends.
+    pub(crate) fn into_parts(self, options: &Options<'_>) -> (&'a mut W, Option<Store<'a, S>>)
+        ensures writer { result.0 ≡ self.entry.reporter.writer }
+        ensures store { result.1 ≡ self.entry.reporter.store }
+    {
+        if options.is_last {
+            self.reporter.into_parts_unfreed()
+        } else {
+            self.reporter.into_parts()
+        }
     }
 }
 

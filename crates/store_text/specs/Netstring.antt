@@ -1,7 +1,6 @@
 -- Netstrings: a text after the number of its bytes, so that it may hold any.
 use Rattle.std.specs.Prelude.{ℕ, ◌++◌, length, codes}
-use Rattle.std.specs.Fmt.{decimal}
-use Rattle.plain_text.specs.Texts.{Text}
+use Rattle.styled_text.specs.Names.{decimal, Text}
 
 -- what precedes a text of n bytes
 unfoldable pub netstring_head : ℕ → Text

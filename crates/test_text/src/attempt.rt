@@ -1,11 +1,10 @@
 //! The number of an attempt.
 
-ghost use Rattle.plain_text.specs.Style.{styled};
-ghost use Rattle.plain_text.specs.Texts.{right_in};
+ghost use Rattle.styled_text.specs.Names.{styled, right_in};
 ghost use Rattle.test_text.specs.StatusLine.{attempt_words};
 
 use itoa::Buffer;
-use plain_text::style::Style;
+use styled_text::style::Style;
 use writers::text::WriteText;
 use writers::write_str::{WriteFault, WriteStr};
 

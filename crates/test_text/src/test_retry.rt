@@ -1,18 +1,14 @@
-//! An attempt that failed where another one follows.
+//! A failed attempt that is retried.
 
 ghost use Rattle.std.specs.Prelude.{◌≡◌, true};
-ghost use Rattle.plain_text.specs.Style.{styled};
-ghost use Rattle.plain_text.specs.Texts.{right_in};
-ghost use Rattle.writers.specs.Writer.{Puts};
+ghost use Rattle.styled_text.specs.Names.{styled, right_in, Puts};
 ghost use Rattle.report_words.specs.Parts.{paint};
 ghost use Rattle.test_text.specs.TestRetry.{HasFailedAttemptOutput, attempt_failed_text, delay_words, failed_output, is_failed_output_shown};
-ghost use Rattle.text_parts.specs.Settings.{is_level_shown};
+ghost use Rattle.text_parts.specs.Names.{is_level_shown, short_word};
 ghost use Rattle.test_text.specs.StatusLine.{attempt_words};
 ghost use Rattle.run_names.specs.declared.level.StatusLevel.TheVariants.{Retry};
-ghost use Rattle.text_parts.specs.ResultWords.{short_word};
 
 use itoa::Buffer;
-use plain_text::style::Style;
 use run_model::config::TestOutputDisplay;
 use run_model::level::StatusLevel;
 use run_model::name::TestInstanceId;
@@ -20,6 +16,7 @@ use run_model::output::LiveSpec;
 use run_model::status::{ExecuteStatus, ExecutionResultDescription, RetryData};
 use run_model::stress::StressIndex;
 use run_model::time::Nanos;
+use styled_text::style::Style;
 use text_parts::attempt_output::write_test_execute_status;
 use text_parts::instance::InstanceEnd;
 use text_parts::result_words::spaced_short_status_str;
@@ -28,8 +25,8 @@ use unit_report::formatters::{DisplayBracketedDuration, DisplayDurationBy};
 use writers::text::{Unless, WriteText};
 use writers::write_str::{WriteFault, WriteStr};
 
-/// Writes that an attempt has failed and another one follows, where such attempts are shown: its line, its output where
-/// that is shown at once, and how long the next attempt waits. Output that is shown must not have been left unread.
+/// Writes that an attempt has failed and is retried, if such attempts are shown: its line, its output if
+/// that is shown immediately, and how long the next attempt waits. Output that is shown must be loaded.
 ///
 /// ```
 /// let attempt = ExecuteStatus::failed(1, Nanos::from_millis(500)).with_retry_data(RetryData { attempt: 1, total_attempts: 3 });
@@ -90,7 +87,6 @@ impl WriteText for AttemptWord<'_> {
     }
 }
 
-// Writes the output of an attempt that failed, where that is shown at once.
 #[tactic(auto, unfolding(crate::specs::TestRetry::failed_output))]
 fn write_failed_output<W: WriteStr>(
     w: &mut W,
@@ -107,7 +103,7 @@ fn write_failed_output<W: WriteStr>(
     write_test_execute_status(w, settings, true, &run_status.result, &run_status.output)
 }
 
-// Whether the output of an attempt that failed is shown at once: by the setting of failures, also where the test could
+// Whether the output of a failed attempt is shown immediately: by the setting for failures, also if the test could
 // not be started.
 #[tactic(auto, unfolding(crate::specs::TestRetry::is_failed_output_shown))]
 fn shows_failed_output(settings: &Settings, failure_output: TestOutputDisplay) -> bool

@@ -1,4 +1,4 @@
-//! A test that starts, and another attempt of one: shown where output is not captured, or with commands.
+//! A test that starts, and a retry: shown if output is not captured, or with commands.
 
 ghost use Rattle.writers.specs.Writer.{Puts};
 ghost use Rattle.text_parts.specs.Instance.{padded_instance};
@@ -6,13 +6,13 @@ ghost use Rattle.report_words.specs.Parts.{paint};
 ghost use Rattle.test_text.specs.TestStarted.{command_text, test_retry_started_text, test_started_text};
 
 use crate::attempt::Try;
-use plain_text::text::Right;
 use report_text::helpers::quoting::write_shell_words;
 use run_model::command::CommandLine;
 use run_model::name::TestInstanceId;
 use run_model::stats::RunStats;
 use run_model::status::RetryData;
 use run_model::stress::StressIndex;
+use styled_text::text::Right;
 use text_parts::instance::{CountedInstance, UntimedEnd};
 use text_parts::settings::Settings;
 use writers::text::{When, WriteText};
@@ -66,7 +66,6 @@ pub fn write_test_retry_started<W: WriteStr>(
     write_command_line(w, settings, command_line)
 }
 
-// Writes the command that runs a test, where commands are shown.
 #[tactic(auto, unfolding(crate::specs::TestStarted::command_text))]
 fn write_command_line<W: WriteStr>(
     w: &mut W,

@@ -1,19 +1,15 @@
--- The line that follows the line of a test whose process was ended from outside, on Windows.
+-- The line after the line of a test whose process was aborted, on Windows.
 use Rattle.std.specs.Prelude.{ℤ, false, Option, None, Some, [], ◌++◌, codes}
-use Rattle.run_names.specs.declared.abort.AbortDescription.{AbortDescription}
+use Rattle.run_model.specs.Names.{AbortDescription, ExecutionResultDescription, FailureDescription}
 use Rattle.run_names.specs.declared.abort.AbortDescription.TheVariants.{UnixSignal, WindowsNtStatus, WindowsJobObject}
-use Rattle.run_model.specs.declared.status.ExecutionResultDescription.{ExecutionResultDescription}
 use Rattle.run_model.specs.declared.status.ExecutionResultDescription.TheVariants as outcome
-use Rattle.run_model.specs.declared.status.FailureDescription.{FailureDescription}
 use Rattle.run_model.specs.declared.status.FailureDescription.TheVariants.{ExitCode, Abort}
 use Rattle.report_text.specs.Failure.{nt_status_text}
-use Rattle.plain_text.specs.Indent.{indent}
-use Rattle.plain_text.specs.Texts.{Text}
-use Rattle.plain_text.specs.Style.{plain}
+use Rattle.styled_text.specs.Names.{indent, Text, plain}
 use Rattle.report_words.specs.Parts.{Parts, Fixed, Line, Lines, Count, Fail, none, words, toned, Toned, drawn_given, ◌⧺◌, plainly, loosely}
 use Rattle.report_text.proofs.lemmas.FreeDetails.{free-hex_text}
 
--- what the system says of a status, if it is known: its later lines begin so too, where they are not empty
+-- the message of a status, if it is known: its later lines have the margin too, if they are not empty
 unfoldable pub indented_message : Text → Text
 indented_message message = indent (codes "           - ") false message
 
@@ -36,7 +32,7 @@ unfoldable pub job_object_line : Fixed Line
 job_object_line =
     words (codes "           - ") ⧺ toned Fail (codes "terminated") ⧺ words (codes " via ") ⧺ toned Count (codes "job object") ⧺ words (codes "\n")
 
--- a signal is told by the word of the line itself
+-- a signal is named in the test's own line
 abbrev pub line_of_abort : AbortDescription → Parts false Lines
 line_of_abort (UnixSignal signal name) = plainly none
 line_of_abort (WindowsNtStatus code message) = loosely (nt_line code message)
@@ -46,7 +42,7 @@ abbrev pub line_of_failure : FailureDescription → Parts false Lines
 line_of_failure (ExitCode code) = plainly none
 line_of_failure (Abort abort) = line_of_abort abort
 
--- the line after the line of a test that ended so
+-- the line after the line of a test with this result
 unfoldable pub abort_line : ExecutionResultDescription → Parts false Lines
 abort_line outcome.Pass = plainly none
 abort_line (outcome.Leak result) = plainly none

@@ -1,21 +1,13 @@
--- The output of a finished attempt or of a setup script, and how that ended.
-use Rattle.std.specs.Ordering.{int_eq}
+-- The output of a finished attempt or of a setup script, and how it ended.
+use Rattle.styled_text.specs.Names.{int_eq, Text, HasNoEscape, Style, Styles}
 use Rattle.std.specs.Prelude.{pos, Bool, true, false, not, ◌&&◌, None, Some, [], codes, if◌then◌else◌, refl}
-use Rattle.run_model.specs.Attempts.{Written}
-use Rattle.run_model.specs.declared.status.ExecutionResultDescription.{ExecutionResultDescription}
+use Rattle.run_model.specs.Names.{Written, ExecutionResultDescription, FailureDescription, UnitKind}
 use Rattle.run_model.specs.declared.status.ExecutionResultDescription.TheVariants as outcome
-use Rattle.run_model.specs.declared.status.FailureDescription.{FailureDescription}
 use Rattle.run_model.specs.declared.status.FailureDescription.TheVariants.{ExitCode, Abort}
 use Rattle.run_model.specs.declared.status.LeakTimeoutResult.TheVariants as leak
 use Rattle.run_model.specs.declared.status.SlowTimeoutResult.TheVariants as slow
-use Rattle.run_names.specs.declared.unit.UnitKind.{UnitKind}
 use Rattle.run_names.specs.declared.unit.UnitKind.TheVariants as unit
-use Rattle.plain_text.specs.Texts.{Text}
-use Rattle.plain_text.specs.Escapes.{HasNoEscape}
-use Rattle.report_words.specs.Parts.{Parts, Line, Lines, none, words, Word, ◌⧺◌, choice, drawn_given_line}
-use Rattle.report_words.specs.declared.theme.ThemeCharacters.{ThemeCharacters}
-use Rattle.plain_text.specs.declared.style.Style.{Style}
-use Rattle.plain_text.specs.declared.style.Styles.{Styles}
+use Rattle.report_words.specs.Names.{Parts, Line, Lines, none, words, Word, ◌⧺◌, choice, drawn_given_line, ThemeCharacters}
 use Rattle.unit_report.specs.UnitOutput.{OutputLayout, execution_output}
 use Rattle.unit_report.proofs.lemmas.UnitColourPairs.{ends-execution_output}
 use Rattle.unit_report.specs.declared.unit_output.header.OutputHeader.{OutputHeader}
@@ -25,7 +17,7 @@ use Rattle.unit_report.specs.declared.unit_output.header.OutputName.TheVariants 
 use Rattle.text_parts.specs.InfoResult.{info_text}
 use Rattle.text_parts.specs.declared.settings.Settings.{Settings}
 
--- the style of the headers: that of retries, else by how the attempt ended
+-- the style of the headers: that of retries, else from the result
 abbrev pub result_style : Styles → ExecutionResultDescription → Style
 result_style s outcome.Pass = s.pass
 result_style s (outcome.Leak leak.Pass) = s.skip
@@ -38,7 +30,7 @@ result_style s (outcome.Timeout slow.Fail) = s.fail
 abbrev pub header_style : Styles → ExecutionResultDescription → Bool → Style
 header_style s result is_retry = if is_retry then s.retry else result_style s result
 
--- the bars of a header; the flag says that output stands at the beginning of its lines
+-- the bars of a header; the flag says that output has no margin
 abbrev pub stream_header : Bool → ThemeCharacters → Style → OutputName → OutputHeader
 stream_header true theme style name = Bars style theme (Some 2) name 2
 stream_header false theme style name = Bars style theme None name 3
@@ -61,12 +53,12 @@ layout_in kind no_indent theme style = record {
   output_indent = output_margin no_indent;
 }
 
--- how the output of a unit is laid out that ended so
+-- the layout of the output of a unit with this result
 abbrev pub finished_layout : Settings → UnitKind → ExecutionResultDescription → Bool → OutputLayout
 finished_layout s kind result is_retry = layout_in kind s.no_output_indent s.theme_characters (header_style s.styles result is_retry)
 
--- how the unit ended is said again after its output, unless that is plain: not of a panic, which ends with code 101,
--- nor of a code where handles were left open
+-- the result is repeated after the output, unless it is plain: not for a panic, which exits with code 101,
+-- nor for a code if handles were left open
 abbrev pub has_info_after_failure : FailureDescription → Bool → Bool
 has_info_after_failure (ExitCode code) leaked = not (int_eq code (pos 101)) && not leaked
 has_info_after_failure (Abort abort) leaked = true
@@ -78,7 +70,7 @@ has_info_line (outcome.Fail failure leaked) = has_info_after_failure failure lea
 has_info_line outcome.ExecFail = false
 has_info_line (outcome.Timeout result) = true
 
--- how the line begins that says so; a benchmark is called a test there
+-- the start of that line; a benchmark is called a test there
 unfoldable pub info_line_start : UnitKind → Text
 info_line_start unit.Test = codes "    (test "
 info_line_start unit.Script = codes "    (script "
@@ -95,18 +87,18 @@ shown_info_line kind result = Word (info_line_start kind) (free-info_line_start 
 unfoldable pub info_line : UnitKind → ExecutionResultDescription → Parts false Lines
 info_line kind result = choice (has_info_line result) (shown_info_line kind result) none
 
--- what a unit wrote, which ended so: the style of its headers depends on that
+-- the output of a unit with this result, which decides the style of its headers
 abbrev pub written_part : Settings → UnitKind → Bool → ExecutionResultDescription → Written → Parts false Line
 written_part s kind is_retry result output =
     drawn_given_line
     (λ t. execution_output s.unit_output t (layout_in kind s.no_output_indent s.theme_characters (header_style t result is_retry)) output)
     (λ t. ends-execution_output s.unit_output t _ output)
 
--- that, and how the unit ended; the flag says that another attempt follows
+-- the output, and the result; the flag says that another attempt follows
 unfoldable pub unit_output : Settings → UnitKind → Bool → ExecutionResultDescription → Written → Parts false Line
 unit_output s kind is_retry result output = written_part s kind is_retry result output ⧺ info_line kind result
 
--- the same of an attempt of a test, and of a setup script, which is never tried again
+-- for an attempt of a test, and for a setup script, which is never retried
 abbrev pub attempt_output : Settings → Bool → ExecutionResultDescription → Written → Parts false Line
 attempt_output s is_retry result output = unit_output s unit.Test is_retry result output
 

@@ -1,24 +1,18 @@
--- When a finished test is shown: at once, and at the end of the run.
+-- When a finished test is shown: immediately, and at the end of the run.
 use Rattle.std.specs.Ordering.{int_eq}
 use Rattle.std.specs.Prelude.{◌≡◌, ℕ, ◌<◌, pos, Bool, true, false, not, Some, ◌&&◌, ◌||◌, ◌==◌, nat_le, nat_lt, if◌then◌else◌}
-use Rattle.run_names.specs.Displays.{is_immediate, is_final}
-use Rattle.run_names.specs.Levels.{final_rank, reason_rank, status_rank}
-use Rattle.run_model.specs.Statuses.{final_level_of, status_level_of}
-use Rattle.run_names.specs.declared.abort.AbortDescription.{AbortDescription}
+use Rattle.run_model.specs.Names.{is_immediate, is_final, final_rank, reason_rank, status_rank, final_level_of, status_level_of, AbortDescription, TestOutputDisplay, ExecutionResultDescription}
+use Rattle.run_model.specs.Names.{FailureDescription, StatusSummary}
 use Rattle.run_names.specs.declared.abort.AbortDescription.TheVariants.{UnixSignal, WindowsNtStatus, WindowsJobObject}
-use Rattle.run_names.specs.declared.config.TestOutputDisplay.{TestOutputDisplay}
 use Rattle.run_names.specs.declared.level.CancelReason.TheVariants as cause
-use Rattle.run_model.specs.declared.status.ExecutionResultDescription.{ExecutionResultDescription}
 use Rattle.run_model.specs.declared.status.ExecutionResultDescription.TheVariants as outcome
-use Rattle.run_model.specs.declared.status.FailureDescription.{FailureDescription}
 use Rattle.run_model.specs.declared.status.FailureDescription.TheVariants.{ExitCode, Abort}
-use Rattle.run_model.specs.declared.status.StatusSummary.{StatusSummary}
 use Rattle.unit_report.specs.Overrides.{display_for}
 use Rattle.text_parts.specs.declared.finish.OutputTiming.{OutputTiming}
 use Rattle.text_parts.specs.declared.finish.OutputTiming.TheVariants as row
 use Rattle.text_parts.specs.declared.settings.Settings.{Settings}
 
--- the process was ended as the run ends its processes: by signal 15, or with its job
+-- the process was ended in the way of nextest: by signal 15, or with its job
 abbrev pub is_terminated_abort : AbortDescription → Bool
 is_terminated_abort (UnixSignal signal name) = int_eq signal (pos 15)
 is_terminated_abort (WindowsNtStatus code message) = false
@@ -35,18 +29,18 @@ is_terminated (outcome.Fail failure leaked) = is_terminated_failure failure
 is_terminated outcome.ExecFail = false
 is_terminated (outcome.Timeout result) = false
 
--- the row of a test that ended so, under a reason of this rank
+-- the row of a test with this result, under a reason of this rank
 unfoldable pub output_timing : ℕ → ExecutionResultDescription → OutputTiming
 output_timing reason result =
     if (reason == reason_rank (Some cause.TestFailureImmediate)) && is_terminated result then row.Hidden
     else (if nat_lt reason (reason_rank (Some cause.Signal)) then row.Shown
     else (if reason == reason_rank (Some cause.Signal) then row.ShownOnce else row.Hidden))
 
--- output with this setting is shown, at once or at the end of the run, unless a reason for cancelling hides it
+-- output with this setting is shown, immediately or at the end of the run, unless a cancel reason hides it
 abbrev pub is_ever_shown : TestOutputDisplay → Bool
 is_ever_shown display = is_immediate display || is_final display
 
--- what a row says of a display: whether the output is shown at once, and whether it is at the end
+-- a row for a display: whether the output is shown immediately, and whether at the end
 unfoldable pub timed_at_once : OutputTiming → TestOutputDisplay → Bool
 timed_at_once row.Hidden display = false
 timed_at_once row.Shown display = is_immediate display
@@ -57,25 +51,25 @@ timed_at_end row.Hidden display = false
 timed_at_end row.Shown display = is_final display
 timed_at_end row.ShownOnce display = is_final display && not (is_immediate display)
 
--- what it says of a test that the summary is to list
+-- a row for a test that the summary should list
 unfoldable pub timed_listed : OutputTiming → Bool → Bool
 timed_listed row.Hidden is_wanted = false
 timed_listed row.Shown is_wanted = is_wanted
 timed_listed row.ShownOnce is_wanted = is_wanted
 
--- when the output of a test is shown that asks for these settings
+-- when the output of a test with these settings is shown
 unfoldable pub display_of : Settings → TestOutputDisplay → TestOutputDisplay → StatusSummary → TestOutputDisplay
 display_of s success failure x = display_for s.unit_output.overrides success failure x
 
--- the line of the test is shown at once
+-- the line of the test is shown immediately
 unfoldable pub is_line_shown : Settings → StatusSummary → Bool
 is_line_shown s x = nat_le (status_rank (status_level_of x)) (status_rank s.status_levels.status_level)
 
--- its output is shown at once
+-- its output is shown immediately
 abbrev pub is_shown_at_once : ℕ → TestOutputDisplay → ExecutionResultDescription → Bool
 is_shown_at_once reason display result = timed_at_once (output_timing reason result) display
 
--- the summary is to list it: for its output, or for its level
+-- the summary should list it: for its output, or for its level
 unfoldable pub is_final_wanted : Settings → TestOutputDisplay → StatusSummary → Bool
 is_final_wanted s display x = is_final display || nat_le (final_rank (final_level_of x)) (final_rank s.status_levels.final_status_level)
 

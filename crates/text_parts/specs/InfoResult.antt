@@ -1,23 +1,16 @@
--- What an attempt came to, in words.
+-- The result of an attempt, in words.
 use Rattle.std.specs.Prelude.{ℤ, Bool, true, false, Option, None, Some, [], ◌++◌, codes, refl}
-use Rattle.std.specs.Fmt.{signed_decimal}
-use Rattle.run_names.specs.declared.abort.AbortDescription.{AbortDescription}
+use Rattle.styled_text.specs.Names.{signed_decimal, Text, plain, HasNoEscape}
+use Rattle.run_model.specs.Names.{AbortDescription, ExecutionResultDescription, FailureDescription, LeakTimeoutResult, SlowTimeoutResult}
 use Rattle.run_names.specs.declared.abort.AbortDescription.TheVariants.{UnixSignal, WindowsNtStatus, WindowsJobObject}
-use Rattle.run_model.specs.declared.status.ExecutionResultDescription.{ExecutionResultDescription}
 use Rattle.run_model.specs.declared.status.ExecutionResultDescription.TheVariants as outcome
-use Rattle.run_model.specs.declared.status.FailureDescription.{FailureDescription}
 use Rattle.run_model.specs.declared.status.FailureDescription.TheVariants.{ExitCode, Abort}
-use Rattle.run_model.specs.declared.status.LeakTimeoutResult.{LeakTimeoutResult}
 use Rattle.run_model.specs.declared.status.LeakTimeoutResult.TheVariants as leak
-use Rattle.run_model.specs.declared.status.SlowTimeoutResult.{SlowTimeoutResult}
 use Rattle.run_model.specs.declared.status.SlowTimeoutResult.TheVariants as slow
-use Rattle.plain_text.specs.Texts.{Text}
-use Rattle.plain_text.specs.Style.{plain}
-use Rattle.plain_text.specs.Escapes.{HasNoEscape}
 use Rattle.report_words.specs.Parts.{Parts, Fixed, Open, Count, Pass, Fail, Skip, words, toned, Toned, Verbatim, ◌⧺◌, choice, plainly, drawn_given}
 use Rattle.report_words.proofs.lemmas.FreeWords.{free-signed}
 
--- that a process left handles open, where it did
+-- a process left handles open, if it did
 unfoldable pub leaked_note : Bool → Text
 leaked_note false = []
 leaked_note true = plain (codes " (leaked handles)")
@@ -35,7 +28,7 @@ unfoldable pub exit_code_info : ℤ → Bool → Fixed Open
 exit_code_info code leaked =
     toned Fail (codes "failed") ⧺ words (codes " with exit code ") ⧺ Toned Count (signed_decimal code) (free-signed code) ⧺ leaked_part leaked
 
--- the name of a signal, where it has one
+-- the name of a signal, if it has one
 unfoldable pub signal_name : Option Text → Text
 signal_name None = []
 signal_name (Some name) = plain (codes ": SIG") ++ plain name

@@ -1,7 +1,6 @@
--- The tests that lines speak of.
+-- The tests that lines are about.
 use Rattle.std.specs.Prelude.{false, Option, codes}
-use Rattle.run_names.specs.declared.name.TestInstanceId.{TestInstanceId}
-use Rattle.run_names.specs.declared.stress.StressIndex.{StressIndex}
+use Rattle.run_model.specs.Names.{TestInstanceId, StressIndex}
 use Rattle.report_text.specs.Instance.{instance_part}
 use Rattle.report_words.specs.Parts.{Parts, Line, words, ◌⧺◌}
 use Rattle.text_parts.specs.Settings.{padded_counter}
@@ -16,6 +15,6 @@ padded_instance s stress instance = record { stress_index = stress; counter = pa
 unfoldable pub instance_end : CountedInstance → Parts false Line
 instance_end test = instance_part test.stress_index test.counter test.instance ⧺ words (codes "\n")
 
--- the end of a line that has no duration: the place of that is left empty
+-- the end of a line without a duration: its columns are empty
 unfoldable pub untimed_end : CountedInstance → Parts false Line
 untimed_end test = words (codes " [         ] ") ⧺ instance_end test

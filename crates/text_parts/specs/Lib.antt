@@ -4,6 +4,7 @@ pub mod Bar
 pub mod Finish
 pub mod InfoResult
 pub mod Instance
+pub mod Names
 pub mod ResultWords
 pub mod Script
 pub mod Settings

@@ -1,15 +1,12 @@
 -- The words of results in the lines of tests.
 use Rattle.std.specs.Prelude.{Bool, true, false, None, Some, ◌++◌, codes}
-use Rattle.std.specs.Fmt.{signed_decimal}
-use Rattle.run_names.specs.declared.abort.AbortDescription.{AbortDescription}
+use Rattle.styled_text.specs.Names.{signed_decimal, Text}
+use Rattle.run_model.specs.Names.{AbortDescription, ExecutionResultDescription, FailureDescription}
 use Rattle.run_names.specs.declared.abort.AbortDescription.TheVariants.{UnixSignal, WindowsNtStatus, WindowsJobObject}
-use Rattle.run_model.specs.declared.status.ExecutionResultDescription.{ExecutionResultDescription}
 use Rattle.run_model.specs.declared.status.ExecutionResultDescription.TheVariants as outcome
-use Rattle.run_model.specs.declared.status.FailureDescription.{FailureDescription}
 use Rattle.run_model.specs.declared.status.FailureDescription.TheVariants.{ExitCode, Abort}
 use Rattle.run_model.specs.declared.status.LeakTimeoutResult.TheVariants as leak
 use Rattle.run_model.specs.declared.status.SlowTimeoutResult.TheVariants as slow
-use Rattle.plain_text.specs.Texts.{Text}
 use Rattle.text_parts.specs.declared.result_words.ShortWord.{ShortWord}
 use Rattle.text_parts.specs.declared.result_words.ShortWord.TheVariants as shown
 
@@ -26,7 +23,7 @@ short_abort_word (UnixSignal signal None) = codes "SIG " ++ signed_decimal signa
 short_abort_word (WindowsNtStatus code message) = codes "ABORT"
 short_abort_word WindowsJobObject = codes "ABORT"
 
--- a failure, which left handles open where the flag is set
+-- a failure; the flag says that it left handles open
 abbrev pub long_failure_word : FailureDescription → Bool → Text
 long_failure_word (ExitCode code) false = codes "FAIL"
 long_failure_word (ExitCode code) true = codes "FAIL + LEAK"
@@ -57,12 +54,12 @@ short_word outcome.ExecFail = codes "XFAIL"
 short_word (outcome.Timeout slow.Pass) = codes "TMPASS"
 short_word (outcome.Timeout slow.Fail) = codes "TMT"
 
--- a short word as it is shown: of a signal without a name its number
+-- a short word as it is shown: a signal without a name by its number
 abbrev pub shown_word : ShortWord → Text
 shown_word (shown.Text word) = word.now
 shown_word (shown.Signal signal) = codes "SIG " ++ signed_decimal signal
 
--- the word of a success, where the flag is set with the word that it was slow; other results do not come here
+-- the word of a success; the flag says that it is called slow. Other results do not occur here
 unfoldable pub success_word : Bool → ExecutionResultDescription → Text
 success_word false outcome.Pass = codes "PASS"
 success_word false (outcome.Leak result) = codes "LEAK"
@@ -75,7 +72,7 @@ success_word true (outcome.Timeout result) = codes "SLOW+TMPASS"
 success_word true (outcome.Fail failure leaked) = codes "SLOW"
 success_word true outcome.ExecFail = codes "SLOW"
 
--- whether the success is one without reserve
+-- whether the success is plain
 abbrev pub is_plain_success : Bool → ExecutionResultDescription → Bool
 is_plain_success true result = false
 is_plain_success false outcome.Pass = true

@@ -1,9 +1,7 @@
 -- Setup scripts as their lines name them.
 use Rattle.std.specs.Prelude.{false, List, ◌∷◌, Option}
-use Rattle.std.specs.List.{AllByRecursion}
+use Rattle.styled_text.specs.Names.{AllByRecursion, HasNoEscape, Text}
 use Rattle.run_names.specs.declared.stress.StressIndex.{StressIndex}
-use Rattle.plain_text.specs.Escapes.{HasNoEscape}
-use Rattle.plain_text.specs.Texts.{Text}
 use Rattle.report_text.specs.Instance.{script_part}
 use Rattle.report_text.specs.Quoting.{shell_words}
 use Rattle.report_words.specs.Parts.{Parts, Open}
@@ -16,7 +14,7 @@ pub record Script : Type 0 where
   pub program : Text
   pub args : List Text
 
--- what the code hands on of it
+-- as the code has it
 abbrev pub script_of : ScriptInstance → Script
 script_of x = record { stress_index = x.stress_index; script_id = x.script_id.now; program = x.program.now; args = x.args.now }
 

@@ -1,15 +1,11 @@
--- What a reporter goes by, from its configuration.
+-- The settings of a reporter, from its configuration.
 use Rattle.std.specs.Prelude.{ℕ, ◌+◌, Bool, true, false, ◌||◌, Option, None, Some, length, nat_le}
 use Rattle.std.specs.Fmt.{decimal}
-use Rattle.run_names.specs.Levels.{status_rank}
-use Rattle.run_names.specs.declared.config.TestOutputDisplay.{TestOutputDisplay}
+use Rattle.run_model.specs.Names.{status_rank, TestOutputDisplay, StatusLevel, RunStats}
 use Rattle.run_names.specs.declared.config.TestOutputDisplay.TheVariants as display
-use Rattle.run_names.specs.declared.level.StatusLevel.{StatusLevel}
-use Rattle.run_model.specs.declared.stats.RunStats.{RunStats}
-use Rattle.report_words.specs.Theme.{hbar_character}
+use Rattle.report_words.specs.Names.{hbar_character, ThemeCharacters}
 use Rattle.report_text.specs.declared.helpers.instance.DisplayCounterIndex.{DisplayCounterIndex}
 use Rattle.report_text.specs.declared.helpers.instance.DisplayCounterIndex.TheVariants.{Counter, Padded}
-use Rattle.report_words.specs.declared.theme.ThemeCharacters.{ThemeCharacters}
 use Rattle.unit_report.specs.declared.config.ProgressDisplay.{ProgressDisplay}
 use Rattle.unit_report.specs.declared.config.ProgressDisplay.TheVariants as shown
 use Rattle.unit_report.specs.declared.unit_output.overrides.OutputDisplayOverrides.{OutputDisplayOverrides}
@@ -18,13 +14,13 @@ use Rattle.text_parts.specs.declared.settings.Settings.{Settings}
 abbrev pub theme_of : Bool → ThemeCharacters
 theme_of is_unicode = record { is_unicode = is_unicode }
 
--- how wide a counter's numbers are, where counters are shown: as wide as the number of tests
+-- the width of a counter's numbers, if counters are shown: that of the number of tests
 abbrev pub counter_width_of : ProgressDisplay → ℕ → Option ℕ
 counter_width_of shown.Counter run_count = Some (length (decimal run_count))
 counter_width_of shown.Bar run_count = None
 counter_width_of shown.None run_count = None
 
--- whose setting decides when output is shown. Without capture there is none to show, save why a test could not be started
+-- whose setting decides when output is shown. Without capture there is none to show, except why a test could not be started
 abbrev pub overrides_by : Bool → Option TestOutputDisplay → Option TestOutputDisplay → OutputDisplayOverrides
 overrides_by true success failure = record {
   force_success_output = Some display.Never;
@@ -37,7 +33,7 @@ overrides_by false success failure = record {
   force_exec_fail_output = failure;
 }
 
--- how many tests have finished, of how many that were to run, where counters have a width
+-- how many tests have finished, of how many planned, if counters have a width
 abbrev pub counter_where : Option ℕ → RunStats → Option DisplayCounterIndex
 counter_where None x = None
 counter_where (Some width) x = Some (Counter x.finished_count x.initial_run_count)
@@ -45,7 +41,7 @@ counter_where (Some width) x = Some (Counter x.finished_count x.initial_run_coun
 abbrev pub finished_counter : Settings → RunStats → Option DisplayCounterIndex
 finished_counter s x = counter_where s.counter_width x
 
--- the same plus one: the number of the test that starts
+-- plus one: the number of the test that starts
 abbrev pub next_where : Option ℕ → RunStats → Option DisplayCounterIndex
 next_where None x = None
 next_where (Some width) x = Some (Counter (x.finished_count + 1) x.initial_run_count)
@@ -53,7 +49,7 @@ next_where (Some width) x = Some (Counter (x.finished_count + 1) x.initial_run_c
 abbrev pub started_counter : Settings → RunStats → Option DisplayCounterIndex
 started_counter s x = next_where s.counter_width x
 
--- a bar in its place, as wide as the counters of the run
+-- a bar as wide as the counters of the run
 abbrev pub padded_where : Option ℕ → ThemeCharacters → Option DisplayCounterIndex
 padded_where None theme = None
 padded_where (Some width) theme = Some (Padded (hbar_character theme.is_unicode) width)
@@ -61,10 +57,10 @@ padded_where (Some width) theme = Some (Padded (hbar_character theme.is_unicode)
 abbrev pub padded_counter : Settings → Option DisplayCounterIndex
 padded_counter s = padded_where s.counter_width s.theme_characters
 
--- what has this level is shown at once
+-- a line of this level is shown during the run
 unfoldable pub is_level_shown : Settings → StatusLevel → Bool
 is_level_shown s level = nat_le (status_rank level) (status_rank s.status_levels.status_level)
 
--- the start of a test is shown: where its output stands after it, or its command
+-- the start of a test is shown: if its output follows, or its command is shown
 unfoldable pub shows_starts : Settings → Bool
 shows_starts s = s.no_capture || s.verbose

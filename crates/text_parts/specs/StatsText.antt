@@ -1,12 +1,10 @@
--- The counts of a run in words, and what they make of it.
+-- The counts of a run in words, and their style.
 use Rattle.std.specs.Prelude.{ℕ, Bool, true, false, ◌&&◌, ◌==◌, codes, if◌then◌else◌, refl}
-use Rattle.run_model.specs.Stats.{has_failures}
-use Rattle.run_model.specs.declared.stats.RunStats.{RunStats}
-use Rattle.plain_text.specs.Texts.{Text}
-use Rattle.plain_text.specs.Escapes.{HasNoEscape}
+use Rattle.run_model.specs.Names.{has_failures, RunStats}
+use Rattle.styled_text.specs.Names.{Text, HasNoEscape}
 use Rattle.report_words.specs.Parts.{Fixed, Open, Tone, Pass, Fail, Skip, Count, none, words, Word, toned, number, ◌⧺◌, choice}
 
--- what a run is by whether something has failed in it
+-- the style of a run, by whether something in it has failed
 abbrev pub failure_tone : RunStats → Tone
 failure_tone x = if has_failures x then Fail else Pass
 
@@ -17,7 +15,7 @@ counted_front n = number Count n ⧺ words (codes " ")
 abbrev pub counted_text : ℕ → Fixed Open → Fixed Open
 counted_text n word = counted_front n ⧺ word
 
--- what stands before the first of the notes in parentheses, and before each other
+-- the separator before the first of the notes in parentheses, and before each other
 abbrev pub note_separator : Bool → Text
 note_separator true = codes " ("
 note_separator false = codes ", "
@@ -26,7 +24,7 @@ pub free-note_separator : (b : Bool) → HasNoEscape (note_separator b)
 free-note_separator true = refl
 free-note_separator false = refl
 
--- how many of the tests that passed are of a kind, where there is one; the flag says that no note stands before
+-- how many of the tests that passed are of a kind, if any; the flag says that this is the first note
 unfoldable pub passed_front : Bool → ℕ → Fixed Open
 passed_front is_first n = Word (note_separator is_first) (free-note_separator is_first) ⧺ counted_front n
 
@@ -45,17 +43,17 @@ passed_notes x =
     ⧺ passed_note ((x.passed_slow == 0) && (x.flaky == 0)) x.leaky (toned Skip (codes "leaky"))
     ⧺ notes_end ((x.passed_slow == 0) && ((x.flaky == 0) && (x.leaky == 0)))
 
--- how many of the failed tests failed since they leaked handles
+-- how many of the failed tests failed because they leaked handles
 unfoldable pub leaky_failed_note : ℕ → Fixed Open
 leaky_failed_note n =
     choice (n == 0) none (words (codes " (") ⧺ number Count n ⧺ words (codes " due to being ") ⧺ toned Skip (codes "leaky") ⧺ words (codes ")"))
 
--- the tests that failed, where there is one
+-- the tests that failed, if any
 unfoldable pub failed_count : RunStats → Fixed Open
 failed_count x =
     choice (x.failed == 0) none (counted_text x.failed (toned Fail (codes "failed")) ⧺ leaky_failed_note x.leaky_failed ⧺ words (codes ", "))
 
--- the tests that did not succeed in another way, where there is one
+-- the tests that did not succeed in another way, if any
 abbrev pub other_failed_count : ℕ → Fixed Open → Fixed Open
 other_failed_count n word = choice (n == 0) none (counted_text n word ⧺ words (codes ", "))
 
@@ -69,7 +67,7 @@ timed_out_count n = other_failed_count n (toned Fail (codes "timed out"))
 unfoldable pub failed_counts : RunStats → Fixed Open
 failed_counts x = failed_count x ⧺ exec_failed_count x.exec_failed ⧺ timed_out_count x.timed_out
 
--- all counts: passed and skipped always, the others where they are not 0
+-- all counts: passed and skipped always, the others if they are not 0
 unfoldable pub summary_text : RunStats → Fixed Open
 summary_text x =
     counted_text x.passed (toned Pass (codes "passed"))

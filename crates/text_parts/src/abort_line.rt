@@ -1,20 +1,18 @@
-//! The line that follows the line of a test whose process was ended from outside, on Windows.
+//! The line after the line of a test whose process was aborted, on Windows.
 
-ghost use Rattle.report_text.specs.Failure.{nt_status_text};
-ghost use Rattle.plain_text.specs.Style.{styled};
-ghost use Rattle.writers.specs.Writer.{Puts};
+ghost use Rattle.text_parts.specs.Names.{nt_status_text, nt_message, line_of_abort, line_of_failure, abort_line};
+ghost use Rattle.styled_text.specs.Names.{styled, Puts};
 ghost use Rattle.report_words.specs.Parts.{paint};
-ghost use Rattle.text_parts.specs.AbortLine.{nt_message, line_of_abort, line_of_failure, abort_line};
 
-use plain_text::style::{Style, Styles};
-use plain_text::text::{IndentLater, Toned};
 use report_text::helpers::write_nt_status;
 use run_model::abort::{AbortDescription, DescriptionText};
 use run_model::status::{ExecutionResultDescription, FailureDescription};
+use styled_text::style::{Style, Styles};
+use styled_text::text::{IndentLater, Toned};
 use writers::text::WriteText;
 use writers::write_str::{WriteFault, WriteStr};
 
-/// Writes what is said of an abort after the line of its test. A signal is told by the line itself.
+/// Writes the line about an abort after the line of its test. A signal is named in the line itself.
 #[tactic(auto, unfolding(crate::specs::AbortLine::abort_line))]
 #[inline(always)]
 pub fn write_abort_line<W: WriteStr>(
@@ -91,7 +89,7 @@ struct NtStatus(Style, i32);
 impl WriteText for NtStatus {
     ghost text = { λ s. styled s.0 (nt_status_text s.1) };
 
-    #[tactic(auto, unfolding(plain_text::specs::Style::styled))]
+    #[tactic(auto, unfolding(styled_text::specs::Style::styled))]
     fn write_to<W: WriteStr>(&self, w: &mut W) -> Result<(), WriteFault> {
         w.write_str(self.0.prefix())?;
         write_nt_status(w, self.1)?;
@@ -99,14 +97,14 @@ impl WriteText for NtStatus {
     }
 }
 
-// What the system says of a status, if it is known, with later lines that begin as the first does.
+// The message of a status, if it is known, with later lines indented like the first.
 #[derive(Clone, Copy)]
 struct NtMessage<'a>(&'a Option<DescriptionText>);
 
 impl WriteText for NtMessage<'_> {
     ghost text = { λ m. nt_message m.0.now };
 
-    #[tactic(auto, unfolding(crate::specs::AbortLine::nt_message, crate::specs::AbortLine::indented_message, plain_text::specs::Style::plain))]
+    #[tactic(auto, unfolding(crate::specs::AbortLine::nt_message, crate::specs::AbortLine::indented_message, styled_text::specs::Style::plain))]
     fn write_to<W: WriteStr>(&self, w: &mut W) -> Result<(), WriteFault> {
         match self.0 {
             None => Ok(()),

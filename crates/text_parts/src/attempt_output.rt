@@ -1,28 +1,28 @@
-//! The output of a finished attempt or of a setup script, and how that ended.
+//! The output of a finished attempt or of a setup script, and how it ended.
 
 ghost use Rattle.std.specs.Prelude.{◌≡◌, true};
 ghost use Rattle.run_model.specs.Outputs.{has_loaded_output};
 ghost use Rattle.writers.specs.Writer.{Puts};
 ghost use Rattle.report_words.specs.Parts.{paint};
-ghost use Rattle.unit_report.specs.UnitOutput.{layout_of};
-ghost use Rattle.text_parts.specs.AttemptOutput.{attempt_output, exec_fail_header, finished_layout, has_info_after_failure, has_info_line, info_line_start, layout_in, output_margin, result_style, script_output, stream_header, unit_output};
+ghost use Rattle.text_parts.specs.Names.{layout_of, attempt_output, exec_fail_header, finished_layout, has_info_after_failure, has_info_line, info_line_start, layout_in, output_margin, result_style};
+ghost use Rattle.text_parts.specs.Names.{script_output, stream_header, unit_output};
 
 use crate::info_result::InfoResult;
 use crate::settings::Settings;
-use plain_text::style::{Style, Styles};
 use report_text::helpers::ThemeCharacters;
 use run_model::output::{ChildExecutionOutputDescription, LiveSpec};
 use run_model::status::{
     ExecutionResultDescription, FailureDescription, LeakTimeoutResult, SlowTimeoutResult,
 };
 use run_model::unit::UnitKind;
+use styled_text::style::{Style, Styles};
 use unit_report::unit_output::{ChildOutputSpec, OutputHeader, OutputName};
 use writers::text::{When, WriteText};
 use writers::write_str::{WriteFault, WriteStr};
 
-/// Writes the output of an attempt that ended with this result, and how it ended where nextest has a line for that.
+/// Writes the output of an attempt with this result, and how it ended if nextest has a line for that.
 ///
-/// `is_retry` says that another attempt follows. The output must not have been left unread.
+/// `is_retry` says that another attempt follows. The output must be loaded.
 pub fn write_test_execute_status<W: WriteStr>(
     w: &mut W,
     settings: &Settings,
@@ -37,8 +37,8 @@ pub fn write_test_execute_status<W: WriteStr>(
     write_unit_execute_status(w, settings, kind, is_retry, outcome, output)
 }
 
-/// Writes the output of a setup script that ended with this result, and how it ended where nextest has a line for that. It
-/// must not have been left unread.
+/// Writes the output of a setup script with this result, and how it ended if nextest has a line for that. The output
+/// must be loaded.
 pub fn write_setup_script_execute_status<W: WriteStr>(
     w: &mut W,
     settings: &Settings,
@@ -52,7 +52,7 @@ pub fn write_setup_script_execute_status<W: WriteStr>(
     write_unit_execute_status(w, settings, kind, false, outcome, output)
 }
 
-// Writes the same of either.
+// For either.
 #[tactic(auto, unfolding(crate::specs::AttemptOutput::unit_output, crate::specs::AttemptOutput::info_line, crate::specs::AttemptOutput::shown_info_line))]
 fn write_unit_execute_status<W: WriteStr>(
     w: &mut W,
@@ -75,7 +75,7 @@ fn write_unit_execute_status<W: WriteStr>(
     When(show_finished_status_info_line(outcome), line).write_to(w)
 }
 
-// How that line begins. A benchmark is called a test there.
+// The start of that line. A benchmark is called a test there.
 #[tactic(auto, unfolding(crate::specs::AttemptOutput::info_line_start))]
 fn info_line_start(kind: UnitKind) -> &'static str
     ensures { result.now ≡ info_line_start kind }
@@ -86,7 +86,7 @@ fn info_line_start(kind: UnitKind) -> &'static str
     }
 }
 
-// Whether how the attempt ended is said again after its output.
+// Whether the result is repeated after the output.
 fn show_finished_status_info_line(outcome: &ExecutionResultDescription) -> bool
     ensures { result ≡ has_info_line outcome.now }
 {
@@ -98,7 +98,7 @@ fn show_finished_status_info_line(outcome: &ExecutionResultDescription) -> bool
     }
 }
 
-// Whether a failure is said again: not that of a panic, which ends with code 101, nor a code where handles were left open.
+// Whether a failure is repeated: not that of a panic, which exits with code 101, nor a code if handles were left open.
 fn shows_failure(failure: &FailureDescription, leaked: bool) -> bool
     ensures { result ≡ has_info_after_failure failure.now leaked }
 {
@@ -108,7 +108,6 @@ fn shows_failure(failure: &FailureDescription, leaked: bool) -> bool
     }
 }
 
-// How the output of a unit is laid out that ended so.
 fn output_spec_for_finished(
     settings: &Settings,
     kind: UnitKind,
@@ -130,7 +129,7 @@ fn output_spec_for_finished(
     )
 }
 
-// The layout with headers in this style. `no_output_indent` says that output stands at the beginning of its lines.
+// The layout with headers in this style. `no_output_indent` says that output has no margin.
 fn spec_in(
     kind: UnitKind,
     no_output_indent: bool,
@@ -152,7 +151,6 @@ fn spec_in(
     }
 }
 
-// What stands before each line of an output that is not empty.
 fn output_margin(no_output_indent: bool) -> &'static str
     ensures { result.now ≡ output_margin no_output_indent }
 {
@@ -200,7 +198,6 @@ fn exec_fail_header(
     }
 }
 
-// The style of the headers by how the attempt ended.
 fn result_style(styles: &Styles, outcome: &ExecutionResultDescription) -> Style
     ensures { result ≡ result_style styles.now outcome.now }
 {

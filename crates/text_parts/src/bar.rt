@@ -1,7 +1,7 @@
-//! The bar that parts a report.
+//! The bar that separates the sections of a report.
 
 ghost use Rattle.std.specs.Prelude.{◌++◌, codes};
-ghost use Rattle.plain_text.specs.Style.{plain};
+ghost use Rattle.styled_text.specs.Style.{plain};
 ghost use Rattle.report_words.specs.Theme.{hbar_text};
 
 use report_text::helpers::ThemeCharacters;

@@ -1,8 +1,7 @@
-//! When a finished test is shown: at once, and at the end of the run.
+//! When a finished test is shown: immediately, and at the end of the run.
 
 ghost use Rattle.std.specs.Prelude.{◌≡◌, true};
-ghost use Rattle.run_names.specs.Levels.{reason_rank};
-ghost use Rattle.run_model.specs.Statuses.{described_summary};
+ghost use Rattle.run_model.specs.Names.{reason_rank, described_summary};
 ghost use Rattle.text_parts.specs.Finish.{IsOnlyHidden, IsSameBelowImmediate, display_of, output_timing, is_ever_shown, is_shown_at_end, is_shown_at_once, is_final_wanted, is_line_shown, is_terminated, is_terminated_abort, is_terminated_failure, timed_at_end, timed_at_once, timed_listed};
 
 use crate::settings::Settings;
@@ -12,7 +11,7 @@ use run_model::level::CancelReason;
 use run_model::output::LiveSpec;
 use run_model::status::{ExecutionDescription, ExecutionResultDescription, FailureDescription};
 
-/// What becomes of a finished test.
+/// How a finished test is shown.
 #[derive(Clone, Copy, PartialEq, Eq)]
 pub enum OutputTiming {
     /// Its output is not shown, and it is not kept.
@@ -52,7 +51,7 @@ impl OutputTiming {
         }
     }
 
-    /// Whether output with this display is shown at once.
+    /// Whether output with this display is shown immediately.
     #[tactic(auto, unfolding(crate::specs::Finish::timed_at_once))]
     pub fn is_shown_at_once(self, display: TestOutputDisplay) -> bool
         ensures row { result ≡ timed_at_once self display }
@@ -91,7 +90,7 @@ impl OutputTiming {
     }
 }
 
-/// A reason for cancelling shows no output that is not shown without one, neither at once nor at the end of the run; and
+/// A cancel reason shows no output that is not shown without one, neither immediately nor at the end of the run; and
 /// a reason below the immediate end of a failed run changes nothing.
 pub fn reasons_only_hide()
     ensures at_once { IsOnlyHidden is_shown_at_once }
@@ -100,7 +99,6 @@ pub fn reasons_only_hide()
     ensures same_at_end { IsSameBelowImmediate is_shown_at_end }
 {}
 
-// Whether the process was ended as the run ends its processes.
 fn is_terminated(outcome: &ExecutionResultDescription) -> bool
     ensures { result ≡ is_terminated outcome.now }
 {
@@ -134,7 +132,7 @@ fn is_terminated_abort(abort: &AbortDescription) -> bool
 }
 
 impl Settings {
-    /// When the output of a finished test is shown, which asks for these settings in case of a success and of a failure.
+    /// When the output of a finished test is shown, given its settings for a success and for a failure.
     #[tactic(auto, unfolding(crate::specs::Finish::display_of))]
     pub fn display_of(
         &self,
@@ -149,7 +147,7 @@ impl Settings {
             .resolve_for_describe(success_output, failure_output, describe)
     }
 
-    /// Whether the line of a finished test is shown at once.
+    /// Whether the line of a finished test is shown immediately.
     #[tactic(auto, unfolding(crate::specs::Finish::is_line_shown))]
     pub fn is_line_shown(&self, describe: &ExecutionDescription<'_, LiveSpec>) -> bool
         ensures { result ≡ is_line_shown self.now (described_summary describe.now) }
@@ -159,7 +157,7 @@ impl Settings {
             .is_shown_at(self.status_levels.status_level)
     }
 
-    /// Whether the summary is to list a finished test: for its output, or for its level.
+    /// Whether the summary lists a finished test: for its output, or for its level.
     #[tactic(auto, unfolding(crate::specs::Finish::is_final_wanted))]
     pub fn is_final_wanted(
         &self,

@@ -1,16 +1,16 @@
-//! What an attempt came to, in words.
+//! The result of an attempt, in words.
 
 ghost use Rattle.report_words.specs.Parts.{paint};
 ghost use Rattle.writers.specs.Writer.{Puts};
 ghost use Rattle.text_parts.specs.InfoResult.{abort_info, failure_info, info_text, leaked_note, signal_name};
 
 use itoa::Buffer;
-use plain_text::style::Styles;
-use plain_text::text::Toned;
 use run_model::abort::{AbortDescription, DescriptionText};
 use run_model::status::{
     ExecutionResultDescription, FailureDescription, LeakTimeoutResult, SlowTimeoutResult,
 };
+use styled_text::style::Styles;
+use styled_text::text::Toned;
 use writers::text::WriteText;
 use writers::write_str::{WriteFault, WriteStr};
 
@@ -73,7 +73,7 @@ fn write_failure_info<W: WriteStr>(
     }
 }
 
-// Only a signal is told; what ended a process on Windows is said after the line of its test.
+// Only a signal is named; what ended a process on Windows is in the line after the test's.
 #[tactic(auto, unfolding(crate::specs::InfoResult::signal_info, crate::specs::InfoResult::aborted_info))]
 fn write_abort_info<W: WriteStr>(
     w: &mut W,
@@ -103,7 +103,7 @@ fn write_abort_info<W: WriteStr>(
     }
 }
 
-// The name of a signal, where it has one.
+// The name of a signal, if it has one.
 #[derive(Clone, Copy)]
 struct SignalName<'a>(&'a Option<DescriptionText>);
 
@@ -119,7 +119,7 @@ impl WriteText for SignalName<'_> {
     }
 }
 
-// That handles were left open, where they were.
+// Says that handles were left open, if they were.
 #[derive(Clone, Copy)]
 struct LeakedNote(bool);
 

@@ -1,16 +1,15 @@
-//! Which test a line speaks of.
+//! The test that a line is about.
 
 ghost use Rattle.std.specs.Prelude.{◌≡◌};
-ghost use Rattle.report_text.specs.Instance.{instance_text};
+ghost use Rattle.text_parts.specs.Names.{instance_text, instance_end, padded_instance, untimed_end};
 ghost use Rattle.writers.specs.Writer.{Puts};
 ghost use Rattle.report_words.specs.Parts.{paint};
-ghost use Rattle.text_parts.specs.Instance.{instance_end, padded_instance, untimed_end};
 
 use crate::settings::Settings;
-use plain_text::style::Styles;
 use report_text::helpers::{DisplayCounterIndex, write_test_instance};
 use run_model::name::TestInstanceId;
 use run_model::stress::StressIndex;
+use styled_text::style::Styles;
 use writers::text::WriteText;
 use writers::write_str::{WriteFault, WriteStr};
 
@@ -26,7 +25,7 @@ pub struct CountedInstance<'a> {
 }
 
 impl Settings {
-    /// A test in a line that counts nothing: a bar stands in the place of its counter, where counters are shown.
+    /// A test in a line that counts nothing: a bar replaces its counter, if counters are shown.
     pub fn padded_instance<'a>(
         &self,
         stress_index: Option<StressIndex>,
@@ -74,7 +73,7 @@ impl WriteText for InstanceEnd<'_, '_> {
     }
 }
 
-/// The end of a test's line that has no duration: the place of that is left empty.
+/// The end of a test's line without a duration: its columns are empty.
 #[derive(Clone, Copy)]
 pub struct UntimedEnd<'s, 'a>(pub &'s Styles, pub &'s CountedInstance<'a>);
 

@@ -1,8 +1,8 @@
-//! What the texts of events share, and what a reporter goes by.
+//! What the texts of events share, and the settings of a reporter.
 //!
-//! `settings` says what that is, `finish` when a finished test is shown, `instance` and `script` which test or setup script a line speaks of. `attempt_output` is what an
-//! attempt wrote (with `info_result`), `result_words` and `abort_line` say how it ended, and `bar` and `stats_text` are parts of the
-//! texts of runs and of answers. The events of tests have their texts in `test_text`, those of runs in `run_text`, and answers in
+//! `settings` has these, `finish` when a finished test is shown, `instance` and `script` which test or setup script a line is about. `attempt_output` is the output
+//! of an attempt (with `info_result`), `result_words` and `abort_line` are about how it ended, and `bar` and `stats_text` are parts of the
+//! texts of runs and of responses. The events of tests have their texts in `test_text`, those of runs in `run_text`, and responses in
 //! `info_text`.
 #![tactic(auto)]
 

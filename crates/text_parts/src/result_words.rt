@@ -19,7 +19,6 @@ pub struct Word<'b> {
 }
 
 impl<'b> Word<'b> {
-    // A word in one piece.
     fn whole(front: &'b str) -> Word<'b>
         ensures front { result.front.now ≡ front.now }
         ensures back { result.back.now ≡ codes "" }
@@ -50,7 +49,6 @@ pub fn status_str<'b>(outcome: &'b ExecutionResultDescription, number: &'b mut B
     }
 }
 
-// The word of a failure at a first attempt.
 fn failure_str<'b>(
     failure: &'b FailureDescription,
     leaked: bool,
@@ -70,7 +68,6 @@ fn failure_str<'b>(
     }
 }
 
-// The word of a process that was ended from outside, at a first attempt.
 fn abort_str<'b>(abort: &'b AbortDescription, number: &'b mut Buffer) -> Word<'b>
     ensures { result.front.now ++ result.back.now ≡ long_abort_word abort.now }
 {
@@ -90,7 +87,7 @@ fn abort_str<'b>(abort: &'b AbortDescription, number: &'b mut Buffer) -> Word<'b
     }
 }
 
-/// The word of a result as it stands after the number of an attempt, and in a record. A signal's number is written into the
+/// The word of a result after the number of an attempt, and in a record. A signal's number is written into the
 /// buffer.
 ///
 /// ```
@@ -177,7 +174,6 @@ impl<'b> ShortWord<'b> {
         }
     }
 
-    // The word of a process that was ended from outside.
     fn of_abort(abort: &'b AbortDescription) -> ShortWord<'b>
         ensures { shown_word result ≡ short_abort_word abort.now }
     {
@@ -193,7 +189,7 @@ impl<'b> ShortWord<'b> {
     }
 }
 
-/// The word of a success, with the flag that it was slow and is to be called so.
+/// The word of a success; the flag says that it is called slow.
 #[tactic(auto, unfolding(crate::specs::ResultWords::success_word))]
 pub fn success_str(is_slow: bool, outcome: &ExecutionResultDescription) -> &'static str
     ensures { result.now ≡ success_word is_slow outcome.now }
@@ -217,7 +213,7 @@ pub fn success_str(is_slow: bool, outcome: &ExecutionResultDescription) -> &'sta
     }
 }
 
-/// Whether a success is one without reserve: neither slow, where that is said, nor leaky nor timed out.
+/// Whether a success is plain: neither called slow, nor leaky, nor timed out.
 pub fn is_plain_success(is_slow: bool, outcome: &ExecutionResultDescription) -> bool
     ensures { result ≡ is_plain_success is_slow outcome.now }
 {

@@ -1,13 +1,13 @@
-//! Which setup script a line speaks of.
+//! The setup script that a line is about.
 
 ghost use Rattle.report_words.specs.Parts.{paint};
 ghost use Rattle.text_parts.specs.Script.{script_of, shown_script};
 
-use plain_text::style::Styles;
 use report_text::helpers::write_script_instance;
 use run_model::command::CommandLine;
 use run_model::name::{ProgramName, ScriptId};
 use run_model::stress::StressIndex;
+use styled_text::style::Styles;
 use writers::text::WriteText;
 use writers::write_str::{WriteFault, WriteStr};
 

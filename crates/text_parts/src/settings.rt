@@ -1,18 +1,18 @@
-//! What a reporter goes by, from its configuration.
+//! The settings of a reporter, from its configuration.
 
 ghost use Rattle.std.specs.Prelude.{◌≡◌};
-ghost use Rattle.plain_text.specs.Style.{styles_of};
+ghost use Rattle.styled_text.specs.Style.{styles_of};
 ghost use Rattle.text_parts.specs.Settings.{counter_width_of, finished_counter, is_level_shown, overrides_by, padded_counter, shows_starts, started_counter, theme_of};
 
-use plain_text::style::Styles;
 use report_text::helpers::{DisplayCounterIndex, ThemeCharacters, decimal_char_width};
 use run_model::config::{CompiledDefaultFilter, NextestRunMode, TestOutputDisplay};
 use run_model::level::StatusLevel;
 use run_model::stats::RunStats;
+use styled_text::style::Styles;
 use unit_report::config::{ProgressDisplay, StatusLevels};
 use unit_report::unit_output::{OutputDisplayOverrides, UnitOutputReporter};
 
-/// What a reporter goes by. It stays the same over all calls.
+/// The settings of a reporter. They never change.
 #[derive(Drop)]
 pub struct Settings {
     /// Whether the run runs tests or benchmarks.
@@ -39,7 +39,7 @@ pub struct Settings {
 }
 
 impl Settings {
-    /// The counter of a finished test, where counters are shown: how many of the tests have finished.
+    /// The counter of a finished test, if counters are shown: how many tests have finished.
     pub fn finished_counter(&self, stats: &RunStats) -> Option<DisplayCounterIndex>
         ensures { result ≡ finished_counter self.now stats.now }
     {
@@ -52,7 +52,7 @@ impl Settings {
         }
     }
 
-    /// The counter of a test that starts, where counters are shown: one further than the tests that have finished.
+    /// The counter of a test that starts, if counters are shown: one more than the tests that have finished.
     pub fn started_counter(&self, stats: &RunStats) -> Option<DisplayCounterIndex>
         ensures { result ≡ started_counter self.now stats.now }
     {
@@ -65,7 +65,7 @@ impl Settings {
         }
     }
 
-    /// What stands in the place of a counter, where counters are shown, in the lines of tests that have none.
+    /// The replacement of a counter, if counters are shown, in the lines of tests that have none.
     pub fn padded_counter(&self) -> Option<DisplayCounterIndex>
         ensures { result ≡ padded_counter self.now }
     {
@@ -78,7 +78,7 @@ impl Settings {
         }
     }
 
-    /// Whether what has this level is shown at once.
+    /// Whether a line of this level is shown during the run.
     #[tactic(auto, unfolding(crate::specs::Settings::is_level_shown))]
     pub fn is_level_shown(&self, level: StatusLevel) -> bool
         ensures { result ≡ is_level_shown self.now level }
@@ -95,7 +95,7 @@ impl Settings {
     }
 }
 
-/// How wide the numbers of a counter are where counters are shown: as wide as the number of tests.
+/// The width of the numbers of a counter, if counters are shown: that of the number of tests.
 pub fn counter_width_for(progress_display: ProgressDisplay, run_count: usize) -> Option<usize>
     ensures { result ≡ counter_width_of progress_display run_count }
 {
@@ -127,7 +127,7 @@ pub fn theme_for(use_unicode: bool) -> ThemeCharacters
     theme_characters
 }
 
-/// Whose setting decides when the output of tests is shown. Without capture there is none to show, save why a test
+/// Whose setting decides when the output of tests is shown. Without capture there is none to show, except why a test
 /// could not be started.
 pub fn overrides_for(
     no_capture: bool,

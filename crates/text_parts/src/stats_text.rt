@@ -1,17 +1,17 @@
-//! The counts of a run in words, and the style that they give it.
+//! The counts of a run in words, and their style.
 
 ghost use Rattle.std.specs.Prelude.{◌≡◌, ◌==◌, ◌++◌, [], if◌then◌else◌};
-ghost use Rattle.plain_text.specs.Style.{styled};
+ghost use Rattle.styled_text.specs.Style.{styled};
 ghost use Rattle.report_words.specs.Parts.{paint, style_of};
 ghost use Rattle.text_parts.specs.StatsText.{counted_front, failed_count, failed_counts, failure_tone, passed_front, passed_notes, progress_message, summary_text};
 
-use plain_text::style::{Style, Styles};
-use plain_text::text::{Number, Toned};
 use run_model::stats::RunStats;
+use styled_text::style::{Style, Styles};
+use styled_text::text::{Number, Toned};
 use writers::text::{Unless, WriteText};
 use writers::write_str::{WriteFault, WriteStr};
 
-/// The style of a run by whether something has failed in it.
+/// The style of a run, by whether something in it has failed.
 pub fn failure_style(styles: &Styles, stats: &RunStats) -> Style
     ensures { result ≡ style_of styles.now (failure_tone stats.now) }
 {
@@ -22,7 +22,7 @@ pub fn failure_style(styles: &Styles, stats: &RunStats) -> Style
     }
 }
 
-/// All counts: passed and skipped always, the others where they are not 0.
+/// All counts: passed and skipped always, the others if they are not 0.
 #[derive(Clone, Copy)]
 pub struct Counts<'a>(pub &'a Styles, pub &'a RunStats);
 
@@ -97,7 +97,7 @@ impl WriteText for PassedNotes<'_> {
     }
 }
 
-// How many of the tests that passed are of a kind, where there is one: after a parenthesis if it comes first.
+// How many of the tests that passed are of a kind, if any: the first note begins with a parenthesis.
 #[derive(Clone, Copy)]
 struct PassedNote<'a>(&'a Styles, bool, usize, &'a str);
 

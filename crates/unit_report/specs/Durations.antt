@@ -1,12 +1,9 @@
 -- Durations in the lines of a report.
 use Rattle.std.specs.Prelude.{ℕ, ◌/◌, ◌++◌, codes, refl}
-use Rattle.report_words.specs.Durations.{clock_text}
-use Rattle.report_words.specs.Parts.{Fixed, Open, Verbatim}
-use Rattle.plain_text.specs.Escapes.{HasNoEscape}
-use Rattle.plain_text.specs.Texts.{Text, right_in}
-use Rattle.plain_text.specs.Numbers.{seconds}
-use Rattle.plain_text.proofs.lemmas.Closed.{right_free}
-use Rattle.plain_text.proofs.lemmas.Widths.{free_both}
+use Rattle.report_words.specs.Names.{clock_text, Fixed, Open, Verbatim}
+use Rattle.styled_text.specs.Names.{HasNoEscape, Text, right_in, seconds}
+use Rattle.styled_text.proofs.lemmas.Closed.{right_free}
+use Rattle.styled_text.proofs.lemmas.Widths.{free_both}
 use Rattle.report_words.proofs.lemmas.FreeWords.{free-seconds, free-clock_text}
 
 -- nanoseconds as seconds, right in eight columns between brackets

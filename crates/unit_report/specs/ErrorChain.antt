@@ -1,10 +1,7 @@
 -- An error and its causes, as text.
 use Rattle.std.specs.Prelude.{false, List, [], ◌++◌, ◌==◌, length, codes, if◌then◌else◌}
-use Rattle.std.specs.List.{flat_map}
+use Rattle.styled_text.specs.Names.{flat_map, indent, plain, Text}
 use Rattle.run_names.specs.ErrorChains.{MessageAndCauses}
-use Rattle.plain_text.specs.Indent.{indent}
-use Rattle.plain_text.specs.Style.{plain}
-use Rattle.plain_text.specs.Texts.{Text}
 
 -- a cause on a line of its own; its later lines are aligned below its first
 unfoldable pub cause_text : Text → Text

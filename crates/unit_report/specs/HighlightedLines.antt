@@ -1,11 +1,6 @@
 -- Lines in the style of a highlight.
 use Rattle.std.specs.Prelude.{ℕ, suc, Bool, true, ◌&&◌, ◌||◌, ◌==◌, [], ◌∷◌, ◌++◌, take, drop, if◌then◌else◌}
-use Rattle.std.specs.List.{flat_map}
-use Rattle.plain_text.specs.Escapes.{visible}
-use Rattle.plain_text.specs.Lines.{whole_lines}
-use Rattle.plain_text.specs.Style.{style_prefix, style_suffix}
-use Rattle.plain_text.specs.Texts.{Text}
-use Rattle.plain_text.specs.declared.style.Style.{Style}
+use Rattle.styled_text.specs.Names.{flat_map, visible, whole_lines, style_prefix, style_suffix, Text, Style}
 
 -- a line feed or a carriage return
 abbrev pub closes_line : ℕ → Bool

@@ -1,9 +1,7 @@
 -- The progress display and the levels of a report.
 use Rattle.std.specs.Prelude.{Bool, true, false, not, ◌&&◌, Some, unwrap_or, nat_lt, if◌then◌else◌}
-use Rattle.run_names.specs.Levels.{status_rank}
-use Rattle.run_names.specs.declared.level.StatusLevel.{StatusLevel}
+use Rattle.run_model.specs.Names.{status_rank, StatusLevel, FinalStatusLevel}
 use Rattle.run_names.specs.declared.level.StatusLevel.TheVariants as status
-use Rattle.run_names.specs.declared.level.FinalStatusLevel.{FinalStatusLevel}
 use Rattle.run_names.specs.declared.level.FinalStatusLevel.TheVariants as final
 use Rattle.unit_report.specs.declared.config.ShowProgress.{ShowProgress}
 use Rattle.unit_report.specs.declared.config.ShowProgress.TheVariants as asked

@@ -1,10 +1,7 @@
 -- Whose setting decides when a test's output is shown.
 use Rattle.std.specs.Prelude.{Bool, true, false, unwrap_or, if◌then◌else◌}
-use Rattle.run_model.specs.Statuses.{is_success_case}
-use Rattle.run_names.specs.declared.config.TestOutputDisplay.{TestOutputDisplay}
-use Rattle.run_model.specs.declared.status.ExecutionResultDescription.{ExecutionResultDescription}
+use Rattle.run_model.specs.Names.{is_success_case, TestOutputDisplay, ExecutionResultDescription, StatusSummary}
 use Rattle.run_model.specs.declared.status.ExecutionResultDescription.TheVariants as outcome
-use Rattle.run_model.specs.declared.status.StatusSummary.{StatusSummary}
 use Rattle.unit_report.specs.declared.unit_output.overrides.OutputDisplayOverrides.{OutputDisplayOverrides}
 
 -- the process could not be started

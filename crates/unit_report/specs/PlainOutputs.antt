@@ -1,18 +1,10 @@
 -- Captured output for texts without escape characters.
 use Rattle.std.specs.Prelude.{◌<◌, Bool, true, false, Option, IsTrue, length}
-use Rattle.std.specs.Option.{option_and_then}
-use Rattle.run_model.specs.Outputs.{Part, stdout_part, stderr_part, combined_part}
-use Rattle.run_model.specs.declared.output.ChildExecutionOutputDescription.{ChildExecutionOutputDescription}
+use Rattle.styled_text.specs.Names.{option_and_then, ends_in_line_feed, HasNoEscape, Text}
+use Rattle.run_model.specs.Names.{Part, stdout_part, stderr_part, combined_part, ChildExecutionOutputDescription, ChildOutputDescription, Highlight, LiveSpec, decoded_text}
 use Rattle.run_model.specs.declared.output.ChildExecutionOutputDescription.TheVariants.{Output, StartError}
-use Rattle.run_model.specs.declared.output.ChildOutputDescription.{ChildOutputDescription}
 use Rattle.run_model.specs.declared.output.ChildOutputDescription.TheVariants.{Split, Combined, NotLoaded}
-use Rattle.run_model.specs.declared.output.Highlight.{Highlight}
-use Rattle.run_model.specs.declared.output.LiveSpec.{LiveSpec}
-use Rattle.plain_text.specs.TrailingNewline.{ends_in_line_feed}
-use Rattle.plain_text.specs.Escapes.{HasNoEscape}
-use Rattle.run_model.specs.Decoded.{decoded_text}
 use Rattle.report_words.specs.PlainTexts.{HoldsIf, IsPlainChain}
-use Rattle.plain_text.specs.Texts.{Text}
 use Rattle.unit_report.specs.Captured.{is_valid, highlight_stop}
 
 -- a valid highlight of a text that closes with a line feed ends before the text does

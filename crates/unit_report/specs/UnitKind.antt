@@ -1,11 +1,9 @@
 -- The words for units.
 use Rattle.std.specs.Prelude.{codes, refl}
-use Rattle.run_names.specs.declared.config.NextestRunMode.{NextestRunMode}
+use Rattle.run_model.specs.Names.{NextestRunMode, UnitKind}
 use Rattle.run_names.specs.declared.config.NextestRunMode.TheVariants as mode
-use Rattle.run_names.specs.declared.unit.UnitKind.{UnitKind}
 use Rattle.run_names.specs.declared.unit.UnitKind.TheVariants as kind
-use Rattle.plain_text.specs.Escapes.{HasNoEscape}
-use Rattle.plain_text.specs.Texts.{Text}
+use Rattle.styled_text.specs.Names.{HasNoEscape, Text}
 use Rattle.report_words.specs.Parts.{Fixed, Open, Verbatim}
 
 unfoldable pub unit_word : NextestRunMode → UnitKind → Text

@@ -1,20 +1,9 @@
 -- What is shown of the output of a test or a setup script.
 use Rattle.std.specs.Prelude.{Bool, true, false, not, ◌||◌, ◌==◌, [], ◌∷◌, ◌++◌, length, Option, None, Some, codes, if◌then◌else◌}
-use Rattle.std.specs.Option.{option_and_then}
-use Rattle.run_names.specs.ErrorChains.{MessageAndCauses}
-use Rattle.run_model.specs.Outputs.{Part, stdout_part, stderr_part, combined_part}
-use Rattle.run_model.specs.declared.output.ChildExecutionOutputDescription.{ChildExecutionOutputDescription}
+use Rattle.styled_text.specs.Names.{option_and_then, indent, plain, styled, Text, Styles}
+use Rattle.run_model.specs.Names.{MessageAndCauses, Part, stdout_part, stderr_part, combined_part, ChildExecutionOutputDescription, ChildOutputDescription, Highlight, LiveSpec, UnitKind, decoded_text}
 use Rattle.run_model.specs.declared.output.ChildExecutionOutputDescription.TheVariants.{Output, StartError}
-use Rattle.run_model.specs.declared.output.ChildOutputDescription.{ChildOutputDescription}
 use Rattle.run_model.specs.declared.output.ChildOutputDescription.TheVariants.{Split, Combined, NotLoaded}
-use Rattle.run_model.specs.declared.output.Highlight.{Highlight}
-use Rattle.run_model.specs.declared.output.LiveSpec.{LiveSpec}
-use Rattle.run_names.specs.declared.unit.UnitKind.{UnitKind}
-use Rattle.plain_text.specs.Indent.{indent}
-use Rattle.run_model.specs.Decoded.{decoded_text}
-use Rattle.plain_text.specs.Style.{plain, styled}
-use Rattle.plain_text.specs.Texts.{Text}
-use Rattle.plain_text.specs.declared.style.Styles.{Styles}
 use Rattle.unit_report.specs.Captured.{captured}
 use Rattle.unit_report.specs.ErrorChain.{error_chain_text}
 use Rattle.unit_report.specs.Header.{header_text, output_name_text}

@@ -10,7 +10,7 @@ use Rattle.writers.specs.declared.write_str.WriteFault.TheVariants.{Memory, Devi
 pub record StringAccepts (a : String Global) (t : List ℕ) (b : String Global) : Type 0 where
   pub grown : string_bytes b ≡ string_bytes a ++ t
 
--- the string stays as it is, since memory is refused
+-- the string does not change, since memory is refused
 pub record StringStops (a : String Global) (t : List ℕ) (e : WriteFault) (b : String Global) : Type 0 where
   pub front : List ℕ
   pub rest : List ℕ

@@ -8,27 +8,27 @@ use Rattle.writers.specs.declared.write_str.WriteFault.{WriteFault}
 use Rattle.writers.specs.declared.write_str.WriteFault.TheVariants.{Memory, Device}
 use Rattle.writers.specs.declared.write_str.text_buffer.TextBuffer.{TextBuffer}
 
--- bytes grew by a beginning of the text
+-- bytes grew by a prefix of the text
 pub record GrowsWithin (old new text : List ℕ) : Type 0 where
   pub front : List ℕ
   pub rest : List ℕ
   pub whole : text ≡ front ++ rest
   pub grown : new ≡ old ++ front
 
--- The device holds what it held and then what it took since, which with what is pending is what was pending and the text.
+-- The device holds what it held and then what it took since; followed by what is pending, that is what was pending and the text.
 pub record Delivers (old held new pending text : List ℕ) : Type 0 where
   pub taken : List ℕ
   pub device : new ≡ old ++ taken
   pub rest : taken ++ pending ≡ held ++ text
 
--- the same of a beginning of the text
+-- and this is a prefix of the text
 pub record DeliversWithin (old held new pending text : List ℕ) : Type 0 where
   pub front : List ℕ
   pub rest : List ℕ
   pub whole : text ≡ front ++ rest
   pub delivers : Delivers old held new pending front
 
--- what a device holds stays, and more may follow it
+-- what a device holds stays, and more may follow
 pub record Holds (old new : Option (List ℕ)) : Type 0 where
   pub more : List ℕ
   pub grown : Appends old new more
@@ -40,7 +40,7 @@ Holds-trans : (a b c : Option (List ℕ)) → Holds a b → Holds b c → Holds 
 Holds-trans a b c p q = record { more = p.more ++ q.more; grown = Appends-trans a b c p.more q.more p.grown q.grown }
 
 module _ {W : Type 0} (contents : W → Option (List ℕ)) where
-  -- what was delivered, if it is known, and then what is pending
+  -- what was delivered, if known, and then what is pending
   abbrev pub buffer_text : TextBuffer W → Option (List ℕ)
   buffer_text b = append_known (contents b.writer) b.pending
 

@@ -6,10 +6,10 @@ use Rattle.std.specs.Borrow.{Bor}
 abbrev pub Text : Type 0
 Text = List ℕ
 
--- a text as it is: a word that a proof sees as a whole
+-- a text as it is: a word that a proof treats as a whole
 unfoldable pub plain : Text → Text
 plain t = t
 
--- what these references point to, joined
+-- the texts behind these references, joined
 abbrev pub strs : List (Bor Text) → Text
 strs ss = flat_map (λ s. s.now) ss

@@ -1,4 +1,4 @@
-//! Texts as values. Parts that follow one another are a tuple, written in one go.
+//! Texts as values. Parts in sequence are a tuple.
 
 ghost use Rattle.std.specs.Prelude.{◌≡◌, ◌++◌, [], List, ℕ, if◌then◌else◌};
 ghost use Rattle.std.specs.Option.{option_map_or};
@@ -118,7 +118,7 @@ impl<A: WriteText, B: WriteText, C: WriteText, D: WriteText, E: WriteText, F: Wr
     }
 }
 
-/// A text, unless this holds.
+/// A text, unless this is true.
 #[derive(Clone, Copy, Drop)]
 pub struct Unless<T>(pub bool, pub T);
 
@@ -131,7 +131,7 @@ impl<T: WriteText> WriteText for Unless<T> {
     }
 }
 
-/// A text, where this holds.
+/// A text, if this is true.
 #[derive(Clone, Copy, Drop)]
 pub struct When<T>(pub bool, pub T);
 
@@ -144,7 +144,7 @@ impl<T: WriteText> WriteText for When<T> {
     }
 }
 
-/// A number as it is.
+/// A number in decimal.
 #[derive(Clone, Copy)]
 pub struct Decimal(pub u128);
 

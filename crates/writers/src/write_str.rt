@@ -1,7 +1,7 @@
 //! Writers of text.
 //!
-//! A writer says what it accepted, also where a device fails in the middle of a text, so that what reaches a terminal
-//! or a file is always a beginning of the text that was meant.
+//! A writer says what it accepted, also if a device fails in the middle of a text, so that what reaches a terminal
+//! or a file is always a prefix of the intended text.
 
 ghost use Rattle.std.specs.Prelude.{◌≡◌, [], OnOk, encode_utf8};
 ghost use Rattle.writers.specs.StringWriter.{string_meaning, string_laws};
@@ -22,7 +22,7 @@ use std::alloc::AllocError;
 pub use text_buffer::TextBuffer;
 use thiserror::Error;
 
-/// Why a text could not be written whole. A beginning of it was accepted.
+/// Why a text could not be written whole. A prefix of it was accepted.
 #[derive(Clone, Copy, Debug, PartialEq, Eq, Error)]
 pub enum WriteFault {
     /// The device failed.
@@ -35,8 +35,8 @@ pub enum WriteFault {
 
 /// A writer of text.
 ///
-/// What acceptance means is said by `meaning`, with laws that hold of any writer: two texts in turn are accepted as
-/// one, a fault leaves a beginning, and `Device` and `Memory` come only where a device failed or memory may be refused.
+/// `meaning` says what acceptance is, with laws for every writer: two texts in sequence are accepted as
+/// one, a fault leaves a prefix, and `Device` and `Memory` occur only if a device failed or memory may be refused.
 pub trait WriteStr {
     /// What a text does to the writer.
     ghost meaning: { Meaning Self };
@@ -53,12 +53,12 @@ pub trait WriteStr {
         self.write_str(c.encode_utf8(&mut bytes))
     }
 
-    /// Delivers all that was accepted to where the writer writes.
+    /// Delivers all that was accepted to the writer's destination.
     fn write_str_flush(&mut self) -> Result<(), WriteFault>
         ensures text { Puts meaning self.old [] result self.new }
         ensures delivered { OnOk result (meaning.is_delivered self.new) };
 
-    /// What acceptance is, over any writer.
+    /// The laws of acceptance, for any writer.
     ghost laws: { WriterLaws meaning };
 }
 
@@ -75,7 +75,7 @@ impl WriteStr for String {
         }
     }
 
-    // It has nothing to deliver, and allocates nothing for that.
+    // It has nothing to deliver, and does not allocate for that.
     fn write_str_flush(&mut self) -> Result<(), WriteFault>
         ensures text { Puts string_meaning self.old [] result self.new }
         ensures delivered { OnOk result (string_meaning.is_delivered self.new) }
@@ -86,7 +86,7 @@ impl WriteStr for String {
     }
 }
 
-/// Writes the texts in turn.
+/// Writes the texts in sequence.
 ///
 /// ```
 /// write_strs(&mut out, &["(", "1", "/", "2", ") "])?;

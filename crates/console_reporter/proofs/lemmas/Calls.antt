@@ -1,26 +1,14 @@
 -- Calls in sequence (for `DisplayReporter::make_calls`, `DisplayReporter::report_event`, `run_report`, `write_delivered`).
 use Rattle.std.proofs.Common.{◌≡◌, ℕ, ◌+◌, ◌<◌, ◌≤◌, List, [], ◌∷◌, ◌++◌, length, reverse, take, get_or, sym, ap, ◌∙◌, subst, Result, Ok, Err, IfErr, OnOk, Some, ◌⊎◌, inl, inr, refl, append-nil}
-use Rattle.std.specs.Result.{IsErrOf}
+use Rattle.styled_text.specs.Names.{IsErrOf, Meaning, WriterLaws, successor, WriteFault}
 use Rattle.std.proofs.lemmas.List.{take_more, take_all, reverse-append}
-use Rattle.writers.specs.Writer.{Meaning, WriterLaws, successor}
-use Rattle.writers.specs.declared.write_str.WriteFault.{WriteFault}
-use Rattle.reporter_state.specs.declared.faults.WriteEventError.{WriteEventError}
+use Rattle.reporter_state.specs.Names.{WriteEventError, RunFault}
 use Rattle.reporter_state.specs.declared.faults.WriteEventError.TheVariants.{RetriedSuccess, OutputNotLoaded, Io, Memory, Failed, StoreIo}
-use Rattle.reporter_state.specs.declared.faults.RunFault.{RunFault}
-use Rattle.console_reporter.specs.Accepted.{AreAccepted, IsAccepted}
-use Rattle.console_reporter.specs.OptionalStore.{store_meaning}
-use Rattle.console_reporter.specs.Report.{past_at, text}
-use Rattle.console_reporter.specs.Stored.{stored_text}
-use Rattle.console_reporter.specs.Telling.{Breaks}
-use Rattle.run_model.specs.declared.event.TestEvent.{TestEvent}
+use Rattle.console_reporter.specs.Names.{AreAccepted, IsAccepted, store_meaning, past_at, text, stored_text, Breaks, Configuration, IsOfConsole, Side, Stops, error_for, Report, Records, MayGrow}
+use Rattle.console_reporter.specs.Names.{StandsAfter, DisplayReporter}
+use Rattle.run_model.specs.Names.{TestEvent, ReportCall}
 use Rattle.run_model.specs.declared.call.ReportCall.TheVariants.{Event}
-use Rattle.console_reporter.specs.Configuration.{Configuration}
-use Rattle.run_model.specs.declared.call.ReportCall.{ReportCall}
 use Rattle.writers.specs.declared.write_str.WriteFault.TheVariants.{Device, Memory as RefusedMemory}
-use Rattle.console_reporter.specs.Outcomes.{IsOfConsole, Side, Stops, error_for}
-use Rattle.console_reporter.specs.Outcomes.Side.{Report, Records}
-use Rattle.console_reporter.specs.HeldState.{MayGrow, StandsAfter}
-use Rattle.console_reporter.specs.declared.imp.reporter.DisplayReporter.{DisplayReporter}
 
 -- one more call is accepted
 pub accepted_next : (config : Configuration) (calls : List ReportCall) (call : ReportCall) → AreAccepted config calls → IsAccepted config call → AreAccepted config (calls ++ call ∷ [])

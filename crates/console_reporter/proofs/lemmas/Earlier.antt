@@ -1,44 +1,18 @@
 -- No report and no record depends on the output of attempts before the last one (for `RecordedRun::replay`).
 use Rattle.std.proofs.Common.{◌≡◌, ℕ, Bool, false, Option, None, Some, List, [], ◌∷◌, ◌++◌, map, reverse, not, codes, if◌then◌else◌, refl, sym, ap, ap₂, subst, ◌∙◌}
-use Rattle.std.specs.List.{position_or_len, slice_get}
-use Rattle.std.specs.Option.{is_some, option_and_then, option_map, option_map_or}
+use Rattle.styled_text.specs.Names.{position_or_len, slice_get, is_some, option_and_then, option_map, option_map_or}
 use Rattle.std.proofs.lemmas.Option.{slice_get-map}
 use Rattle.std.proofs.lemmas.List.{length-map}
-use Rattle.run_model.specs.Attempts.{Attempts, Written}
-use Rattle.run_model.specs.Outputs.{has_loaded_output}
-use Rattle.run_model.specs.Statuses.{summary_of}
-use Rattle.run_model.specs.Unloaded.{unloaded_attempt}
-use Rattle.run_names.specs.declared.config.TestOutputDisplay.{TestOutputDisplay}
-use Rattle.run_model.specs.declared.event.TestEventKind.{TestEventKind}
+use Rattle.run_model.specs.Names.{Attempts, Written, has_loaded_output, summary_of, unloaded_attempt, TestOutputDisplay, TestEventKind, TestInstanceId, ChildOutputDescription, LiveSpec, RunStats}
+use Rattle.run_model.specs.Names.{StatusSummary, StressIndex, Nanos, ReportCall}
 use Rattle.run_model.specs.declared.event.TestEventKind.TheVariants.{TestFinished}
-use Rattle.run_names.specs.declared.name.TestInstanceId.{TestInstanceId}
-use Rattle.run_model.specs.declared.output.ChildOutputDescription.{ChildOutputDescription}
-use Rattle.run_model.specs.declared.output.LiveSpec.{LiveSpec}
-use Rattle.run_model.specs.declared.stats.RunStats.{RunStats}
-use Rattle.run_model.specs.declared.status.StatusSummary.{StatusSummary}
-use Rattle.run_names.specs.declared.stress.StressIndex.{StressIndex}
-use Rattle.run_names.specs.declared.time.Nanos.{Nanos}
-use Rattle.text_parts.specs.ResultWords.{short_word}
-use Rattle.store_text.specs.Netstring.{netstring}
-use Rattle.store_text.specs.Record.{record_text}
-use Rattle.store_text.specs.StoredOutput.{is_stored, stored_output, written_text}
-use Rattle.store_text.specs.declared.config.StoreConfig.{StoreConfig}
-use Rattle.test_text.specs.TestFinished.{FinishReport, test_finish, test_finished_text}
-use Rattle.text_parts.specs.Finish.{display_of}
-use Rattle.text_parts.specs.declared.settings.Settings.{Settings}
+use Rattle.text_parts.specs.Names.{short_word, display_of, Settings}
+use Rattle.reporter_state.specs.Names.{netstring, record_text, is_stored, stored_output, written_text, StoreConfig, FinishReport, test_finish, test_finished_text, AreAcceptedBy, event_refusal}
+use Rattle.reporter_state.specs.Names.{refusal_by, kept_entry, Finished, loads_finish, OutputLoadDecider}
 use Rattle.report_words.specs.Parts.{paint}
-use Rattle.reporter_state.specs.Refusals.{AreAcceptedBy, event_refusal, refusal_by}
-use Rattle.reporter_state.specs.Effects.{kept_entry}
-use Rattle.reporter_state.specs.Effects.TestEnd.{Finished}
-use Rattle.reporter_state.specs.Loads.{loads_finish}
-use Rattle.console_reporter.specs.Report.{event_text}
-use Rattle.console_reporter.specs.Stored.{record_of, records, stored, stored_text}
-use Rattle.reporter_state.specs.declared.decider.OutputLoadDecider.{OutputLoadDecider}
+use Rattle.console_reporter.specs.Names.{event_text, record_of, records, stored, stored_text, Configuration, settings_of, IsIsolated}
 use Rattle.reporter_state.specs.declared.faults.WriteEventError.TheVariants.{OutputNotLoaded}
-use Rattle.run_model.specs.declared.call.ReportCall.{ReportCall}
 use Rattle.run_model.specs.declared.call.ReportCall.TheVariants.{Event, Header, Prefix}
-use Rattle.console_reporter.specs.Configuration.{Configuration, settings_of}
-use Rattle.console_reporter.specs.Isolation.{IsIsolated}
 use Rattle.console_reporter.proofs.lemmas.Isolation.{map_reverse}
 use Rattle.console_reporter.proofs.lemmas.Same.{AreSame, IsSameEvent, same-call, same-event, same-itself, same-report}
 

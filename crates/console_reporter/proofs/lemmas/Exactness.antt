@@ -1,72 +1,29 @@
 -- What is observed is loaded, and in an uninterrupted run what is loaded is observed (for `DisplayReporter::output_load_decider`).
 use Rattle.std.proofs.Common.{◌≢◌, ◌≡◌, ℕ, Bool, true, false, List, [], ◌∷◌, ◌++◌, Option, None, Some, refl, sym, ap, ◌∙◌, reverse, append_assoc, inl, inr, codes, arith, lit<, subst, ◌<◌, ◌||◌, get_or}
-use Rattle.std.specs.List.{flat_map}
-use Rattle.std.specs.Option.{option_to_list}
-use Rattle.std.specs.Fmt.{digits}
+use Rattle.styled_text.specs.Names.{flat_map, option_to_list, digits, Text}
 use Rattle.std.proofs.lemmas.Str.{IsUtf8-from_ascii}
 use Rattle.std.proofs.lemmas.Bool.{false≢true, and_parts, not-true, or_cases}
 use Rattle.std.proofs.lemmas.Grind.{flat_map-append}
 use Rattle.std.proofs.lemmas.List.{append_cancel_left, append_cancel_right, reverse-append, same_from_push}
-use Rattle.run_model.specs.Attempts.{Attempt, Attempts, Written}
-use Rattle.run_names.specs.Displays.{is_final, is_immediate}
-use Rattle.run_model.specs.Statuses.{case_of, is_success, summary_of}
-use Rattle.run_model.specs.Unloaded.{unloaded_event, unloaded_kind}
-use Rattle.run_names.specs.declared.config.TestOutputDisplay.{TestOutputDisplay}
-use Rattle.run_model.specs.declared.event.TestEvent.{TestEvent}
-use Rattle.run_model.specs.declared.event.TestEventKind.{TestEventKind}
+use Rattle.run_model.specs.Names.{Attempt, Attempts, Written, is_final, is_immediate, case_of, is_success, summary_of, unloaded_event, unloaded_kind, TestOutputDisplay, TestEvent, TestEventKind}
+use Rattle.run_model.specs.Names.{TestInstanceId, ChildOutputDescription, LiveSpec, LoadOutput, RunStats, SetupScriptExecuteStatus, StatusSummary, StressIndex, Nanos, final_stats_of_run, ReportCall}
 use Rattle.run_model.specs.declared.event.TestEventKind.TheVariants.{SetupScriptFinished, TestAttemptFailedWillRetry, TestFinished, RunFinished}
 use Rattle.run_names.specs.declared.level.StatusLevel.TheVariants as level
-use Rattle.run_names.specs.declared.name.TestInstanceId.{TestInstanceId}
-use Rattle.run_model.specs.declared.output.ChildOutputDescription.{ChildOutputDescription}
-use Rattle.run_model.specs.declared.output.LiveSpec.{LiveSpec}
-use Rattle.run_model.specs.declared.output_event.LoadOutput.{LoadOutput}
 use Rattle.run_model.specs.declared.output_event.LoadOutput.TheVariants.{Load, Skip}
-use Rattle.run_model.specs.declared.stats.RunStats.{RunStats}
-use Rattle.run_model.specs.declared.status.SetupScriptExecuteStatus.{SetupScriptExecuteStatus}
-use Rattle.run_model.specs.declared.status.StatusSummary.{StatusSummary}
-use Rattle.run_names.specs.declared.stress.StressIndex.{StressIndex}
-use Rattle.run_names.specs.declared.time.Nanos.{Nanos}
 use Rattle.run_names.specs.declared.unit.UnitKind.TheVariants as unit
-use Rattle.plain_text.specs.Texts.{Text}
 use Rattle.run_model.proofs.lemmas.Decoded.{decoded-same}
-use Rattle.store_text.specs.Netstring.{netstring, netstring_head}
-use Rattle.store_text.specs.Record.{record_text}
-use Rattle.store_text.specs.StoredOutput.{is_stored, stored_output}
-use Rattle.store_text.specs.declared.config.StoreConfig.{StoreConfig}
-use Rattle.text_parts.specs.ResultWords.{short_word}
-use Rattle.test_text.specs.TestFinished.{line_at_once, output_at_once, test_finished_text}
-use Rattle.text_parts.specs.Finish.{display_of, is_final_wanted, timed_at_end, timed_at_once, timed_listed}
-use Rattle.text_parts.specs.Instance.{padded_instance}
-use Rattle.test_text.specs.TestRetry.{attempt_failed_line, attempt_failed_text, delay_line, failed_output, is_failed_output_shown}
-use Rattle.text_parts.specs.Script.{Script}
-use Rattle.text_parts.specs.Settings.{finished_counter, is_level_shown}
-use Rattle.test_text.specs.StatusLine.{status_line}
+use Rattle.reporter_state.specs.Names.{netstring, netstring_head, record_text, is_stored, stored_output, StoreConfig, line_at_once, output_at_once, test_finished_text, attempt_failed_line}
+use Rattle.reporter_state.specs.Names.{attempt_failed_text, delay_line, failed_output, is_failed_output_shown, status_line, decider_by, entry_of, final_output, cancel, final_order, final_text}
+use Rattle.reporter_state.specs.Names.{borrowed_test, kept_test, decision, is_stored_by, load_if, loads_attempt, loads_script, is_skip, OutputLoadDecider, FinalOutputEntry, KeptTest}
+use Rattle.text_parts.specs.Names.{short_word, display_of, is_final_wanted, timed_at_end, timed_at_once, timed_listed, padded_instance, Script, finished_counter, is_level_shown, Settings}
+use Rattle.text_parts.specs.Names.{final_warnings}
 use Rattle.text_parts.proofs.lemmas.Finishes.{row_below}
-use Rattle.text_parts.specs.declared.settings.Settings.{Settings}
 use Rattle.test_text.specs.declared.status_line.StatusLineKind.TheVariants.{Final}
-use Rattle.run_model.specs.Stats.{final_stats_of_run}
-use Rattle.unit_report.specs.Warnings.{final_warnings}
-use Rattle.run_text.specs.NotSeen.{not_seen_text}
+use Rattle.console_reporter.specs.Names.{not_seen_text, run_finished_text, failed_script_output, setup_script_finished_text, setup_script_line, decider_of, AreUninterrupted, is_end_of_run}
+use Rattle.console_reporter.specs.Names.{Configuration, settings_of, IsExact, IsObserved, IsSeen, IsStoredThere, combined, with_output, writing, event_text, listed_text, script_by, text, report_texts}
+use Rattle.console_reporter.specs.Names.{record_of, records, stored_text}
 use Rattle.report_words.specs.Parts.{◌⧺◌, paint}
-use Rattle.run_text.specs.Summary.{run_finished_text}
-use Rattle.run_text.specs.SetupScript.{failed_script_output, setup_script_finished_text, setup_script_line}
-use Rattle.reporter_state.specs.Refusals.{decider_by}
-use Rattle.console_reporter.specs.Accepted.{decider_of}
-use Rattle.console_reporter.specs.Uninterrupted.{AreUninterrupted, is_end_of_run}
-use Rattle.console_reporter.specs.Configuration.{Configuration, settings_of}
-use Rattle.reporter_state.specs.Effects.{entry_of, final_output}
-use Rattle.reporter_state.specs.Entries.{cancel, final_order, final_text}
-use Rattle.console_reporter.specs.Exactness.{IsExact, IsObserved, IsSeen, IsStoredThere, combined, with_output, writing}
-use Rattle.reporter_state.specs.KeptTests.{borrowed_test, kept_test}
-use Rattle.reporter_state.specs.Loads.{decision, is_stored_by, load_if, loads_attempt, loads_script}
-use Rattle.console_reporter.specs.Report.{event_text, listed_text, script_by, text, report_texts}
-use Rattle.console_reporter.specs.Stored.{record_of, records, stored_text}
-use Rattle.reporter_state.specs.Unread.{is_skip}
-use Rattle.run_model.specs.declared.call.ReportCall.{ReportCall}
 use Rattle.run_model.specs.declared.call.ReportCall.TheVariants.{Event}
-use Rattle.reporter_state.specs.declared.decider.OutputLoadDecider.{OutputLoadDecider}
-use Rattle.reporter_state.specs.declared.final_output.FinalOutputEntry.{FinalOutputEntry}
-use Rattle.reporter_state.specs.declared.kept_test.KeptTest.{KeptTest}
 use Rattle.console_reporter.proofs.lemmas.UninterruptedRuns.{uninterrupted_back, uninterrupted_both, uninterrupted_end, uninterrupted_entries, uninterrupted_front, uninterrupted_past, listing}
 use Rattle.console_reporter.proofs.lemmas.Isolation.{same-record, same-unloaded}
 use Rattle.console_reporter.proofs.lemmas.OtherOutputs.{ascii, outputs_differ}

@@ -1,58 +1,24 @@
 -- What the decider skips is not shown (for `unload_skipped`, `DisplayReporter::output_load_decider`).
 use Rattle.std.proofs.Common.{◌≡◌, ℕ, Bool, true, false, not, Option, None, Some, List, [], ◌∷◌, ◌++◌, map, reverse, if◌then◌else◌, refl, sym, ap, ap₂, subst, ◌∙◌, inl, inr, codes, ◌||◌}
-use Rattle.std.specs.List.{position_or_len, slice_get}
-use Rattle.std.specs.Option.{is_some, option_and_then, option_map, option_map_or}
+use Rattle.styled_text.specs.Names.{position_or_len, slice_get, is_some, option_and_then, option_map, option_map_or}
 use Rattle.std.proofs.lemmas.Bool.{cases_Bool, false≢true}
 use Rattle.std.proofs.lemmas.List.{length-map, map-append, reverse-append}
 use Rattle.std.proofs.lemmas.Option.{slice_get-map}
-use Rattle.run_model.specs.Attempts.{Attempt, Attempts, Written}
-use Rattle.run_names.specs.Displays.{is_immediate, is_final}
-use Rattle.run_model.specs.Outputs.{has_loaded_output}
-use Rattle.run_model.specs.Statuses.{case_of, is_success, summary_of}
-use Rattle.run_model.specs.Unloaded.{unloaded_attempt, unloaded_attempts, unloaded_event, unloaded_kind, unloaded_script}
-use Rattle.run_names.specs.declared.config.TestOutputDisplay.{TestOutputDisplay}
-use Rattle.run_model.specs.declared.event.TestEventKind.{TestEventKind}
+use Rattle.run_model.specs.Names.{Attempt, Attempts, Written, is_immediate, is_final, has_loaded_output, case_of, is_success, summary_of, unloaded_attempt, unloaded_attempts, unloaded_event}
+use Rattle.run_model.specs.Names.{unloaded_kind, unloaded_script, TestOutputDisplay, TestEventKind, TestInstanceId, ChildOutputDescription, LiveSpec, RunStats, SetupScriptExecuteStatus, StressIndex}
+use Rattle.run_model.specs.Names.{Nanos, StatusSummary, ReportCall}
 use Rattle.run_model.specs.declared.event.TestEventKind.TheVariants.{SetupScriptFinished, TestAttemptFailedWillRetry, TestFinished}
 use Rattle.run_names.specs.declared.level.StatusLevel.TheVariants as level
-use Rattle.run_names.specs.declared.name.TestInstanceId.{TestInstanceId}
-use Rattle.run_model.specs.declared.output.ChildOutputDescription.{ChildOutputDescription}
-use Rattle.run_model.specs.declared.output.LiveSpec.{LiveSpec}
-use Rattle.run_model.specs.declared.stats.RunStats.{RunStats}
-use Rattle.run_model.specs.declared.status.SetupScriptExecuteStatus.{SetupScriptExecuteStatus}
-use Rattle.run_names.specs.declared.stress.StressIndex.{StressIndex}
-use Rattle.run_names.specs.declared.time.Nanos.{Nanos}
-use Rattle.unit_report.specs.Overrides.{display_for}
-use Rattle.text_parts.specs.ResultWords.{short_word}
-use Rattle.store_text.specs.Netstring.{netstring}
-use Rattle.store_text.specs.Record.{record_text}
-use Rattle.store_text.specs.StoredOutput.{is_stored, stored_output}
-use Rattle.store_text.specs.declared.config.StoreConfig.{StoreConfig}
-use Rattle.test_text.specs.TestFinished.{FinishReport, line_at_once, output_at_once, test_finish, test_finished_text}
-use Rattle.text_parts.specs.Finish.{display_of, is_ever_shown, timed_at_end, timed_at_once}
-use Rattle.test_text.specs.TestRetry.{attempt_failed_text, attempt_failed_line, failed_output, is_failed_output_shown}
-use Rattle.text_parts.specs.Settings.{is_level_shown}
-use Rattle.text_parts.specs.declared.finish.OutputTiming.{OutputTiming}
+use Rattle.text_parts.specs.Names.{display_for, short_word, display_of, is_ever_shown, timed_at_end, timed_at_once, is_level_shown, OutputTiming, Settings, Script}
+use Rattle.reporter_state.specs.Names.{netstring, record_text, is_stored, stored_output, StoreConfig, FinishReport, line_at_once, output_at_once, test_finish, test_finished_text, attempt_failed_text}
+use Rattle.reporter_state.specs.Names.{attempt_failed_line, failed_output, is_failed_output_shown, AreAcceptedBy, decider_by, event_refusal, first_refused, refusal_at_by, refusal_by, final_output}
+use Rattle.reporter_state.specs.Names.{is_kept, kept_entry, Finished, FinalOutput, kept_test, load_if, loads_attempt, loads_finish, loads_script, is_skip, is_skipped, unread, unread_call}
+use Rattle.reporter_state.specs.Names.{OutputLoadDecider}
 use Rattle.text_parts.specs.declared.finish.OutputTiming.TheVariants.{Hidden, Shown, ShownOnce}
-use Rattle.text_parts.specs.declared.settings.Settings.{Settings}
 use Rattle.report_words.specs.Parts.{paint}
-use Rattle.run_text.specs.SetupScript.{failed_script_output, setup_script_finished_text}
-use Rattle.text_parts.specs.Script.{Script}
-use Rattle.reporter_state.specs.Refusals.{AreAcceptedBy, decider_by, event_refusal, first_refused, refusal_at_by, refusal_by}
-use Rattle.console_reporter.specs.Accepted.{decider_of}
-use Rattle.console_reporter.specs.Configuration.{Configuration, settings_of}
-use Rattle.reporter_state.specs.Effects.{final_output, is_kept, kept_entry}
-use Rattle.reporter_state.specs.Effects.TestEnd.{Finished}
-use Rattle.reporter_state.specs.declared.final_output.FinalOutput.{FinalOutput}
-use Rattle.run_model.specs.declared.status.StatusSummary.{StatusSummary}
-use Rattle.console_reporter.specs.Isolation.{IsIsolated}
-use Rattle.reporter_state.specs.KeptTests.{kept_test}
-use Rattle.reporter_state.specs.Loads.{load_if, loads_attempt, loads_finish, loads_script}
-use Rattle.console_reporter.specs.Report.{event_text, script_by}
-use Rattle.console_reporter.specs.Stored.{record_of, records, stored, stored_text}
-use Rattle.reporter_state.specs.Unread.{is_skip, is_skipped, unread, unread_call}
-use Rattle.run_model.specs.declared.call.ReportCall.{ReportCall}
+use Rattle.console_reporter.specs.Names.{failed_script_output, setup_script_finished_text, decider_of, Configuration, settings_of, IsIsolated, event_text, script_by, record_of, records, stored}
+use Rattle.console_reporter.specs.Names.{stored_text}
 use Rattle.run_model.specs.declared.call.ReportCall.TheVariants.{Event, Header, Prefix}
-use Rattle.reporter_state.specs.declared.decider.OutputLoadDecider.{OutputLoadDecider}
 use Rattle.reporter_state.specs.declared.faults.WriteEventError.TheVariants.{OutputNotLoaded, RetriedSuccess}
 use Rattle.console_reporter.proofs.lemmas.Same.{AreSame, IsSameEvent, same-call, same-event, same-itself, same-report}
 

@@ -1,17 +1,10 @@
 -- What a past leads to, and what one more call changes (for `DisplayReporter::report_event`).
 use Rattle.std.proofs.Common.{◌≡◌, List, ◌∷◌, ◌++◌, refl, ap₂, ◌∙◌}
 use Rattle.std.specs.Option.{option_to_list}
-use Rattle.run_names.specs.Levels.{reason_rank}
-use Rattle.run_model.specs.declared.event.TestEvent.{TestEvent}
-use Rattle.console_reporter.specs.Configuration.{Configuration, settings_of}
-use Rattle.reporter_state.specs.Effects.{entry_of}
-use Rattle.reporter_state.specs.Entries.{kept, final_order}
-use Rattle.console_reporter.specs.Report.{event_text, text}
-use Rattle.console_reporter.specs.HeldState.{StandsAfter, known_by}
-use Rattle.run_model.specs.declared.call.ReportCall.{ReportCall}
+use Rattle.run_model.specs.Names.{reason_rank, TestEvent, ReportCall}
+use Rattle.console_reporter.specs.Names.{Configuration, settings_of, event_text, text, StandsAfter, known_by, DisplayReporter}
+use Rattle.reporter_state.specs.Names.{entry_of, kept, final_order, FinalOutputEntry}
 use Rattle.run_model.specs.declared.call.ReportCall.TheVariants.{Event}
-use Rattle.reporter_state.specs.declared.final_output.FinalOutputEntry.{FinalOutputEntry}
-use Rattle.console_reporter.specs.declared.imp.reporter.DisplayReporter.{DisplayReporter}
 
 -- the text of an event from what the reporter holds is its text after the past
 pub text-held : {W S : Type 0} (config : Configuration) (past : List ReportCall) (reporter : DisplayReporter W S) (e : TestEvent) → StandsAfter config past reporter →

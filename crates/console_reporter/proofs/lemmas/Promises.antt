@@ -1,24 +1,16 @@
 -- What each call promises, by how it ends (for `DisplayReporter::write_event`, `DisplayReporter::write_replay_header`,
 -- `DisplayReporter::copy_prefix`, `DisplayReporter::finish`).
 use Rattle.std.proofs.Common.{◌≡◌, ◌⊎◌, Bool, true, false, inl, inr, List, [], Option, None, Some, IfSome, Ok, Err, refl, ap, ap₂, sym, subst, ◌∙◌}
-use Rattle.std.specs.Option.{is_some}
-use Rattle.plain_text.specs.Texts.{Text}
-use Rattle.writers.specs.Writer.{Meaning, WriterLaws}
-use Rattle.console_reporter.specs.Configuration.{Configuration}
-use Rattle.console_reporter.specs.OptionalStore.{config_of}
-use Rattle.console_reporter.specs.HeldState.{HasFailed, MayGrowIn, StandsAfter}
-use Rattle.console_reporter.specs.Outcomes.{HasFront}
-use Rattle.console_reporter.specs.Telling.{AreDelivered, Breaks, IsDelivered, IsNeverRefused, IsSameReporter, Promises, Tells, refusal_for}
+use Rattle.styled_text.specs.Names.{is_some, Text, Meaning, WriterLaws}
+use Rattle.console_reporter.specs.Names.{Configuration, config_of, HasFailed, MayGrowIn, StandsAfter, HasFront, AreDelivered, Breaks, IsDelivered, IsNeverRefused, IsSameReporter, Promises, Tells}
+use Rattle.console_reporter.specs.Names.{refusal_for, DisplayReporter}
 use Rattle.console_reporter.proofs.lemmas.Refusals.{breaks_refused, not_refused, told_none}
 use Rattle.console_reporter.proofs.lemmas.Stores.{same-store, store-laws}
 use Rattle.console_reporter.proofs.lemmas.Texts.{of_lines-told}
-use Rattle.run_model.specs.declared.call.ReportCall.{ReportCall}
+use Rattle.run_model.specs.Names.{ReportCall, TestEvent}
 use Rattle.run_model.specs.declared.call.ReportCall.TheVariants.{Event}
-use Rattle.run_model.specs.declared.event.TestEvent.{TestEvent}
-use Rattle.reporter_state.specs.Refusals.{decider_by, event_refusal, refusal_in}
-use Rattle.reporter_state.specs.declared.faults.WriteEventError.{WriteEventError}
+use Rattle.reporter_state.specs.Names.{decider_by, event_refusal, refusal_in, WriteEventError}
 use Rattle.reporter_state.specs.declared.faults.WriteEventError.TheVariants.{Failed, Io, Memory, StoreIo}
-use Rattle.console_reporter.specs.declared.imp.reporter.DisplayReporter.{DisplayReporter}
 
 failed_not_io : Failed ≡ Io → ⊥
 failed_not_io is = cc

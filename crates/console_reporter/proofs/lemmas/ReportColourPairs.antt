@@ -1,45 +1,25 @@
 -- The report in colour and plain (for `run_report`).
 use Rattle.std.proofs.Common.{◌≡◌, ℕ, zero, suc, Bool, true, false, refl, sym, subst, List, [], ◌∷◌, Option, None, Some, take, reverse, slice_get}
-use Rattle.std.specs.List.{AllByRecursion}
-use Rattle.std.specs.Option.{option_map_or}
+use Rattle.styled_text.specs.Names.{AllByRecursion, option_map_or, HasNoEscape, styles_of, Styles}
 use Rattle.std.proofs.lemmas.List.{reverse-append}
-use Rattle.run_model.specs.declared.event.TestEventKind.{TestEventKind}
+use Rattle.run_model.specs.Names.{TestEventKind, ReportCall}
 use Rattle.run_model.specs.declared.event.TestEventKind.TheVariants.{RunStarted, SetupScriptStarted, SetupScriptSlow, SetupScriptFinished, TestStarted, TestSlow, TestAttemptFailedWillRetry, TestRetryStarted, TestFinished, TestSkipped, InfoResponse, RunFinished}
 use Rattle.run_model.specs.declared.info.InfoResponse.TheVariants.{SetupScript, Test}
-use Rattle.plain_text.specs.Escapes.{HasNoEscape}
-use Rattle.plain_text.specs.Style.{styles_of}
-use Rattle.plain_text.specs.declared.style.Styles.{Styles}
-use Rattle.report_words.specs.PlainTexts.{HoldsIf}
-use Rattle.report_words.specs.InColour.{IsColourPair}
+use Rattle.report_words.specs.Names.{HoldsIf, IsColourPair, paint}
 use Rattle.report_words.proofs.lemmas.ColourPairs.{colour_pair-none, colour_pair-append, colour_pair-whole}
-use Rattle.text_parts.specs.AttemptOutput.{unit_output}
-use Rattle.text_parts.specs.Finish.{display_of, is_line_shown}
-use Rattle.text_parts.specs.Settings.{is_level_shown, shows_starts}
-use Rattle.text_parts.specs.declared.settings.Settings.{Settings}
+use Rattle.text_parts.specs.Names.{unit_output, display_of, is_line_shown, is_level_shown, shows_starts, Settings}
 use Rattle.text_parts.proofs.lemmas.LineColourPairs.{painted}
-use Rattle.test_text.specs.TestFinished.{line_at_once, output_at_once, test_finished_text}
-use Rattle.test_text.specs.TestRetry.{attempt_failed_text, failed_output, is_failed_output_shown}
-use Rattle.test_text.specs.TestSkipped.{test_skipped_text}
-use Rattle.test_text.specs.TestSlow.{has_number, is_level_exceeded, slow_text, terminating_text, terminating_word, test_slow_text}
-use Rattle.test_text.specs.TestStarted.{command_text, retry_start_line, start_line, test_retry_started_text, test_started_text}
+use Rattle.reporter_state.specs.Names.{line_at_once, output_at_once, test_finished_text, attempt_failed_text, failed_output, is_failed_output_shown, test_skipped_text, has_number, is_level_exceeded}
+use Rattle.reporter_state.specs.Names.{slow_text, terminating_text, terminating_word, test_slow_text, command_text, retry_start_line, start_line, test_retry_started_text, test_started_text, cancel}
+use Rattle.reporter_state.specs.Names.{prefix, kept, final_order}
 use Rattle.test_text.proofs.lemmas.FreeStatusLines.{free-test_finished_text}
 use Rattle.test_text.proofs.lemmas.FreeTests.{free-test_started_text, free-test_slow_text, free-attempt_failed_text, free-test_retry_started_text, free-test_skipped_text}
-use Rattle.run_text.specs.PlainRuns.{IsPlainPrefix}
-use Rattle.run_text.specs.Header.{replay_header_text}
-use Rattle.run_text.specs.SetupScript.{failed_script_output, setup_script_finished_text, setup_script_slow_text}
-use Rattle.run_text.specs.Start.{run_started_text, starting_line}
+use Rattle.console_reporter.specs.Names.{IsPlainPrefix, replay_header_text, failed_script_output, setup_script_finished_text, setup_script_slow_text, run_started_text, starting_line}
+use Rattle.console_reporter.specs.Names.{info_response_text, script_answer, test_answer, unit_answer, valid_output, in_colour, ColourLaw, Configuration, settings_of, IsPlainConfiguration, IsPlainKind}
+use Rattle.console_reporter.specs.Names.{IsPlainCall, ArePlain, IsPlainReport, PlainLaw, Known, script_by, listed_text, event_parts, event_text, text, report, past_at, text_at}
 use Rattle.run_text.proofs.lemmas.FreeRuns.{free-not_seen_text, free-replay_header_text, free-run_started_text, free-setup_script_finished_text, free-setup_script_slow_text, free-setup_script_started_text}
-use Rattle.report_words.specs.Parts.{paint}
 use Rattle.report_words.proofs.lemmas.PartsInColour.{AreFree, in_colour as parts_in_colour}
-use Rattle.info_text.specs.Response.{info_response_text, script_answer, test_answer, unit_answer, valid_output}
 use Rattle.info_text.proofs.lemmas.FreeResponses.{free-info_response_text}
-use Rattle.console_reporter.specs.ColourLaw.{in_colour, ColourLaw}
-use Rattle.console_reporter.specs.Configuration.{Configuration, settings_of}
-use Rattle.reporter_state.specs.Entries.{cancel, prefix, kept, final_order}
-use Rattle.console_reporter.specs.PlainCalls.{IsPlainConfiguration, IsPlainKind, IsPlainCall, ArePlain}
-use Rattle.console_reporter.specs.PlainLaw.{IsPlainReport, PlainLaw}
-use Rattle.console_reporter.specs.Report.{Known, script_by, listed_text, event_parts, event_text, text, report, past_at, text_at}
-use Rattle.run_model.specs.declared.call.ReportCall.{ReportCall}
 use Rattle.run_model.specs.declared.call.ReportCall.TheVariants.{Event, Header, Prefix}
 use Rattle.console_reporter.proofs.lemmas.PlainEntries.{IsPlainEntry, All-append, All-final_order, plain-test_finish, plain-kept, plain-prefix, same-kept, same-entries, free-entries_text}
 

@@ -1,63 +1,33 @@
 -- Worked rows: what the definitions say of a short run.
 use Rattle.std.proofs.Common.{◌≡◌, ℕ, ℤ, Bool, false, List, [], ◌∷◌, codes, refl, pos, None, Some, Option}
-use Rattle.std.specs.Fmt.{digits}
-use Rattle.std.specs.Str.{chars}
+use Rattle.styled_text.specs.Names.{digits, chars, plain, styled, styles_of, Text, right_in, seconds, with_point}
 use Rattle.uuid.specs.Text.{by_index}
 use Rattle.run_names.specs.declared.config.NextestRunMode.TheVariants.{Test}
 use Rattle.run_names.specs.declared.config.CompiledDefaultFilterSection.TheVariants.{Profile}
-use Rattle.run_model.specs.declared.event.SkipCounts.{SkipCounts}
-use Rattle.unit_report.specs.SkipCounts.{skip_note}
+use Rattle.run_model.specs.Names.{SkipCounts, TestEvent, planned_stats, reason_rank, TestInstanceId, RunStats, ExecutionResultDescription, ChildOutputDescription, LiveSpec, TestOutputDisplay}
+use Rattle.run_model.specs.Names.{StressIndex, Nanos, Attempts, Written, summary_of}
+use Rattle.text_parts.specs.Names.{skip_note, abort_line, theme_of, long_word, display_of, output_timing, timed_listed, is_final_wanted, Settings, summary_text, counted_front, passed_notes}
+use Rattle.text_parts.specs.Names.{passed_front, failed_counts, failed_count, leaky_failed_note, exec_failed_count, timed_out_count, test_text, stress_prefix, counter_prefix, test_name_text}
+use Rattle.text_parts.specs.Names.{bracketed_duration}
 use Rattle.unit_report.specs.declared.unit_output.DisplayerKind.TheVariants.{Live}
-use Rattle.run_model.specs.declared.event.TestEvent.{TestEvent}
 use Rattle.run_model.specs.declared.event.TestEventKind.TheVariants.{TestFinished, RunFinished}
-use Rattle.run_model.specs.Stats.{planned_stats}
-use Rattle.run_names.specs.Levels.{reason_rank}
 use Rattle.run_names.specs.declared.abort.AbortDescription.TheVariants.{UnixSignal}
 use Rattle.run_names.specs.declared.level.CancelReason.TheVariants as cause
 use Rattle.run_names.specs.declared.level.StatusLevel.TheVariants as status
 use Rattle.run_names.specs.declared.level.FinalStatusLevel.TheVariants as final
-use Rattle.run_names.specs.declared.name.TestInstanceId.{TestInstanceId}
 use Rattle.run_model.specs.declared.stats.RunFinishedStats.TheVariants.{Single}
-use Rattle.run_model.specs.declared.stats.RunStats.{RunStats}
-use Rattle.run_model.specs.declared.status.ExecutionResultDescription.{ExecutionResultDescription}
 use Rattle.run_model.specs.declared.status.ExecutionResultDescription.TheVariants as outcome
-use Rattle.run_model.specs.declared.output.ChildOutputDescription.{ChildOutputDescription}
-use Rattle.run_model.specs.declared.output.LiveSpec.{LiveSpec}
 use Rattle.run_model.specs.declared.status.FailureDescription.TheVariants.{ExitCode, Abort}
 use Rattle.run_model.specs.declared.status.FlakyResult.TheVariants as flaky
-use Rattle.run_names.specs.declared.config.TestOutputDisplay.{TestOutputDisplay}
 use Rattle.run_names.specs.declared.config.TestOutputDisplay.TheVariants.{Never}
-use Rattle.run_names.specs.declared.stress.StressIndex.{StressIndex}
-use Rattle.run_names.specs.declared.time.Nanos.{Nanos}
 use Rattle.run_names.specs.Names.{last_colons}
-use Rattle.run_model.specs.Attempts.{Attempts, Written}
-use Rattle.run_model.specs.Statuses.{summary_of}
-use Rattle.report_words.specs.Plural.{tests_word_if, binaries_word}
-use Rattle.plain_text.specs.Style.{plain, styled, styles_of}
-use Rattle.plain_text.specs.Texts.{Text, right_in}
-use Rattle.report_words.specs.Theme.{hbar_text}
-use Rattle.text_parts.specs.AbortLine.{abort_line}
-use Rattle.text_parts.specs.Settings.{theme_of}
-use Rattle.text_parts.specs.ResultWords.{long_word}
-use Rattle.reporter_state.specs.Order.{ordered_by, put_in}
-use Rattle.reporter_state.specs.Entries.{cancel, kept, final_order}
-use Rattle.test_text.specs.TestFinished.{test_finish}
-use Rattle.reporter_state.specs.Effects.{finished_entry}
-use Rattle.text_parts.specs.Finish.{display_of, output_timing, timed_listed, is_final_wanted}
-use Rattle.run_text.specs.RunId.{id_text, run_id_text}
-use Rattle.run_text.specs.Start.{profile_text, run_id_line, test_counts_text, starting_line, run_started_text}
-use Rattle.report_words.specs.Parts.{paint}
-use Rattle.run_text.specs.Summary.{initial_count_text, run_counts_text, summary_line, run_finished_text}
-use Rattle.test_text.specs.StatusLine.{status_prefix, flaky_failure_line, status_line}
+use Rattle.report_words.specs.Names.{tests_word_if, binaries_word, hbar_text, paint}
+use Rattle.reporter_state.specs.Names.{ordered_by, put_in, cancel, kept, final_order, test_finish, finished_entry, status_prefix, flaky_failure_line, status_line, StatusLineKind}
+use Rattle.console_reporter.specs.Names.{id_text, run_id_text, profile_text, run_id_line, test_counts_text, starting_line, run_started_text, initial_count_text, run_counts_text, summary_line}
+use Rattle.console_reporter.specs.Names.{run_finished_text}
 use Rattle.run_model.specs.declared.call.ReportCall.TheVariants.{Event}
 use Rattle.text_parts.specs.declared.finish.OutputTiming.TheVariants as row
-use Rattle.text_parts.specs.declared.settings.Settings.{Settings}
-use Rattle.test_text.specs.declared.status_line.StatusLineKind.{StatusLineKind}
 use Rattle.test_text.specs.declared.status_line.StatusLineKind.TheVariants.{Intermediate, Final}
-use Rattle.text_parts.specs.StatsText.{summary_text, counted_front, passed_notes, passed_front, failed_counts, failed_count, leaky_failed_note, exec_failed_count, timed_out_count}
-use Rattle.plain_text.specs.Numbers.{seconds, with_point}
-use Rattle.report_text.specs.Instance.{test_text, stress_prefix, counter_prefix, test_name_text}
-use Rattle.unit_report.specs.Durations.{bracketed_duration}
 
 -- level Pass, final level Fail, and no colour
 abbrev settings : Settings

@@ -1,28 +1,14 @@
 -- Calls in sequence, of a reporter with both its writers (for `DisplayReporter::make_calls`, `run_report`, `run_report_with_store`).
 use Rattle.std.proofs.Common.{◌≡◌, ◌≤◌, ◌⊎◌, inl, inr, List, [], ◌++◌, Option, Some, None, Result, Err, OnOk, IfErr, IsTrue, false, append-nil, length, refl, reverse, subst, sym, take, ◌∙◌}
 use Rattle.std.proofs.lemmas.Result.{on_ok_weaker, IfErr-weaker}
-use Rattle.std.specs.Option.{option_map_or}
+use Rattle.styled_text.specs.Names.{option_map_or, Text, Meaning, WriterLaws, successor}
 use Rattle.std.specs.Prelude.{slice_get}
-use Rattle.plain_text.specs.Texts.{Text}
-use Rattle.writers.specs.Writer.{Meaning, WriterLaws, successor}
-use Rattle.reporter_state.specs.Entries.{cancel}
-use Rattle.console_reporter.specs.Accepted.{AreAccepted, refusal_at}
-use Rattle.console_reporter.specs.Configuration.{Configuration, settings_of}
-use Rattle.console_reporter.specs.Outcomes.{Stops}
-use Rattle.console_reporter.specs.Outcomes.Side.{Report, Records}
-use Rattle.console_reporter.specs.Report.{past_at, report, text_at}
-use Rattle.console_reporter.specs.OptionalStore.{store_accepts, store_may_refuse, store_meaning}
-use Rattle.console_reporter.specs.HeldState.{MayGrowAt, StandsAfter, may_grow_in}
-use Rattle.console_reporter.specs.Runs.{Runs, absent}
-use Rattle.console_reporter.specs.Stored.{stored, stored_at}
-use Rattle.console_reporter.specs.Telling.{AreDelivered, IsSameReporter, MayGrowFor, Promises, Tells, TellsRun, past_with}
+use Rattle.reporter_state.specs.Names.{cancel, refusal_in, RunFault, WriteEventError}
+use Rattle.console_reporter.specs.Names.{AreAccepted, refusal_at, Configuration, settings_of, Stops, Report, Records, past_at, report, text_at, store_accepts, store_may_refuse, store_meaning}
+use Rattle.console_reporter.specs.Names.{MayGrowAt, StandsAfter, may_grow_in, Runs, absent, stored, stored_at, AreDelivered, IsSameReporter, MayGrowFor, Promises, Tells, TellsRun, past_with}
+use Rattle.console_reporter.specs.Names.{DisplayReporter, Store}
 use Rattle.run_model.specs.declared.call.ReportCall.{ReportCall}
-use Rattle.reporter_state.specs.Refusals.{refusal_in}
-use Rattle.reporter_state.specs.declared.faults.RunFault.{RunFault}
-use Rattle.reporter_state.specs.declared.faults.WriteEventError.{WriteEventError}
 use Rattle.reporter_state.specs.declared.faults.WriteEventError.TheVariants.{Failed, Io, Memory, OutputNotLoaded, RetriedSuccess, StoreIo}
-use Rattle.console_reporter.specs.declared.imp.reporter.DisplayReporter.{DisplayReporter}
-use Rattle.console_reporter.specs.declared.imp.store.Store.{Store}
 use Rattle.console_reporter.proofs.lemmas.Calls.{err_here, ok_here, stopped_device, stopped_known}
 use Rattle.console_reporter.proofs.lemmas.Independence.{order_independent, stats_independent}
 use Rattle.console_reporter.proofs.lemmas.ReportColourPairs.{colour_holds, plain_holds}

@@ -1,15 +1,11 @@
 -- Lists of calls that a report cannot distinguish (for `unload_skipped`, `run_report`, `DisplayReporter::output_load_decider`).
 use Rattle.std.proofs.Common.{◌≡◌, ℕ, List, [], ◌∷◌, ◌++◌, refl, sym, ap, ap₂, ◌∙◌, max, reverse, append_assoc}
-use Rattle.std.specs.List.{flat_map}
+use Rattle.styled_text.specs.Names.{flat_map, Text}
 use Rattle.std.proofs.lemmas.List.{reverse-append}
-use Rattle.plain_text.specs.Texts.{Text}
-use Rattle.run_model.specs.declared.event.TestEvent.{TestEvent}
+use Rattle.run_model.specs.Names.{TestEvent, ReportCall}
 use Rattle.text_parts.specs.declared.settings.Settings.{Settings}
-use Rattle.console_reporter.specs.Configuration.{Configuration, settings_of}
-use Rattle.reporter_state.specs.Effects.{effect_of, entry_of}
-use Rattle.reporter_state.specs.Entries.{cancel, kept, prefix}
-use Rattle.console_reporter.specs.Report.{Known, event_text, known_after, report, text, report_texts}
-use Rattle.run_model.specs.declared.call.ReportCall.{ReportCall}
+use Rattle.console_reporter.specs.Names.{Configuration, settings_of, Known, event_text, known_after, report, text, report_texts}
+use Rattle.reporter_state.specs.Names.{effect_of, entry_of, cancel, kept, prefix}
 use Rattle.run_model.specs.declared.call.ReportCall.TheVariants.{Event, Header, Prefix}
 use Rattle.console_reporter.proofs.lemmas.Texts.{report-joined}
 

@@ -1,18 +1,14 @@
 -- The texts of the calls of a past (for `texts_make_the_report`, and for what each call promises).
 use Rattle.std.proofs.Common.{◌≡◌, ℕ, ◌<◌, List, [], ◌∷◌, ◌++◌, length, refl, sym, ap, subst, ◌∙◌, append-nil, length-append, arith, inl, inr, Option, None, Some}
 use Rattle.std.specs.Prelude.{slice_get}
-use Rattle.std.specs.List.{flat_map}
+use Rattle.styled_text.specs.Names.{flat_map, Text}
 use Rattle.std.proofs.Math.Seq.{get_or-append_seam}
 use Rattle.std.proofs.lemmas.Grind.{flat_map-append}
 use Rattle.std.proofs.lemmas.List.{get_or_append_left}
 use Rattle.std.proofs.lemmas.Option.{slice_get-get_or}
-use Rattle.plain_text.specs.Texts.{Text}
-use Rattle.console_reporter.specs.Configuration.{Configuration}
+use Rattle.console_reporter.specs.Names.{Configuration, replay_header_text, event_parts, event_text, report, text, report_texts, told_text}
 use Rattle.report_words.specs.Parts.{IsOfLines}
 use Rattle.report_words.proofs.lemmas.PartsInColour.{ends}
-use Rattle.run_text.specs.Header.{replay_header_text}
-use Rattle.console_reporter.specs.Report.{event_parts, event_text, report, text, report_texts}
-use Rattle.console_reporter.specs.Telling.{told_text}
 use Rattle.run_model.specs.declared.call.ReportCall.{ReportCall}
 use Rattle.run_model.specs.declared.call.ReportCall.TheVariants.{Event, Header, Prefix}
 

@@ -1,24 +1,17 @@
 -- What the end of an uninterrupted run shows (for `run_report`, `DisplayReporter::output_load_decider`).
 use Rattle.std.specs.Prelude.{nat_lt}
 use Rattle.std.proofs.Common.{◌≡◌, ℕ, ◌<◌, true, List, [], ◌∷◌, ◌++◌, None, refl, sym, ap, ◌∙◌, reverse, append-nil, append_assoc, arith, subst}
-use Rattle.std.specs.List.{flat_map}
-use Rattle.std.specs.Option.{option_to_list}
+use Rattle.styled_text.specs.Names.{flat_map, option_to_list}
 use Rattle.std.proofs.lemmas.Bool.{false≢true}
 use Rattle.std.proofs.lemmas.Bool.Decides.{nat_tests}
 use Rattle.std.proofs.lemmas.List.{reverse-append}
-use Rattle.run_model.specs.declared.event.TestEvent.{TestEvent}
-use Rattle.run_model.specs.declared.event.TestEventKind.{TestEventKind}
+use Rattle.run_model.specs.Names.{TestEvent, TestEventKind, ReportCall}
 use Rattle.run_model.specs.declared.event.TestEventKind.TheVariants.{TestFinished, RunFinished}
 use Rattle.text_parts.proofs.lemmas.Finishes.{row_below}
 use Rattle.text_parts.specs.declared.settings.Settings.{Settings}
-use Rattle.console_reporter.specs.Uninterrupted.{AreUninterrupted, carried_reason, is_end_of_run}
-use Rattle.console_reporter.specs.Configuration.{Configuration, settings_of}
-use Rattle.reporter_state.specs.Effects.{entry_of}
-use Rattle.reporter_state.specs.Entries.{cancel, final_order, kept}
-use Rattle.console_reporter.specs.Report.{Known, event_text, listed_text, text}
-use Rattle.run_model.specs.declared.call.ReportCall.{ReportCall}
+use Rattle.console_reporter.specs.Names.{AreUninterrupted, carried_reason, is_end_of_run, Configuration, settings_of, Known, event_text, listed_text, text}
+use Rattle.reporter_state.specs.Names.{entry_of, cancel, final_order, kept, FinalOutputEntry}
 use Rattle.run_model.specs.declared.call.ReportCall.TheVariants.{Event, Header, Prefix}
-use Rattle.reporter_state.specs.declared.final_output.FinalOutputEntry.{FinalOutputEntry}
 
 -- parts of uninterrupted calls
 pub uninterrupted_front : (xs ys : List ReportCall) → AreUninterrupted (xs ++ ys) → AreUninterrupted xs

@@ -1,10 +1,7 @@
 //! How a reporter is configured.
 
 ghost use Rattle.std.specs.Prelude.{◌≡◌, IfOk, [], None, Some};
-ghost use Rattle.console_reporter.specs.Accepted.{decider_of};
-ghost use Rattle.console_reporter.specs.Configuration.{configured, configured_in, configured_with_store, default_builder, settings_of};
-ghost use Rattle.console_reporter.specs.HeldState.{StandsAfter};
-ghost use Rattle.console_reporter.specs.OptionalStore.{config_of};
+ghost use Rattle.console_reporter.specs.Names.{decider_of, configured, configured_in, configured_with_store, default_builder, settings_of, StandsAfter, config_of};
 ghost use Rattle.text_parts.specs.Settings.{overrides_by};
 
 use super::reporter::DisplayReporter;

@@ -5,12 +5,8 @@ ghost use Rattle.writers.specs.Writer.{Puts};
 ghost use Rattle.run_names.specs.Levels.{reason_rank};
 ghost use Rattle.report_words.specs.Parts.{paint};
 ghost use Rattle.text_parts.specs.Script.{script_of};
-ghost use Rattle.reporter_state.specs.Effects.{IsFinishOf};
-ghost use Rattle.reporter_state.specs.Entries.{hiding_rank};
-ghost use Rattle.reporter_state.specs.Loads.{lacks_output};
-ghost use Rattle.reporter_state.specs.Refusals.{decider_by};
-ghost use Rattle.console_reporter.specs.HeldState.{known_by};
-ghost use Rattle.console_reporter.specs.Report.{end_of_run_text, event_text, listed_text, script_by};
+ghost use Rattle.reporter_state.specs.Names.{IsFinishOf, hiding_rank, lacks_output, decider_by};
+ghost use Rattle.console_reporter.specs.Names.{known_by, end_of_run_text, event_text, listed_text, script_by};
 
 use info_text::response::write_info_response;
 use info_text::start::{write_info_finished, write_info_started};

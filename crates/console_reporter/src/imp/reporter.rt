@@ -1,26 +1,13 @@
 //! The calls of a reporter.
 
 ghost use Rattle.std.specs.Prelude.{◌≡◌, ◌≤◌, ◌⊎◌, List, [], ◌∷◌, OnOk, IfErr, IfSome, IsErrOf, Err, None, Some, length, reverse, slice_get, take, false};
-ghost use Rattle.run_names.specs.Levels.{reason_rank};
+ghost use Rattle.run_model.specs.Names.{reason_rank, ReportCall};
 ghost use Rattle.writers.specs.Writer.{Puts, successor};
 ghost use Rattle.report_words.specs.Parts.{paint};
-ghost use Rattle.run_text.specs.Header.{replay_header_text};
-ghost use Rattle.run_model.specs.declared.call.ReportCall.{ReportCall};
-ghost use Rattle.reporter_state.specs.declared.faults.WriteEventError.{WriteEventError};
-ghost use Rattle.console_reporter.specs.Configuration.{Configuration, settings_of};
-ghost use Rattle.reporter_state.specs.Refusals.{decider_by, event_refusal};
-ghost use Rattle.console_reporter.specs.Accepted.{AreAccepted, decider_of};
-ghost use Rattle.reporter_state.specs.Effects.{IsFinishOf};
-ghost use Rattle.reporter_state.specs.Loads.{lacks_output};
-ghost use Rattle.console_reporter.specs.Exactness.{IsExact};
-ghost use Rattle.reporter_state.specs.Refusals.{refusal_in};
-ghost use Rattle.console_reporter.specs.Outcomes.{IsOfConsole, Stops, error_for};
-ghost use Rattle.console_reporter.specs.Outcomes.Side.{Report, Records};
-ghost use Rattle.console_reporter.specs.Report.{event_text, past_at, text};
-ghost use Rattle.console_reporter.specs.OptionalStore.{config_of, store_accepts, store_delivered, store_meaning};
-ghost use Rattle.console_reporter.specs.Stored.{record_of};
-ghost use Rattle.console_reporter.specs.Telling.{AreDelivered, IsSameReporter, Breaks, Promises, Tells, TellsRun};
-ghost use Rattle.console_reporter.specs.HeldState.{StandsAfter, HasFailed, IsSameWriter, MayGrow, known_by};
+ghost use Rattle.console_reporter.specs.Names.{replay_header_text, Configuration, settings_of, AreAccepted, decider_of, IsExact, IsOfConsole, Stops, error_for, Report, Records, event_text, past_at};
+ghost use Rattle.console_reporter.specs.Names.{text, config_of, store_accepts, store_delivered, store_meaning, record_of, AreDelivered, IsSameReporter, Breaks, Promises, Tells, TellsRun, StandsAfter};
+ghost use Rattle.console_reporter.specs.Names.{HasFailed, IsSameWriter, MayGrow, known_by};
+ghost use Rattle.reporter_state.specs.Names.{WriteEventError, decider_by, event_refusal, refusal_in, IsFinishOf, lacks_output};
 
 use super::event_text::write_event_text;
 use super::store::Store;
@@ -35,6 +22,7 @@ use run_model::replay::ReplayHeader;
 use run_model::run_id::ShortestRunIdPrefix;
 use run_text::header::write_replay_header;
 use std::alloc::Global;
+use std::mem;
 use store_text::config::StoreConfig;
 use test_text::test_finished::FinishedTest;
 use text_parts::settings::Settings;
@@ -365,6 +353,25 @@ impl<'a, W: WriteStr, S: WriteStr> DisplayReporter<'a, W, S> {
             state,
         } = self;
         drop(state);
+        (writer, store)
+    }
+
+    /// Gives the writer and the store back as `into_parts` does, and frees nothing: for a program that ends.
+    ///
+    /// ```
+    /// let (writer, _) = reporter.into_parts_unfreed();
+    /// assert_eq!(writer.as_str(), "");
+    /// ```
+    pub fn into_parts_unfreed(self) -> (&'a mut W, Option<Store<'a, S>>)
+        ensures writer { result.0 ≡ self.entry.writer }
+        ensures store { result.1 ≡ self.entry.store }
+    {
+        let DisplayReporter {
+            writer,
+            store,
+            state,
+        } = self;
+        mem::forget(state);
         (writer, store)
     }
 

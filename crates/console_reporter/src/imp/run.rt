@@ -3,9 +3,7 @@
 ghost use Rattle.std.specs.Prelude.{◌≡◌, ◌++◌, ◌∷◌, List, Some, length, slice_get};
 ghost use Rattle.std.specs.List.{flat_map};
 ghost use Rattle.run_model.specs.declared.call.ReportCall.{ReportCall};
-ghost use Rattle.console_reporter.specs.Configuration.{Configuration, configured, configured_with_store};
-ghost use Rattle.console_reporter.specs.Report.{report, report_texts, text};
-ghost use Rattle.console_reporter.specs.Runs.{Runs, absent};
+ghost use Rattle.console_reporter.specs.Names.{Configuration, configured, configured_with_store, report, report_texts, text, Runs, absent};
 
 use super::builder::DisplayReporterBuilder;
 use super::reporter::DisplayReporter;

@@ -1,22 +1,13 @@
--- What is handed in for the answers of units (for the texts of their events).
+-- The responses of units, without escape characters (for the texts of their events).
 use Rattle.std.proofs.Common.{ℕ, Bool, true, false, refl, Option, None, Some}
-use Rattle.std.specs.Option.{is_some}
-use Rattle.run_model.specs.Attempts.{Written}
-use Rattle.run_model.specs.declared.info.InfoResponse.{InfoResponse}
+use Rattle.styled_text.specs.Names.{is_some, without_end_spaces, styles_of}
+use Rattle.run_model.specs.Names.{Written, InfoResponse, UnitState, ExecutionResultDescription, NextestRunMode, UnitKind}
 use Rattle.run_model.specs.declared.info.InfoResponse.TheVariants.{SetupScript, Test}
-use Rattle.run_model.specs.declared.info.UnitState.{UnitState}
 use Rattle.run_model.specs.declared.info.UnitState.TheVariants.{Running, Exiting, Terminating, Exited, DelayBeforeNextAttempt}
-use Rattle.run_model.specs.declared.status.ExecutionResultDescription.{ExecutionResultDescription}
-use Rattle.run_names.specs.declared.config.NextestRunMode.{NextestRunMode}
-use Rattle.run_names.specs.declared.unit.UnitKind.{UnitKind}
-use Rattle.plain_text.specs.EqualButEndSpaces.{without_end_spaces}
-use Rattle.plain_text.specs.Style.{styles_of}
 use Rattle.report_words.specs.PlainTexts.{HoldsIf}
 use Rattle.report_words.proofs.lemmas.PartsInColour.{AreFree}
-use Rattle.report_text.specs.PlainResults.{IsPlainResult}
-use Rattle.unit_report.specs.PlainOutputs.{IsPlainWritten}
+use Rattle.text_parts.specs.Names.{IsPlainResult, IsPlainWritten, Settings}
 use Rattle.unit_report.proofs.lemmas.UnitColourPairs.{IsColourPairOfLayout, colour_pair-label, colour_pair-execution_output}
-use Rattle.text_parts.specs.declared.settings.Settings.{Settings}
 use Rattle.text_parts.proofs.lemmas.LineColourPairs.{free-instance_end, free-shown_script}
 use Rattle.text_parts.proofs.lemmas.ResultColourPairs.{free-info_text}
 use Rattle.info_text.specs.PlainResponses.{IsPlainResponse, IsPlainState}

@@ -1,10 +1,10 @@
 //! The line after the line of a test that was ended from outside. A status of a scene always has a message.
 
-use plain_text::style::Styles;
 use run_model::abort::AbortDescription;
 use run_model::boxed::Boxed;
 use run_model::status::{ExecutionResultDescription, FailureDescription};
 use std::test::Fail;
+use styled_text::style::Styles;
 use text_parts::abort_line::write_abort_line;
 
 #[test]

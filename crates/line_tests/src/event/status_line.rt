@@ -1,6 +1,5 @@
 //! The line of a finished test in the summary. No scene reaches one with a bar in the place of its counter.
 
-use plain_text::style::Styles;
 use report_text::helpers::DisplayCounterIndex;
 use run_model::name::{RustBinaryId, TestCaseName, TestInstanceId};
 use run_model::status::{
@@ -9,6 +8,7 @@ use run_model::status::{
 use run_model::stress::StressIndex;
 use run_model::time::Nanos;
 use std::test::Fail;
+use styled_text::style::Styles;
 use test_text::status_line::{StatusLine, StatusLineKind, write_status_line};
 use text_parts::instance::CountedInstance;
 

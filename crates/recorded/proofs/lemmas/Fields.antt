@@ -1,8 +1,6 @@
 -- The outputs of a line that are left.
 use Rattle.std.proofs.Common.{◌≡◌, ℕ, List, Bool, Option, IfSome}
-use Rattle.scene_fields.specs.declared.stored.PlacedOutput.{PlacedOutput}
-use Rattle.scene_fields.specs.declared.stored.StoredStream.{StoredStream}
-use Rattle.scene_events.specs.declared.scene.event.SceneEvent.{SceneEvent}
+use Rattle.scene_text.specs.Names.{PlacedOutput, StoredStream, SceneEvent}
 use Rattle.recorded.specs.Events.{event_inline, first_field_not}
 
 -- they have the first bad field of all

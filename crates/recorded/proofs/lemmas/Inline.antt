@@ -4,16 +4,11 @@ use Rattle.std.proofs.Common.{◌≡◌, ◌⊎◌, ℕ, Bool, true, false, List
 use Rattle.std.specs.List.{AllZip}
 use Rattle.std.proofs.lemmas.Bool.{cases_Bool, false≢true}
 use Rattle.std.proofs.lemmas.Slice.Zip.{all_zipped_more}
-use Rattle.command_line.specs.declared.args.Options.{Options}
-use Rattle.recorded.specs.Events.{event_inline, event_replayed, first_field_not, is_there, is_undamaged, unless_bad, wanted_of}
-use Rattle.recorded.specs.Skips.{skips}
-use Rattle.scene_fields.specs.declared.stored.PlacedOutput.{PlacedOutput}
-use Rattle.recorded.specs.Runs.{line_inline, line_replayed}
+use Rattle.scenes.specs.Names.{Options, decider_for}
+use Rattle.recorded.specs.Names.{event_inline, event_replayed, first_field_not, is_there, is_undamaged, unless_bad, wanted_of, skips, line_inline, line_replayed}
+use Rattle.scene_text.specs.Names.{PlacedOutput, SceneEvent, LineFault, AllRead, ConfigLine, EventLine, NoEvent, ParsedLine, ParsedLines, event_line, is_begun, line_read, lines_before, lines_with}
+use Rattle.scene_text.specs.Names.{recorded_line, with_line, with_made}
 use Rattle.reporter_state.specs.declared.decider.OutputLoadDecider.{OutputLoadDecider}
-use Rattle.scene_events.specs.declared.scene.event.SceneEvent.{SceneEvent}
-use Rattle.scene_fields.specs.declared.fault.LineFault.{LineFault}
-use Rattle.scene_text.specs.SceneTexts.{AllRead, ConfigLine, EventLine, NoEvent, ParsedLine, ParsedLines, event_line, is_begun, line_read, lines_before, lines_with, recorded_line, with_line, with_made}
-use Rattle.scenes.specs.Reports.{decider_for}
 use Rattle.scenes.proofs.lemmas.ReadLines.{config_kept}
 
 -- an event with every output in its place: the decider skips those of the one that is replayed, or that one has those in it that are loaded

@@ -1,23 +1,13 @@
 -- What is left of a recorded run, line by line (for `read_next`).
 use Rattle.std.proofs.Common.{◌≡◌, ℕ, ◌+◌, Bool, true, false, List, [], ◌∷◌, ◌++◌, Option, Some, Result, Ok, Err, map, refl, sym, ap, ◌∙◌, append_assoc, arith, inl, inr}
-use Rattle.command_line.specs.declared.args.Options.{Options}
-use Rattle.command_line.specs.declared.fault.Fault.{Fault}
+use Rattle.scenes.specs.Names.{Options, Fault, HasReadLines, IsMore, decider_for}
 use Rattle.recorded.proofs.lemmas.LoadedLines.{before_is, behind, one_read}
 use Rattle.recorded.proofs.lemmas.WholeLines.{ended_lines-more}
-use Rattle.recorded.specs.Events.{event_replayed}
-use Rattle.recorded.specs.NextLines.{CountsLine, IsNextLine, LeavesLine}
-use Rattle.recorded.specs.Outputs.{counted}
-use Rattle.recorded.specs.Runs.{before_rest, line_replayed, lines_replayed, needed, needed_for, ended_lines}
-use Rattle.recorded.specs.Source.{IsLeft}
-use Rattle.scene_events.specs.declared.scene.event.SceneEvent.{SceneEvent}
-use Rattle.scene_fields.specs.declared.fault.LineFault.{LineFault}
-use Rattle.scene_fields.specs.declared.stored.PlacedOutput.{PlacedOutput}
+use Rattle.recorded.specs.Names.{event_replayed, CountsLine, IsNextLine, LeavesLine, counted, before_rest, line_replayed, lines_replayed, needed, needed_for, ended_lines, IsLeft}
+use Rattle.scene_text.specs.Names.{SceneEvent, LineFault, PlacedOutput, ParsedLine, ParsedLines, ReadsLines, RunLine, before_next, line_read, lines_before, lines_with, recorded_line, with_made}
+use Rattle.scene_text.specs.Names.{LinesRead}
 use Rattle.scene_text.proofs.lemmas.Tellings.{reads_none}
-use Rattle.scene_text.specs.SceneTexts.{ParsedLine, ParsedLines, ReadsLines, RunLine, before_next, line_read, lines_before, lines_with, recorded_line, with_made}
-use Rattle.scene_text.specs.declared.reader.LinesRead.{LinesRead}
 use Rattle.scenes.proofs.lemmas.ReadLines.{begun_by, further as with_more, next_fault}
-use Rattle.scenes.specs.Read.{HasReadLines, IsMore}
-use Rattle.scenes.specs.Reports.{decider_for}
 
 -- what stands before the line behind one that tells
 before_so : (run after : ParsedLines) (make : List PlacedOutput → SceneEvent → Result SceneEvent LineFault) (says : Result (ParsedLine × List PlacedOutput) LineFault) → lines_with run (with_made make says) ≡ Ok after → lines_before after ≡ before_rest (lines_before run) says

@@ -2,15 +2,8 @@
 use Rattle.std.proofs.Common.{◌≡◌, ℕ, List, Option, None, Some, IfSome, Ok, ap, ◌∙◌}
 use native.Mathlib.Omega.{arith}
 use Rattle.run_model.specs.declared.output.ChildOutputDescription.{ChildOutputDescription}
-use Rattle.recorded.specs.Outputs.{bytes_at, stream_at}
-use Rattle.scene_fields.specs.declared.reference.Reference.{Reference}
-use Rattle.recorded.specs.Captured.{IsCaptured, captured_at, captured_stream_at}
-use Rattle.scene_fields.specs.declared.stored.PlacedOutput.{PlacedOutput}
-use Rattle.scene_fields.specs.declared.stored.StoredOutput.{StoredOutput}
-use Rattle.scene_fields.specs.declared.stored.StoredStream.{StoredStream}
-use Rattle.scene_events.specs.Loads.{event_with}
-use Rattle.scene_events.specs.declared.scene.event.SceneEvent.{SceneEvent}
-use Rattle.recorded.specs.Events.{output_inline, stream_inline}
+use Rattle.recorded.specs.Names.{bytes_at, stream_at, IsCaptured, captured_at, captured_stream_at, output_inline, stream_inline}
+use Rattle.scene_text.specs.Names.{Reference, PlacedOutput, StoredOutput, StoredStream, event_with, SceneEvent}
 
 -- the bytes of a reference, a stream, and both streams, apart or together
 loaded-bytes : (all : List ℕ) (r : Reference) (bytes : List ℕ) → stream_at all r ≡ Some bytes → bytes ≡ bytes_at all r

@@ -6,30 +6,19 @@ use Rattle.std.proofs.Math.ListN.{set}
 use Rattle.std.proofs.Math.Seq.{get_or-append_seam, set-append_seam, take-append_seam}
 use Rattle.std.proofs.lemmas.Bool.Decides.{nat_tests}
 use Rattle.std.proofs.lemmas.List.{append_cancel_left, length-append, nil_from_length, take-set}
-use Rattle.command_line.specs.Faults.{fault_of_read}
-use Rattle.command_line.specs.Pieces.{IsUnread}
-use Rattle.command_line.specs.declared.args.Options.{Options}
-use Rattle.command_line.specs.declared.fault.Fault.{Fault}
-use Rattle.recorded.specs.Events.{IfDamaged, IsReplayed, event_replayed, needed_of}
-use Rattle.recorded.specs.NextLines.{CountsLine, IsFaultOfLoad, IsLineFault, KeepsRead, LeavesLine}
-use Rattle.recorded.specs.Outputs.{counted}
-use Rattle.recorded.specs.Runs.{line_replayed, needed_by, needed_for}
-use Rattle.recorded.specs.declared.events.LoadEventFault.{LoadEventFault}
-use Rattle.recorded.specs.declared.outputs.LoadFault.{LoadFault}
+use Rattle.scenes.specs.Names.{fault_of_read, IsUnread, Options, Fault, decider_for}
+use Rattle.recorded.specs.Names.{IfDamaged, IsReplayed, event_replayed, needed_of, CountsLine, IsFaultOfLoad, IsLineFault, KeepsRead, LeavesLine, counted, line_replayed, needed_by, needed_for}
+use Rattle.recorded.specs.Names.{LoadEventFault, LoadFault}
 use Rattle.recorded.specs.declared.outputs.LoadFault.TheVariants as load
 use Rattle.reporter_state.specs.declared.decider.OutputLoadDecider.{OutputLoadDecider}
-use Rattle.scene_events.specs.declared.scene.event.SceneEvent.{SceneEvent}
+use Rattle.scene_text.specs.Names.{SceneEvent, LineFault, ReadFault, PlacedOutput, ConfigLine, EventLine, IsNextFault, LeavesLines, LinesBefore, NoEvent, ParsedLine, ParsedLines, ReadsLines}
+use Rattle.scene_text.specs.Names.{RecordedLine, RunLine, before_next, event_line, event_lines, is_begun, line_here, line_read, lines_after, lines_before, lines_with, parsed_lines, recorded_line}
+use Rattle.scene_text.specs.Names.{unread_line, with_line, with_made, LinesRead}
 use Rattle.scene_events.specs.declared.scene.event.SceneEvent.TheVariants as scene
-use Rattle.scene_fields.specs.declared.fault.LineFault.{LineFault}
 use Rattle.scene_fields.specs.declared.fault.LineFault.TheVariants as wrong
-use Rattle.scene_fields.specs.declared.fault.ReadFault.{ReadFault}
 use Rattle.scene_fields.specs.declared.fault.ReadFault.TheVariants as fault
-use Rattle.scene_fields.specs.declared.stored.PlacedOutput.{PlacedOutput}
 use Rattle.scene_text.proofs.lemmas.Tellings.{begun_behind}
-use Rattle.scene_text.specs.SceneTexts.{ConfigLine, EventLine, IsNextFault, LeavesLines, LinesBefore, NoEvent, ParsedLine, ParsedLines, ReadsLines, RecordedLine, RunLine, before_next, event_line, event_lines, is_begun, line_here, line_read, lines_after, lines_before, lines_with, parsed_lines, recorded_line, unread_line, with_line, with_made}
-use Rattle.scene_text.specs.declared.reader.LinesRead.{LinesRead}
 use Rattle.scenes.proofs.lemmas.ReadLines.{grown}
-use Rattle.scenes.specs.Reports.{decider_for}
 
 -- what holds of the error that a fault was made of
 pub at_error : {T : Type 0} (r : Result T Fault) (made : ReadFault) (Q : Fault → Type 0) → IsErrAnd r (λ fault. fault ≡ fault_of_read made) → ((fault : Fault) → fault ≡ fault_of_read made → Q fault) → IfErr r Q

@@ -6,13 +6,8 @@ use Rattle.std.specs.Option.{option_flatten}
 use Rattle.std.proofs.lemmas.Bool.{and_right, cases_Bool}
 use Rattle.std.proofs.lemmas.Bool.Decides.{nat_tests}
 use Rattle.uuid.specs.Text.{by_index, digits_of, is_hex_digit, parsed, parsed_hyphenated, parsed_simple}
-use Rattle.scene_fields.specs.Counts.{in_turn, skips_in, stats_in}
-use Rattle.scene_fields.specs.Numbers.{code_in, nanos_in, number_in}
-use Rattle.scene_fields.specs.References.{after_mark, mark, reference_in}
-use Rattle.scene_fields.specs.Results.{result_in}
-use Rattle.scene_fields.specs.Split.{cut, split_on}
-use Rattle.scene_fields.specs.Values.{stress_in}
-use Rattle.scene_text.specs.Parts.{highlight_in, moment_in, progress_in, result_or_none_in, state_in}
+use Rattle.scene_text.specs.Names.{in_turn, skips_in, stats_in, code_in, nanos_in, number_in, after_mark, mark, reference_in, result_in, cut, split_on, stress_in, highlight_in, moment_in, progress_in}
+use Rattle.scene_text.specs.Names.{result_or_none_in, state_in}
 
 -- what a reference begins with
 begins : (t : List ℕ) → starts_with nat_eq t mark ≡ true → t ≡ 92 ∷ 64 ∷ drop 2 t

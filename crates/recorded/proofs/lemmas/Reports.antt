@@ -2,32 +2,18 @@
 use Rattle.std.proofs.Common.{◌≡◌, ℕ, ◌^◌, ◌-◌, ◌≤◌, List, [], ◌∷◌, map, reverse, Option, Result, Ok, Err, IfOk, OnOk, refl, sym, ap, ◌∙◌, subst, arith, inl, inr}
 use Rattle.std.specs.Io.KnownBytes.{Appends}
 use Rattle.std.specs.List.{AllZip}
-use Rattle.command_line.specs.declared.args.Options.{Options}
-use Rattle.command_line.specs.declared.fault.Fault.{Fault}
+use Rattle.scenes.specs.Names.{Options, Fault, PrintsFollowed, device, run_outcome, OfLines, OfText, configuration_for, report_of, stored_of, decider_for, RunOutcome}
 use Rattle.console_reporter.proofs.lemmas.Earlier.{call_of_last, calls_of_last, isolated_last}
 use Rattle.console_reporter.proofs.lemmas.Isolation.{isolated}
 use Rattle.recorded.proofs.lemmas.EarlierOutputs.{loaded_call, outcome_last, shown_call}
 use Rattle.recorded.proofs.lemmas.Skipped.{skipped_call}
-use Rattle.recorded.specs.Outputs.{counted}
-use Rattle.recorded.specs.Runs.{line_replayed, lines_inline, lines_replayed, needed, ended_lines}
-use Rattle.recorded.specs.Source.{IsLeft}
-use Rattle.recorded.specs.SpelledOut.{AreBytes, scene_spelled}
+use Rattle.recorded.specs.Names.{counted, line_replayed, lines_inline, lines_replayed, needed, ended_lines, IsLeft, AreBytes, scene_spelled}
 use Rattle.recorded.proofs.lemmas.SpelledLines.{scene_law}
 use Rattle.recorded.proofs.lemmas.Inline.{AreInline, IsInline, go_on}
-use Rattle.reporter_state.specs.Refusals.{first_refused}
-use Rattle.reporter_state.specs.Unread.{unread}
-use Rattle.reporter_state.specs.declared.decider.OutputLoadDecider.{OutputLoadDecider}
+use Rattle.reporter_state.specs.Names.{first_refused, unread, OutputLoadDecider}
 use Rattle.run_model.specs.declared.call.ReportCall.{ReportCall}
-use Rattle.scene_events.specs.Scenes.{IsCallOf}
-use Rattle.scene_events.specs.declared.scene.SceneConfig.{SceneConfig}
-use Rattle.scene_events.specs.declared.scene.event.SceneEvent.{SceneEvent}
+use Rattle.scene_text.specs.Names.{IsCallOf, SceneConfig, SceneEvent, ParsedLines, RunLine, lines_before, no_lines}
 use Rattle.scene_text.proofs.lemmas.Tellings.{all_tell, all_told}
-use Rattle.scene_text.specs.SceneTexts.{ParsedLines, RunLine, lines_before, no_lines}
-use Rattle.scenes.specs.Prints.{PrintsFollowed, device}
-use Rattle.scenes.specs.Outcomes.{run_outcome}
-use Rattle.scenes.specs.ParsedScenes.{OfLines, OfText}
-use Rattle.scenes.specs.Reports.{configuration_for, report_of, stored_of, decider_for}
-use Rattle.scenes.specs.declared.outcome.RunOutcome.{RunOutcome}
 use Rattle.scenes.proofs.lemmas.ReadyCalls.{outcome_unread}
 
 -- a call of an event with every output in its place, which is shown as a call of the event that is replayed

@@ -2,22 +2,13 @@
 -- text whose outputs are spelled out.
 use Rattle.std.proofs.Common.{◌≡◌, ℕ, List, [], ◌∷◌, ◌++◌, codes, true, false, refl, None, Some, Ok, Err}
 use Rattle.hex.proofs.OnLiterals.{hex_on_literals}
-use Rattle.run_model.specs.Attempts.{attempt_with_output}
-use Rattle.run_model.specs.Statuses.{is_success}
+use Rattle.run_model.specs.Names.{attempt_with_output, is_success}
 use Rattle.run_model.specs.declared.output.ChildOutputDescription.TheVariants as captured
-use Rattle.recorded.specs.Captured.{captured_at, counted_output}
-use Rattle.recorded.specs.Events.{event_replayed, outputs_len}
-use Rattle.recorded.specs.Outputs.{stream_at}
-use Rattle.recorded.specs.SpelledOut.{line_spelled, scene_spelled, tabbed}
+use Rattle.recorded.specs.Names.{captured_at, counted_output, event_replayed, outputs_len, stream_at, line_spelled, scene_spelled, tabbed}
 use Rattle.reporter_state.specs.declared.decider.OutputLoadDecider.{OutputLoadDecider}
 use Rattle.scene_events.specs.declared.scene.event.SceneEvent.TheVariants as scene
-use Rattle.scene_events.specs.declared.scene.unit_events.SetupFinish.{SetupFinish}
-use Rattle.scene_fields.specs.Numbers.{number_in}
-use Rattle.scene_fields.specs.References.{after_mark, reference_in, sum_in, sum_of}
-use Rattle.scene_fields.specs.Split.{cut, split_on}
+use Rattle.scene_text.specs.Names.{SetupFinish, number_in, after_mark, reference_in, sum_in, sum_of, cut, split_on, Reference, PlacedOutput}
 use Rattle.scene_fields.specs.declared.fault.LineFault.TheVariants.{BadField}
-use Rattle.scene_fields.specs.declared.reference.Reference.{Reference}
-use Rattle.scene_fields.specs.declared.stored.PlacedOutput.{PlacedOutput}
 use Rattle.scene_fields.specs.declared.stored.StoredOutput.TheVariants.{Split, Combined}
 use Rattle.scene_fields.specs.declared.stored.StoredStream.TheVariants.{NotCaptured, Empty, At}
 

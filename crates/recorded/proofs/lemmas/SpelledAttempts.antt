@@ -6,19 +6,11 @@ use Rattle.std.proofs.lemmas.Bool.Decides.{nat_tests}
 use Rattle.std.proofs.lemmas.List.{length-append, length-map}
 use Rattle.recorded.proofs.lemmas.SpelledOutputs.{attempt_loads, attempt_reads}
 use Rattle.recorded.proofs.lemmas.SpelledPlaces.{Change, Follows, HasNoted, HasOutput, Reads, Same, bind_follows, checked_reads, place_spelled, says_spells, with_put}
-use Rattle.recorded.specs.Events.{output_inline}
-use Rattle.recorded.specs.SpelledOut.{AreBytes}
-use Rattle.run_model.specs.Attempts.{Attempt, Attempts, attempt_with_output}
-use Rattle.run_model.specs.declared.output.ChildOutputDescription.{ChildOutputDescription}
-use Rattle.run_model.specs.declared.output.LiveSpec.{LiveSpec}
-use Rattle.run_model.specs.declared.status.FlakyResult.{FlakyResult}
-use Rattle.scene_events.specs.Loads.{attempts_with}
-use Rattle.scene_fields.specs.Fields.{Noted, Place, none_noted, noted_outputs, with_noted}
-use Rattle.scene_fields.specs.Stored.{placed}
+use Rattle.recorded.specs.Names.{output_inline, AreBytes}
+use Rattle.run_model.specs.Names.{Attempt, Attempts, attempt_with_output, ChildOutputDescription, LiveSpec, FlakyResult}
+use Rattle.scene_text.specs.Names.{attempts_with, Noted, Place, none_noted, noted_outputs, with_noted, placed, PlacedOutput, StoredOutput, all_attempts, attempt_fields, attempt_number, attempts_from}
+use Rattle.scene_text.specs.Names.{retry_numbered}
 use Rattle.scene_fields.specs.declared.fault.LineFault.TheVariants.{WrongNumberOfFields}
-use Rattle.scene_fields.specs.declared.stored.PlacedOutput.{PlacedOutput}
-use Rattle.scene_fields.specs.declared.stored.StoredOutput.{StoredOutput}
-use Rattle.scene_text.specs.EventLines.{all_attempts, attempt_fields, attempt_number, attempts_from, retry_numbered}
 
 abbrev pub TestAttempts : Type 0
 TestAttempts = Attempts LiveSpec ChildOutputDescription

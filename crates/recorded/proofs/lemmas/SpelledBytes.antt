@@ -9,13 +9,8 @@ use Rattle.std.proofs.lemmas.Bool.{agree_below_at, and_parts, eqb-true}
 use Rattle.std.proofs.lemmas.Bool.Decides.{nat_tests}
 use Rattle.std.proofs.lemmas.Str.{IsUtf8-from_ascii}
 use Rattle.hex.specs.Hex.{lower_digits}
-use Rattle.recorded.specs.Outputs.{bytes_at}
-use Rattle.recorded.specs.SpelledOut.{AreBytes, bytes_spelled, field_spelled}
-use Rattle.scene_fields.specs.References.{reference_in}
-use Rattle.scene_fields.specs.Split.{Lacks}
-use Rattle.scene_fields.specs.Texts.{bytes_in, hex_escape, unescaped_after}
-use Rattle.scene_fields.specs.declared.reference.Reference.{Reference}
-use Rattle.scene_text.specs.EventLines.{stream_in}
+use Rattle.recorded.specs.Names.{bytes_at, AreBytes, bytes_spelled, field_spelled}
+use Rattle.scene_text.specs.Names.{reference_in, Lacks, bytes_in, hex_escape, unescaped_after, Reference, stream_in}
 
 -- the digit at a place
 abbrev digit : ℕ → ℕ

@@ -9,37 +9,16 @@ use Rattle.recorded.proofs.lemmas.SpelledAttempts.{TestAttempts, attempts_inline
 use Rattle.recorded.proofs.lemmas.SpelledOutputs.{attempt_loads, attempt_reads, output_loads, output_reads}
 use Rattle.recorded.proofs.lemmas.SpelledPlaces.{Change, Follows, HasNoted, HasOutput, Read, Reads, Refused, RowsRead, Same, by_row_reads, either_reads, exactly_reads, fields_read, if_reads, made_reads, next_reads, next_unmarked, output_made_reads, place_spelled, then_spells, turned_follows, with_attempts_reads, with_put}
 use Rattle.recorded.proofs.lemmas.SpelledTexts.{line_fields, line_passed_over, line_utf8, passed_over_line, lines_of_scene}
-use Rattle.recorded.specs.Events.{event_inline, output_inline}
-use Rattle.recorded.specs.Runs.{ended_lines, line_inline, lines_inline}
-use Rattle.recorded.specs.SpelledOut.{AreBytes, line_spelled, scene_spelled}
-use Rattle.run_model.specs.Attempts.{Attempt}
-use Rattle.run_model.specs.declared.info.UnitState.{UnitState}
-use Rattle.run_model.specs.declared.output.ChildOutputDescription.{ChildOutputDescription}
-use Rattle.run_model.specs.declared.status.ExecutionResultDescription.{ExecutionResultDescription}
-use Rattle.run_model.specs.declared.stats.RunStats.{RunStats}
-use Rattle.run_model.specs.declared.status.FlakyResult.{FlakyResult}
-use Rattle.run_model.specs.declared.status.RetryData.{RetryData}
-use Rattle.run_names.specs.declared.config.TestOutputDisplay.{TestOutputDisplay}
-use Rattle.scene_events.specs.Loads.{answer_with, attempts_with, event_with}
-use Rattle.scene_events.specs.SceneOutputs.{written}
-use Rattle.scene_events.specs.declared.scene.SceneConfig.{SceneConfig}
-use Rattle.scene_events.specs.declared.scene.event.SceneEvent.{SceneEvent}
+use Rattle.recorded.specs.Names.{event_inline, output_inline, ended_lines, line_inline, lines_inline, AreBytes, line_spelled, scene_spelled}
+use Rattle.run_model.specs.Names.{Attempt, UnitState, ChildOutputDescription, ExecutionResultDescription, RunStats, FlakyResult, RetryData, TestOutputDisplay}
+use Rattle.scene_text.specs.Names.{answer_with, attempts_with, event_with, written, SceneConfig, SceneEvent, SceneOutput, SceneTest, UnitAnswer, ◌>>=◌, Line, Place, exactly, none_noted, noted_outputs}
+use Rattle.scene_text.specs.Names.{says, split_on, LineFault, unescaped_after, PlacedOutput, StoredOutput, ConfigKey, placed, all_attempts, attempt_fields, answer_fields, config_line_fields}
+use Rattle.scene_text.specs.Names.{event_line_fields, event_rows, made, other_event_rows, retry_fields, run_event_rows, script_fields, set_field, state_fields, test_fields, unique_prefix_fields}
+use Rattle.scene_text.specs.Names.{unknown, AllRead, ConfigLine, EventLine, LinesBefore, NoEvent, ParsedLine, ParsedLines, config_words, is_passed_over, line_from, line_place, line_read, line_words}
+use Rattle.scene_text.specs.Names.{lines_before, lines_read, lines_with, no_lines, parsed_line, plain_line, recorded_line, text_lines, with_made, words_behind}
 use Rattle.scene_events.specs.declared.scene.event.SceneEvent.TheVariants as event
-use Rattle.scene_events.specs.declared.scene.outputs.SceneOutput.{SceneOutput}
-use Rattle.scene_events.specs.declared.scene.unit_events.SceneTest.{SceneTest}
-use Rattle.scene_events.specs.declared.scene.unit_events.UnitAnswer.{UnitAnswer}
-use Rattle.scene_fields.specs.Fields.{◌>>=◌, Line, Place, exactly, none_noted, noted_outputs, says}
-use Rattle.scene_fields.specs.Split.{split_on}
-use Rattle.scene_fields.specs.declared.fault.LineFault.{LineFault}
-use Rattle.scene_fields.specs.Texts.{unescaped_after}
-use Rattle.scene_fields.specs.declared.stored.PlacedOutput.{PlacedOutput}
-use Rattle.scene_fields.specs.declared.stored.StoredOutput.{StoredOutput}
-use Rattle.scene_fields.specs.declared.values.ConfigKey.{ConfigKey}
 use Rattle.scene_fields.specs.declared.values.ConfigKey.TheVariants as key
-use Rattle.scene_fields.specs.Stored.{placed}
-use Rattle.scene_text.specs.EventLines.{all_attempts, attempt_fields, answer_fields, config_line_fields, event_line_fields, event_rows, made, other_event_rows, retry_fields, run_event_rows, script_fields, set_field, state_fields, test_fields, unique_prefix_fields, unknown}
 use Rattle.scene_text.proofs.lemmas.Tellings.{all_tell, all_told}
-use Rattle.scene_text.specs.SceneTexts.{AllRead, ConfigLine, EventLine, LinesBefore, NoEvent, ParsedLine, ParsedLines, config_words, is_passed_over, line_from, line_place, line_read, line_words, lines_before, lines_read, lines_with, no_lines, parsed_line, plain_line, recorded_line, text_lines, with_made, words_behind}
 
 -- the values of all kinds of field
 ruleset values = (marked_number, marked_nanos, marked_run_id, marked_stress, marked_iteration, marked_stats, marked_skips, marked_result_or_none, marked_state, marked_progress, marked_moment)

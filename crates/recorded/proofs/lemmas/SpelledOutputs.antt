@@ -6,27 +6,14 @@ use Rattle.std.proofs.lemmas.Slice.Eq.{bytes_eq-Decides}
 use Rattle.recorded.proofs.lemmas.MarkedFields.{marked_highlight, marked_nanos, marked_result}
 use Rattle.recorded.proofs.lemmas.SpelledBytes.{bytes_at_bytes, bytes_read_back, stream_read_back}
 use Rattle.recorded.proofs.lemmas.SpelledPlaces.{Becomes, Follows, HasOutput, Reads, Same, Spells, by_row_reads, field_reads, fields_read, next_reads, output_made_reads, then_spells, turned_follows, valued_reads}
-use Rattle.recorded.specs.Events.{output_inline, stream_inline}
-use Rattle.recorded.specs.Outputs.{bytes_at}
-use Rattle.recorded.specs.SpelledOut.{AreBytes, field_spelled}
-use Rattle.run_model.specs.Attempts.{Attempt, attempt_with_output}
-use Rattle.run_model.specs.declared.output.ChildOutputDescription.{ChildOutputDescription}
+use Rattle.recorded.specs.Names.{output_inline, stream_inline, bytes_at, AreBytes, field_spelled}
+use Rattle.run_model.specs.Names.{Attempt, attempt_with_output, ChildOutputDescription, ExecutionResultDescription, RetryData, Nanos}
 use Rattle.run_model.specs.declared.output.ChildOutputDescription.TheVariants as streams
-use Rattle.run_model.specs.declared.status.ExecutionResultDescription.{ExecutionResultDescription}
-use Rattle.run_model.specs.declared.status.RetryData.{RetryData}
-use Rattle.run_names.specs.declared.time.Nanos.{Nanos}
-use Rattle.scene_events.specs.SceneOutputs.{loaded, written}
-use Rattle.scene_events.specs.declared.scene.outputs.SceneOutput.{SceneOutput}
-use Rattle.scene_fields.specs.Fields.{Line, Noted, next_stored, stored_among, valued, with_noted}
-use Rattle.scene_fields.specs.References.{after_mark, reference_in}
-use Rattle.scene_fields.specs.Stored.{is_reference, stored_output_in, stored_split, stored_stream_in}
-use Rattle.scene_fields.specs.Texts.{unescaped_after}
-use Rattle.scene_fields.specs.declared.reference.Reference.{Reference}
-use Rattle.scene_fields.specs.declared.stored.StoredOutput.{StoredOutput}
+use Rattle.scene_text.specs.Names.{loaded, written, SceneOutput, Line, Noted, next_stored, stored_among, valued, with_noted, after_mark, reference_in, is_reference, stored_output_in, stored_split}
+use Rattle.scene_text.specs.Names.{stored_stream_in, unescaped_after, Reference, StoredOutput, StoredStream, after_streams, attempt_fields, by_row, combined_fields, output_fields, output_fields_of}
+use Rattle.scene_text.specs.Names.{spelled_output_fields, split_fields, start_error_fields, stored_output_fields, stream_in, unloaded_fields}
 use Rattle.scene_fields.specs.declared.stored.StoredOutput.TheVariants.{Split, Combined}
-use Rattle.scene_fields.specs.declared.stored.StoredStream.{StoredStream}
 use Rattle.scene_fields.specs.declared.stored.StoredStream.TheVariants.{At}
-use Rattle.scene_text.specs.EventLines.{after_streams, attempt_fields, by_row, combined_fields, output_fields, output_fields_of, spelled_output_fields, split_fields, start_error_fields, stored_output_fields, stream_in, unloaded_fields}
 
 -- these words stay as they are
 words_kept : (all : List ℕ) →

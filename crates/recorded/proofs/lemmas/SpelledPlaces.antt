@@ -2,16 +2,11 @@
 use Rattle.std.proofs.Common.{◌≡◌, ℕ, ◌+◌, ◌%◌, Bool, true, false, List, [], ◌∷◌, map, length, Option, None, Some, Result, Ok, Err, refl, ap, ◌∙◌, ◌==◌, ◌&&◌, if◌then◌else◌, bytes_eq, drop, inl, inr, subst}
 use Rattle.std.specs.Prelude.{nat_le, ⊤}
 use Rattle.std.proofs.lemmas.List.{length-map}
-use Rattle.scene_fields.specs.Fields.{◌>>=◌, Line, Noted, Place, exactly, field, goes_on, next, none_noted, noted_outputs, says, taken, valued, with_attempts, with_noted}
-use Rattle.scene_fields.specs.References.{reference_in}
-use Rattle.scene_fields.specs.declared.fault.LineFault.{LineFault}
+use Rattle.scene_text.specs.Names.{◌>>=◌, Line, Noted, Place, exactly, field, goes_on, next, none_noted, noted_outputs, says, taken, valued, with_attempts, with_noted, reference_in, LineFault}
+use Rattle.scene_text.specs.Names.{PlacedOutput, StoredOutput, by_row}
 use Rattle.scene_fields.specs.declared.fault.LineFault.TheVariants.{WrongNumberOfFields}
-use Rattle.scene_fields.specs.declared.stored.PlacedOutput.{PlacedOutput}
-use Rattle.scene_fields.specs.declared.stored.StoredOutput.{StoredOutput}
-use Rattle.scene_text.specs.EventLines.{by_row}
 use Rattle.recorded.proofs.lemmas.MarkedFields.{MarkedIsNone, marked}
-use Rattle.recorded.specs.Events.{output_inline}
-use Rattle.recorded.specs.SpelledOut.{field_spelled}
+use Rattle.recorded.specs.Names.{output_inline, field_spelled}
 use Rattle.run_model.specs.declared.output.ChildOutputDescription.{ChildOutputDescription}
 
 -- a place in the line as it is spelled out, where nothing is noted

@@ -3,12 +3,9 @@ use Rattle.std.proofs.Common.{◌≡◌, ◌≢◌, ℕ, ◌<◌, ◌≤◌, ◌
 use Rattle.std.specs.Result.{IsErrAnd}
 use Rattle.std.proofs.lemmas.Bool.Decides.{nat_tests}
 use Rattle.std.proofs.lemmas.Slice.Eq.{bytes_eq-Decides}
-use Rattle.scene_fields.specs.declared.reference.Reference.{Reference}
-use Rattle.recorded.specs.Outputs.{IsLoaded, bytes_at, stream_at}
-use Rattle.recorded.specs.declared.outputs.LoadFault.{LoadFault}
+use Rattle.scene_text.specs.Names.{Reference, end_of, sum_of}
+use Rattle.recorded.specs.Names.{IsLoaded, bytes_at, stream_at, LoadFault, HasRead}
 use Rattle.recorded.specs.declared.outputs.LoadFault.TheVariants.{OutOfMemory}
-use Rattle.recorded.specs.ReadAt.{HasRead}
-use Rattle.scene_fields.specs.References.{end_of, sum_of}
 
 -- where known bytes do not hold a reference
 pub not_there : (known : Option (List ℕ)) (r : Reference) (holds : Bool) → holds ≡ false → IfSome known (λ all. IsTrue holds ↔ (end_of r ≤ length all)) → IfSome known (λ all. (length all < end_of r) × (stream_at all r ≡ None))

@@ -1,15 +1,10 @@
 -- Output that is put into an event is gone once it is left unread, and nothing else has changed.
 use Rattle.std.proofs.Common.{◌≡◌, ℕ, zero, suc, List, [], ◌∷◌, map, refl, ap, sym, ◌∙◌}
 use native.Mathlib.Omega.{arith}
-use Rattle.run_model.specs.Attempts.{Attempt, Attempts, Written, attempt_with_output, execution_with_output}
-use Rattle.run_model.specs.Statuses.{summary_of}
-use Rattle.run_model.specs.Unloaded.{unloaded_attempt, unloaded_attempts, unloaded_output, unloaded_script}
-use Rattle.run_model.specs.declared.output.ChildOutputDescription.{ChildOutputDescription}
-use Rattle.run_model.specs.declared.output.LiveSpec.{LiveSpec}
+use Rattle.run_model.specs.Names.{Attempt, Attempts, Written, attempt_with_output, execution_with_output, summary_of, unloaded_attempt, unloaded_attempts, unloaded_output, unloaded_script}
+use Rattle.run_model.specs.Names.{ChildOutputDescription, LiveSpec}
 use Rattle.console_reporter.proofs.lemmas.Isolation.{unloaded-summary}
-use Rattle.scene_events.specs.SceneOutputs.{with_output_at}
-use Rattle.scene_events.specs.Loads.{attempts_with}
-use Rattle.scene_events.specs.SceneAttempts.{script_status}
+use Rattle.scene_text.specs.Names.{with_output_at, attempts_with, script_status}
 
 unloaded-execution : (o : Written) (captured : ChildOutputDescription) → unloaded_output (execution_with_output o captured) ≡ unloaded_output o
 unloaded-execution o captured = grind arith

@@ -7,8 +7,7 @@ use Rattle.std.proofs.lemmas.List.{drop-append-le, drop_all}
 use Rattle.memchr.specs.Find.{IsFirstByte, is_byte}
 use Rattle.scene_fields.specs.Split.{Lacks, split_on}
 use Rattle.scene_fields.proofs.lemmas.Cuts.{Lacks-from_each, cut_at, split_on-lacks, split_on-parts}
-use Rattle.recorded.specs.NextLines.{IsNextLine, TakesOf}
-use Rattle.recorded.specs.Runs.{ended_lines, without_last}
+use Rattle.recorded.specs.Names.{IsNextLine, TakesOf, ended_lines, without_last}
 use Rattle.recorded.specs.declared.lines.Taken.TheVariants as taken
 
 -- a byte is in none of these texts

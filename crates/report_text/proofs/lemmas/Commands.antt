@@ -1,12 +1,11 @@
 -- Words one after the other (for `write_shell_command`, `write_words_after`).
 use Rattle.std.proofs.Common.{◌≡◌, ℕ, ◌+◌, ◌<◌, List, [], ◌∷◌, ◌++◌, length, get_or, drop, map, codes, refl, ap, ◌∙◌}
-use Rattle.std.specs.List.{flat_map}
+use Rattle.styled_text.specs.Names.{flat_map, Text}
 use Rattle.std.proofs.lemmas.List.{drop_more}
 use Rattle.report_text.specs.Quoting.{shell_word, shell_words}
-use Rattle.plain_text.specs.Texts.{Text}
 
 module _ {W : Type 0} (text : W → Text) where
-  -- what is written of each word after a separator
+  -- a word after a separator
   abbrev pub word_after : Text → W → Text
   word_after separator word = separator ++ shell_word (text word)
 

@@ -1,19 +1,14 @@
 -- A test's iteration, counter and names, and a setup script's, in colour and plain.
 use Rattle.std.proofs.Common.{◌≡◌, ℕ, ◌+◌, Bool, true, false, Option, None, Some, refl, encode_utf8}
 use Rattle.run_names.specs.Names.{last_colons}
-use Rattle.run_names.specs.declared.name.TestInstanceId.{TestInstanceId}
-use Rattle.run_names.specs.declared.stress.StressIndex.{StressIndex}
-use Rattle.plain_text.specs.Texts.{Text}
-use Rattle.plain_text.specs.Escapes.{HasNoEscape}
+use Rattle.run_model.specs.Names.{TestInstanceId, StressIndex}
+use Rattle.styled_text.specs.Names.{Text, HasNoEscape, part_texts, list_styles_of, Style}
 use Rattle.report_text.specs.Instance.{HasPlainCounter, test_name_text, stress_parts, stress_text, stress_prefix, counter_text, counter_prefix, test_text, script_text, instance_text}
-use Rattle.report_words.specs.PlainTexts.{IsPlainInstance}
-use Rattle.plain_text.specs.Style.{part_texts, list_styles_of}
+use Rattle.report_words.specs.Names.{IsPlainInstance, IsColourPair}
 use Rattle.report_text.specs.declared.helpers.instance.DisplayCounterIndex.{DisplayCounterIndex}
 use Rattle.report_text.specs.declared.helpers.instance.DisplayCounterIndex.TheVariants.{Counter, Padded}
-use Rattle.plain_text.specs.declared.style.Style.{Style}
-use Rattle.plain_text.specs.declared.style.Style.TheVariants as style
-use Rattle.plain_text.proofs.lemmas.Closed.{char_free, repeat_free}
-use Rattle.report_words.specs.InColour.{IsColourPair}
+use Rattle.styled_text.specs.declared.style.Style.TheVariants as style
+use Rattle.styled_text.proofs.lemmas.Closed.{char_free, repeat_free}
 use Rattle.report_words.proofs.lemmas.ColourPairs.{colour_pair-none, colour_pair-free, colour_pairs}
 
 colour_pair-name_at : (k : Bool) (name : Text) (place : Option ℕ) → HasNoEscape name → place ≡ last_colons name → IsColourPair k (test_name_text (list_styles_of true) name) (test_name_text (list_styles_of false) name)

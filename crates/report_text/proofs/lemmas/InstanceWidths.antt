@@ -1,27 +1,14 @@
 -- A test that is cut to a greatest width, whose words have no escape characters (for `write_within`).
 use Rattle.std.proofs.Common.{◌≡◌, ℕ, ◌+◌, [], ◌∷◌, ◌++◌, refl, sym, Option, None, Some, codes, length, take, drop, take-append-drop, encode_utf8, subst, arith, ◌-◌, ◌<◌, ◌^◌, true, false, Result}
-use Rattle.std.specs.Fmt.{decimal}
-use Rattle.std.specs.List.{repeat}
-use Rattle.std.specs.Option.{option_map, option_map_or}
-use Rattle.std.specs.Str.{IsUtf8}
-use Rattle.std.specs.Int.NonZero.{non_zero_u32_get}
-use Rattle.std.specs.declared.num.NonZeroU32.{NonZeroU32}
+use Rattle.styled_text.specs.Names.{decimal, repeat, option_map, option_map_or, IsUtf8, non_zero_u32_get, NonZeroU32, Text, right_in, HasNoEscape, saturated, FitsWidth, IsPainted, ArePainted, columns}
+use Rattle.styled_text.specs.Names.{shrunk, shrunk_parts, Meaning, WriterLaws, Puts, WriteFault, Plain, Styled, part_texts, Style, ListStyles}
 use Rattle.run_names.specs.Names.{last_colons}
 use Rattle.run_names.specs.declared.stress.StressIndex.{StressIndex}
-use Rattle.plain_text.specs.Texts.{Text, right_in}
-use Rattle.plain_text.specs.Escapes.{HasNoEscape}
-use Rattle.plain_text.specs.ColumnCounter.{saturated}
-use Rattle.plain_text.specs.Fitting.{FitsWidth, IsPainted, ArePainted, columns, shrunk, shrunk_parts}
-use Rattle.writers.specs.Writer.{Meaning, WriterLaws, Puts}
-use Rattle.writers.specs.declared.write_str.WriteFault.{WriteFault}
 use Rattle.writers.proofs.lemmas.Steps.{puts_then}
-use Rattle.plain_text.specs.Style.{Plain, Styled, part_texts}
 use Rattle.report_text.specs.Instance.{stress_parts, stress_text, stress_prefix, counter_text, counter_prefix, id_prefix, name_parts, test_name_text, HasPlainCounter, HasPlainWords}
-use Rattle.plain_text.proofs.lemmas.Closed.{IsClosedText, closed-append, closed-free, closed-none, paint_closed, decimal_free, right_free, char_free, repeat_free}
-use Rattle.plain_text.proofs.lemmas.Widths.{free_front, free_back, parts-columns, parts-sequences}
-use Rattle.plain_text.specs.declared.style.Style.{Style}
-use Rattle.plain_text.specs.declared.style.Style.TheVariants as style
-use Rattle.plain_text.specs.declared.style.ListStyles.{ListStyles}
+use Rattle.styled_text.proofs.lemmas.Closed.{IsClosedText, closed-append, closed-free, closed-none, paint_closed, decimal_free, right_free, char_free, repeat_free}
+use Rattle.styled_text.proofs.lemmas.Widths.{free_front, free_back, parts-columns, parts-sequences}
+use Rattle.styled_text.specs.declared.style.Style.TheVariants as style
 use Rattle.report_text.specs.declared.helpers.instance.DisplayCounterIndex.{DisplayCounterIndex}
 use Rattle.report_text.specs.declared.helpers.instance.DisplayCounterIndex.TheVariants.{Counter, Padded}
 
@@ -80,11 +67,11 @@ fits_width width count_style id_style s stress counter id name a b c d h =
       complete = parts-sequences (stress_prefix count_style stress ∷ counter_prefix counter ∷ id_prefix id_style id ∷ []) (test_name_text s name) width fronts last;
     }
 
--- what is left of a room by a width that was counted
+-- the room that a counted width leaves
 room_left : (room left counted columns : ℕ) → room < 2 ^ 127 → counted ≡ saturated columns → left ≡ room - counted → left ≡ room - columns
 room_left room left counted columns h k e = omega arith
 
--- the four parts in turn
+-- the four parts in sequence
 pub parts_put : {W : Type 0} {m : Meaning W} (laws : WriterLaws m) (w₀ w₁ w₂ w₃ w₄ : W) (r : Result (Unit {0}) WriteFault) (a b d name : Text) (width r₁ r₂ r₃ ka kb kd : ℕ) → width < 2 ^ 64
     → ka ≡ saturated (columns a) → kb ≡ saturated (columns b) → kd ≡ saturated (columns d) → r₁ ≡ width - ka → r₂ ≡ r₁ - kb → r₃ ≡ r₂ - kd
     → m.accepts w₀ (shrunk false a width) w₁ → m.accepts w₁ (shrunk false b r₁) w₂ → m.accepts w₂ (shrunk false d r₂) w₃ → Puts m w₃ (shrunk true name r₃) r w₄ → Puts m w₀ (shrunk_parts (a ∷ b ∷ d ∷ []) name width) r w₄

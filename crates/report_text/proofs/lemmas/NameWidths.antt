@@ -1,18 +1,12 @@
 -- How wide a test's name can be (for `DisplayTestInstance::write_within`).
 use Rattle.std.proofs.Common.{ℕ, zero, suc, ◌+◌, ◌*◌, ◌<◌, ◌≤◌, ◌^◌, [], ◌∷◌, ◌++◌, arith, length, length-append, length-take, length-drop, Option, None, Some, take, drop, codes, ◌-◌, ◌==◌, inl, inr}
 use Rattle.std.proofs.lemmas.Bool.{cases_Bool}
-use Rattle.std.specs.Str.{chars, chars_after, continuation_len, lead_bits}
-use Rattle.std.specs.Option.{option_map, option_map_or}
+use Rattle.styled_text.specs.Names.{chars, chars_after, continuation_len, lead_bits, option_map, option_map_or, Text, visible, visible_after, sequence_len, columns, part_text, styled, style_prefix}
+use Rattle.styled_text.specs.Names.{style_suffix, Styled, part_texts, Style, ListStyles}
 use Rattle.run_names.specs.Names.{last_colons}
-use Rattle.plain_text.specs.Texts.{Text}
-use Rattle.plain_text.specs.Escapes.{visible, visible_after, sequence_len}
-use Rattle.plain_text.specs.Fitting.{columns}
-use Rattle.plain_text.specs.Style.{part_text, styled, style_prefix, style_suffix, Styled, part_texts}
 use Rattle.report_text.specs.Instance.{name_parts, test_name_text}
-use Rattle.plain_text.specs.declared.style.Style.{Style}
-use Rattle.plain_text.specs.declared.style.Style.TheVariants as style
-use Rattle.plain_text.specs.declared.style.ListStyles.{ListStyles}
-use Rattle.plain_text.proofs.lemmas.Fits.{columns_of-le}
+use Rattle.styled_text.specs.declared.style.Style.TheVariants as style
+use Rattle.styled_text.proofs.lemmas.Fits.{columns_of-le}
 
 visible_after-le : (n : ℕ) (t : Text) → length (visible_after n t) ≤ length t
 unfolding visible_after
@@ -50,7 +44,7 @@ unfolding chars
 chars-le [] = omega arith
 chars-le (b ∷ bs) = omega (arith, chars_after-le (continuation_len b) (lead_bits b) bs)
 
--- three columns a byte at most, whatever the bytes are
+-- at most three columns a byte, whatever the bytes are
 columns-le : (t : Text) → columns t ≤ 3 * length t
 columns-le t = omega (arith, columns_of-le (chars (visible t)), chars-le (visible t), visible_after-le 0 t)
 
@@ -73,6 +67,6 @@ name-le s name = go (last_colons name)
     go None = omega (arith, length-append (part_text (Styled s.test_name name)) [], styled-le s.test_name name)
     go (Some i) = paint-le s.module_path s.test_name (take i name) (drop (i + 2) name) (length name) (omega (arith, length-take i name)) (omega (arith, length-drop (i + 2) name))
 
--- a name in memory is not so wide
+-- a name in memory is not that wide
 pub name_columns : (s : ListStyles) (name : Text) → length name < 2 ^ 64 → columns (test_name_text s name) < 2 ^ 127
 name_columns s name h = omega (arith, columns-le (test_name_text s name), name-le s name)

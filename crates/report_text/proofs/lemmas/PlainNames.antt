@@ -1,15 +1,12 @@
 -- A name without colours is the name as it is (for `write_test_name`).
 use Rattle.std.proofs.Common.{◌≡◌, ℕ, zero, suc, ◌+◌, Bool, true, false, [], ◌∷◌, ◌++◌, Option, None, Some, take, drop, codes, refl, ap, arith, append-nil, inl, inr}
-use Rattle.std.specs.Option.{option_map, option_map_or}
+use Rattle.styled_text.specs.Names.{option_map, option_map_or, part_texts, styled, Text, ListStyles}
 use Rattle.std.proofs.lemmas.Bool.Decides.{eqb_tells}
 use Rattle.run_names.specs.Names.{begins_with_colons, last_colons, place_after}
-use Rattle.plain_text.specs.Style.{part_texts, styled}
-use Rattle.plain_text.specs.Texts.{Text}
-use Rattle.plain_text.specs.declared.style.ListStyles.{ListStyles}
-use Rattle.plain_text.specs.declared.style.Style.TheVariants as style
+use Rattle.styled_text.specs.declared.style.Style.TheVariants as style
 use Rattle.report_text.specs.Instance.{name_parts, test_name_text}
 
--- the first two bytes of a text that begins so
+-- the first two bytes of a text that begins with colons
 two_colons : (t : Text) → begins_with_colons t ≡ true → codes "::" ++ drop 2 t ≡ t
 two_colons [] h = cc
 two_colons (c ∷ []) h = cc
@@ -21,11 +18,11 @@ two_colons (c ∷ d ∷ t) h = elim (eqb_tells c 58) [
   | inr p ↦ (let not : begins_with_colons (c ∷ d ∷ t) ≡ false = rw p.0 refl in cc)
 ]
 
--- the text is what stands before that place, `::` and what stands after them
+-- the text is its part before that index, `::` and its part after them
 abbrev IsRejoined : Text → ℕ → Type 0
 IsRejoined t i = take i t ++ (codes "::" ++ drop (i + 2) t) ≡ t
 
--- one byte more in front of a text in which it holds
+-- one byte more in front of such a text
 rejoined_after : (c : ℕ) (t : Text) (here : Bool) (later : Option ℕ) → begins_with_colons (c ∷ t) ≡ here → ((j : ℕ) → later ≡ Some j → IsRejoined t j)
     → (i : ℕ) → place_after here later ≡ Some i → IsRejoined (c ∷ t) i
 rejoined_after c t here (Some j) p behind zero h = cc
@@ -34,7 +31,7 @@ rejoined_after c t true None p behind zero h = two_colons (c ∷ t) p
 rejoined_after c t true None p behind (suc i) h = cc
 rejoined_after c t false None p behind i h = cc
 
--- it holds at the text's last `::`
+-- the text's last `::` is such an index
 rejoined : (t : Text) (i : ℕ) → last_colons t ≡ Some i → IsRejoined t i
 unfolding last_colons
 rejoined [] i h = cc

@@ -1,17 +1,15 @@
 -- Texts cut at their quotes (for `split_quote`).
 use Rattle.std.proofs.Common.{◌≡◌, ◌≢◌, ℕ, suc, ◌<◌, [], ◌∷◌, ◌++◌, length, get_or, codes, Option, None, Some, MatchOption, IfSome, refl, sym, append-nil, ap, ◌∙◌, arith, append_assoc, length-append, lit<, inl, inr}
-use Rattle.std.specs.Borrow.{Bor}
-use Rattle.std.specs.List.{flat_map}
+use Rattle.styled_text.specs.Names.{Bor, flat_map, Text}
 use Rattle.std.proofs.lemmas.Bool.Decides.{eqb_tells}
 use Rattle.std.proofs.lemmas.Str.Pattern.{split_parts, IsSplitOnceResult}
 use Rattle.report_text.specs.Quoting.{quoted_byte, quoted_text}
-use Rattle.plain_text.specs.Texts.{Text}
 
 -- no byte is a quote
 abbrev HasNoQuote : Text → Type 0
 HasNoQuote t = (i : ℕ) → i < length t → get_or t i 0 ≢ 39
 
--- what has no quote stands as it is, before whatever follows
+-- a text without a quote does not change, before whatever follows
 quoted-front : (t u : Text) → HasNoQuote t → flat_map quoted_byte (t ++ u) ≡ t ++ flat_map quoted_byte u
 quoted-front [] u h = refl
 quoted-front (c ∷ t) u h = elim (eqb_tells c 39) [
@@ -27,7 +25,7 @@ quoted_parts t (Some x) h =
     let p = split_parts 39 t (Some x) h (lit< tt) in
     ap (flat_map quoted_byte) p.0 ∙ quoted-front x.0.now (39 ∷ x.1.now) p.1 ∙ sym (append_assoc x.0.now (codes "'\\''") (flat_map quoted_byte x.1.now))
 
--- what stands after a quote is shorter
+-- the text after a quote is shorter
 pub after_shorter : (t : Text) (r : Option (Bor Text × Bor Text)) → IsSplitOnceResult 39 t r → IfSome r (λ x. length x.1.now < length t)
 after_shorter t None h = tt
 after_shorter t (Some x) h =

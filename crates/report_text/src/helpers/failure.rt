@@ -1,4 +1,4 @@
-//! How a process ended, as a message says it.
+//! How a process ended, in words.
 
 ghost use Rattle.std.specs.Prelude.{◌≡◌, ◌<◌, ◌∷◌, [], IfOk, string_bytes};
 ghost use Rattle.run_names.specs.Names.{optional_text};
@@ -6,10 +6,10 @@ ghost use Rattle.report_text.specs.Failure.{abort_details, abort_text, abort_wor
 ghost use Rattle.writers.specs.Writer.{Puts};
 
 use itoa::Buffer;
-use plain_text::style::{plain, write_parts, write_plain};
 use run_model::abort::{AbortDescription, DescriptionText};
 use run_model::memory::OutOfMemory;
 use std::alloc::Global;
+use styled_text::style::{plain, write_parts, write_plain};
 use writers::write_str::{WriteFault, WriteStr};
 
 /// How a process ended.
@@ -52,7 +52,6 @@ pub fn write_exited_with<W: WriteStr>(w: &mut W, exit: &ExitDescription) -> Resu
     write_exit_details(w, exit)
 }
 
-// What is said first of how a process ended.
 #[tactic(auto, unfolding(crate::specs::Failure::exit_words))]
 fn exit_words(exit: &ExitDescription) -> &'static str
     ensures { result.now ≡ exit_words exit.now }
@@ -64,7 +63,6 @@ fn exit_words(exit: &ExitDescription) -> &'static str
     }
 }
 
-// Writes what is said then: the code, or how the process was ended.
 #[tactic(auto, unfolding(crate::specs::Failure::exit_details))]
 fn write_exit_details<W: WriteStr>(w: &mut W, exit: &ExitDescription) -> Result<(), WriteFault>
     ensures { Puts W.meaning w.old (exit_details exit.now) result w.new }
@@ -113,7 +111,6 @@ pub fn write_abort_status<W: WriteStr>(
     write_abort_details(w, abort)
 }
 
-// What is said first of a process that was ended from outside.
 #[tactic(auto, unfolding(crate::specs::Failure::abort_words))]
 fn abort_words(abort: &AbortDescription) -> &'static str
     ensures { result.now ≡ abort_words abort.now }
@@ -125,7 +122,6 @@ fn abort_words(abort: &AbortDescription) -> &'static str
     }
 }
 
-// Writes what is said then: the signal or the status.
 #[tactic(auto, unfolding(crate::specs::Failure::abort_details))]
 fn write_abort_details<W: WriteStr>(w: &mut W, abort: &AbortDescription) -> Result<(), WriteFault>
     ensures { Puts W.meaning w.old (abort_details abort.now) result w.new }
@@ -144,7 +140,6 @@ fn write_abort_details<W: WriteStr>(w: &mut W, abort: &AbortDescription) -> Resu
     }
 }
 
-// The text, if there is one.
 fn text_of(text: &Option<DescriptionText>) -> Option<&str>
     ensures { optional_text result ≡ text.now }
 {
@@ -154,7 +149,6 @@ fn text_of(text: &Option<DescriptionText>) -> Option<&str>
     }
 }
 
-// Writes the signal's name between parentheses, if it is known.
 #[tactic(auto, unfolding(crate::specs::Failure::signal_name_text))]
 fn write_signal_name<W: WriteStr>(w: &mut W, name: Option<&str>) -> Result<(), WriteFault>
     ensures { Puts W.meaning w.old (signal_name_text (optional_text name.entry)) result w.new }
@@ -165,7 +159,6 @@ fn write_signal_name<W: WriteStr>(w: &mut W, name: Option<&str>) -> Result<(), W
     }
 }
 
-// Writes what the system says of a status, if it is known.
 #[tactic(auto, unfolding(crate::specs::Failure::message_text))]
 fn write_message<W: WriteStr>(w: &mut W, message: Option<&str>) -> Result<(), WriteFault>
     ensures { Puts W.meaning w.old (message_text (optional_text message.entry)) result w.new }
@@ -190,7 +183,6 @@ pub fn write_nt_status<W: WriteStr>(w: &mut W, code: i32) -> Result<(), WriteFau
     write_hex_digits(w, 8, code.cast_unsigned())
 }
 
-// Writes the given number of last digits in base 16.
 #[tactic(auto, unfolding(crate::specs::Failure::last_hex_digits))]
 fn write_hex_digits<W: WriteStr>(w: &mut W, count: usize, n: u32) -> Result<(), WriteFault>
     ensures { Puts W.meaning w.old (last_hex_digits count n) result w.new }
@@ -202,7 +194,6 @@ fn write_hex_digits<W: WriteStr>(w: &mut W, count: usize, n: u32) -> Result<(), 
     w.write_str(hex_digit_str(n % 16))
 }
 
-// The text of a digit in base 16.
 fn hex_digit_str(digit: u32) -> &'static str
     requires { digit < 16 }
     ensures { result.now ≡ hex_digit digit ∷ [] }

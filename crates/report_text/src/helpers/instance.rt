@@ -1,19 +1,17 @@
 //! Tests as a report shows them.
 
 ghost use Rattle.std.specs.Prelude.{◌≡◌, ℕ, None, Some};
-ghost use Rattle.std.specs.Fmt.{DisplaysOnOk, DisplaysStyledOnOk};
-ghost use Rattle.plain_text.specs.Fitting.{FitsWidth};
+ghost use Rattle.styled_text.specs.Names.{DisplaysOnOk, DisplaysStyledOnOk, FitsWidth, Puts};
 ghost use Rattle.report_text.specs.Instance.{HasPlainWords, counter_prefix, counter_text, front_parts, id_prefix, instance_text, test_name_text, shown_instance, stress_prefix, stress_text};
-ghost use Rattle.writers.specs.Writer.{Puts};
 
 use crate::helpers::max_width::{CounterPart, IdPart, StressPart, write_within};
 use itoa::Buffer;
-use plain_text::repeated::write_repeated;
-use plain_text::style::{ListStyles, Style, plain, write_parts, write_plain};
 use run_model::name::{TestCaseName, TestInstanceId};
 use run_model::stress::StressIndex;
 use std::fmt;
 use std::fmt::Formatter;
+use styled_text::repeated::write_repeated;
+use styled_text::style::{ListStyles, Style, plain, write_parts, write_plain};
 use writers::show_written;
 use writers::write_str::{WriteFault, WriteStr};
 
@@ -57,8 +55,8 @@ impl<'a> DisplayTestInstance<'a> {
         }
     }
 
-    /// Shows at most the given number of columns. The iteration, the counter and the binary's id take of them in this order, each
-    /// cut at its end; the name takes what is left, cut at its beginning.
+    /// Shows at most the given number of columns. The iteration, the counter and the binary's id take from them in this order, each
+    /// cut at its end; the name takes the rest, cut at its beginning.
     pub fn with_max_width(mut self, max_width: usize) -> DisplayTestInstance<'a>
         ensures width { result.max_width ≡ Some max_width }
         ensures stress_index { result.stress_index ≡ self.entry.stress_index }
@@ -70,7 +68,7 @@ impl<'a> DisplayTestInstance<'a> {
         self
     }
 
-    /// Writes what it shows.
+    /// Writes the test.
     pub fn write_to<W: WriteStr>(&self, w: &mut W) -> Result<(), WriteFault>
         ensures text { Puts W.meaning w.old (shown_instance self.now.max_width self.now.styles self.now.stress_index self.now.counter_index self.now.instance) result w.new }
         ensures law { (width : ℕ) → self.now.max_width ≡ Some width → HasPlainWords self.now.counter_index self.now.instance.binary_id.now self.now.instance.test_name.now → FitsWidth width (front_parts self.now.styles self.now.stress_index self.now.counter_index self.now.instance.binary_id.now) (test_name_text self.now.styles self.now.instance.test_name.now) }
@@ -81,7 +79,6 @@ impl<'a> DisplayTestInstance<'a> {
         }
     }
 
-    // Writes it cut to the given number of columns.
     fn write_within<W: WriteStr>(&self, w: &mut W, width: usize) -> Result<(), WriteFault>
         ensures text { Puts W.meaning w.old (shown_instance (Some width) self.now.styles self.now.stress_index self.now.counter_index self.now.instance) result w.new }
         ensures law { HasPlainWords self.now.counter_index self.now.instance.binary_id.now self.now.instance.test_name.now → FitsWidth width (front_parts self.now.styles self.now.stress_index self.now.counter_index self.now.instance.binary_id.now) (test_name_text self.now.styles self.now.instance.test_name.now) }
@@ -98,12 +95,11 @@ impl<'a> DisplayTestInstance<'a> {
             binary_id: self.instance.binary_id.as_str(),
         };
         let name = DisplayTestName::new(self.instance.test_name, &self.styles);
-        // The name fits memory, so its columns are far from the greatest number.
+        // The name fits in memory, so its columns are far from the greatest number.
         let _bytes = self.instance.test_name.as_str().len();
         write_within(w, &stress, &counter, &id, &name, width)
     }
 
-    // Writes all of it, however wide it is.
     fn write_whole<W: WriteStr>(&self, w: &mut W) -> Result<(), WriteFault>
         ensures { Puts W.meaning w.old (instance_text self.now.styles self.now.stress_index self.now.counter_index self.now.instance) result w.new }
     {
@@ -144,7 +140,7 @@ pub fn write_test_instance<W: WriteStr>(
 impl fmt::Display for DisplayTestInstance<'_> {
     ghost output = { λ t. Some (shown_instance t.max_width t.styles t.stress_index t.counter_index t.instance) };
 
-    // Where the names have no escape character, what is shown is within the greatest width.
+    // If the names have no escape character, the text is within the greatest width.
     fn fmt<W: fmt::Write>(&self, f: &mut Formatter<W>) -> fmt::Result
         ensures writes { DisplaysOnOk W.write_str_gives f.old result (Some (shown_instance self.now.max_width self.now.styles self.now.stress_index self.now.counter_index self.now.instance)) f.new }
         ensures styled { DisplaysStyledOnOk W.write_str_gives f.old result None f.new }
@@ -154,7 +150,7 @@ impl fmt::Display for DisplayTestInstance<'_> {
     }
 }
 
-/// An iteration of a stress run: its number from 1, and its total where there is one.
+/// An iteration of a stress run: its number from 1, and its total if there is one.
 ///
 /// ```
 /// use run_model::stress::StressIndex;
@@ -172,7 +168,7 @@ pub struct DisplayStressIndex {
 }
 
 impl DisplayStressIndex {
-    /// Writes what it shows.
+    /// Writes the iteration.
     #[tactic(auto, unfolding(crate::specs::Instance::stress_text))]
     pub fn write_to<W: WriteStr>(&self, w: &mut W) -> Result<(), WriteFault>
         ensures { Puts W.meaning w.old (stress_text self.now.count_style self.now.stress_index) result w.new }
@@ -221,7 +217,6 @@ pub fn write_stress_prefix<W: WriteStr>(
     }
 }
 
-// Writes the iteration between brackets and a space.
 #[tactic(auto, unfolding(crate::specs::Instance::stress_prefix))]
 fn write_iteration<W: WriteStr>(
     w: &mut W,
@@ -251,7 +246,7 @@ pub(super) fn write_id_prefix<W: WriteStr>(
     write_plain(w, " ")
 }
 
-/// How far a run is, before a test.
+/// The progress of a run, before a test.
 ///
 /// ```
 /// assert_eq!(DisplayCounterIndex::new_counter(20, 5000).to_string(alloc)?.as_str(), "(  20/5000)");
@@ -261,7 +256,7 @@ pub(super) fn write_id_prefix<W: WriteStr>(
 pub enum DisplayCounterIndex {
     /// A number and its total.
     Counter {
-        /// The number. It is wider than a count, so that one further than each count can be shown.
+        /// The number. It is wider than a count, so that it can be one more than any count.
         current: u128,
         /// The total.
         total: u128,
@@ -293,7 +288,7 @@ impl DisplayCounterIndex {
         DisplayCounterIndex::Padded { character, width }
     }
 
-    /// Writes what it shows.
+    /// Writes the counter.
     #[tactic(auto, unfolding(crate::specs::Instance::counter_text))]
     pub fn write_to<W: WriteStr>(&self, w: &mut W) -> Result<(), WriteFault>
         ensures { Puts W.meaning w.old (counter_text self.now) result w.new }
@@ -349,7 +344,6 @@ pub(super) fn write_counter_prefix<W: WriteStr>(
     }
 }
 
-// Writes the counter and a space.
 #[tactic(auto, unfolding(crate::specs::Instance::counter_prefix))]
 fn write_counter<W: WriteStr>(
     w: &mut W,
@@ -386,7 +380,7 @@ impl<'a> DisplayTestName<'a> {
         }
     }
 
-    /// Writes what it shows.
+    /// Writes the name.
     pub fn write_to<W: WriteStr>(&self, w: &mut W) -> Result<(), WriteFault>
         ensures { Puts W.meaning w.old (test_name_text self.now.styles self.now.name.now) result w.new }
     {
@@ -412,14 +406,14 @@ pub fn write_test_name<W: WriteStr>(
 ) -> Result<(), WriteFault>
     ensures { Puts W.meaning w.old (test_name_text styles.now name.now) result w.new }
 {
-    // Where neither style is a colour, the two and what joins them are the name as it is.
+    // If neither style is a colour, the name is written as it is.
     if styles.module_path == Style::Plain && styles.test_name == Style::Plain {
         return w.write_str(name.as_str());
     }
     write_coloured_name(name, styles, w)
 }
 
-// The same in any styles.
+// In any styles.
 #[tactic(auto, unfolding(crate::specs::Instance::test_name_text))]
 #[inline(never)]
 fn write_coloured_name<W: WriteStr>(

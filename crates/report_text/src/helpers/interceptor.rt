@@ -1,20 +1,19 @@
-//! What is said where an interceptor, as a debugger or a tracer, would get more than one test.
+//! The message if an interceptor, such as a debugger or a tracer, would get more than one test.
 
 ghost use Rattle.std.specs.Prelude.{◌≡◌, IfOk, string_bytes};
-ghost use Rattle.std.specs.List.{flat_map};
+ghost use Rattle.styled_text.specs.Names.{flat_map, Puts};
 ghost use Rattle.report_text.specs.Interceptor.{and_words, listed_test, interceptor_option, requires_words, rest_text, selected_text, selected_words, too_many_tests_text, unlisted_text};
-ghost use Rattle.writers.specs.Writer.{Puts};
 
 use crate::helpers::instance::DisplayTestInstance;
-use plain_text::style::{ListStyles, Style, write_plain};
 use report_words::plural::{tests_plural_if, tests_str};
 use run_model::config::NextestRunMode;
 use run_model::memory::OutOfMemory;
 use run_model::name::OwnedTestInstanceId;
 use std::alloc::Global;
+use styled_text::style::{ListStyles, Style, write_plain};
 use writers::write_str::{WriteFault, WriteStr};
 
-/// What is said where an interceptor would get more than one test: its option, how many tests there are, those that are
+/// The message if an interceptor would get more than one test: its option, how many tests there are, those that are
 /// listed, and how many more there are.
 ///
 /// ```
@@ -26,7 +25,7 @@ use writers::write_str::{WriteFault, WriteStr};
 ///
 /// # Errors
 ///
-/// Memory was refused. [`write_interceptor_too_many_tests`] writes the same without allocating.
+/// Memory was refused. [`write_interceptor_too_many_tests`] writes the message without allocating.
 pub fn format_interceptor_too_many_tests(
     alloc: Global,
     cli_opt_name: &str,
@@ -73,7 +72,6 @@ pub fn write_interceptor_too_many_tests<W: WriteStr>(
     write_unlisted(w, mode, test_count, test_instances.len(), count_style)
 }
 
-// Writes the option, and that it takes one test.
 #[tactic(auto, unfolding(crate::specs::Interceptor::interceptor_option))]
 fn write_interceptor_option<W: WriteStr>(
     w: &mut W,
@@ -95,7 +93,6 @@ fn requires_words() -> &'static str
     " requires exactly one "
 }
 
-// Writes how many tests there are.
 #[tactic(auto, unfolding(crate::specs::Interceptor::selected_text))]
 fn write_selected<W: WriteStr>(
     w: &mut W,
@@ -119,7 +116,6 @@ fn selected_words() -> &'static str
     " were selected:"
 }
 
-// Writes the tests, each on a line of its own.
 fn write_listed<W: WriteStr>(
     w: &mut W,
     test_instances: &[OwnedTestInstanceId],
@@ -133,7 +129,6 @@ fn write_listed<W: WriteStr>(
     Ok(())
 }
 
-// Writes a test on a line of its own, after two spaces.
 #[tactic(auto, unfolding(crate::specs::Interceptor::listed_test))]
 fn write_listed_test<W: WriteStr>(
     w: &mut W,
@@ -146,7 +141,6 @@ fn write_listed_test<W: WriteStr>(
     DisplayTestInstance::new(None, None, test_instance.as_ref(), list_styles).write_to(w)
 }
 
-// Writes how many tests are not listed, if there are any.
 #[tactic(auto, using(std::proofs::lemmas::Bool::Decides::nat_tests), unfolding(crate::specs::Interceptor::unlisted_text))]
 fn write_unlisted<W: WriteStr>(
     w: &mut W,
@@ -163,7 +157,6 @@ fn write_unlisted<W: WriteStr>(
     Ok(())
 }
 
-// Writes how many tests are not listed.
 #[tactic(auto, unfolding(crate::specs::Interceptor::rest_text))]
 fn write_rest<W: WriteStr>(
     w: &mut W,

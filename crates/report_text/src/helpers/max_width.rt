@@ -1,20 +1,19 @@
 //! A test that is cut to a greatest width.
 //!
-//! Its four parts take of the width in turn: the iteration of a stress run, the counter and the binary's id, each cut at
+//! Its four parts take from the width in this order: the iteration of a stress run, the counter and the binary's id, each cut at
 //! its end, and the name, cut at its beginning. So nothing is left after a part that is cut.
 
 ghost use Rattle.std.specs.Prelude.{◌<◌, ◌^◌, ◌∷◌, []};
-ghost use Rattle.plain_text.specs.Fitting.{FitsWidth, columns, shrunk_parts};
+ghost use Rattle.styled_text.specs.Names.{FitsWidth, columns, shrunk_parts, Puts};
 ghost use Rattle.report_text.specs.Instance.{HasPlainWords, counter_prefix, id_prefix, test_name_text, stress_prefix};
-ghost use Rattle.writers.specs.Writer.{Puts};
 
 use crate::helpers::instance::{
     DisplayCounterIndex, DisplayTestName, write_counter_prefix, write_id_prefix,
     write_stress_prefix,
 };
-use plain_text::fitting::{count_columns, write_back, write_front};
-use plain_text::style::Style;
 use run_model::stress::StressIndex;
+use styled_text::fitting::{count_columns, write_back, write_front};
+use styled_text::style::Style;
 use writers::text::WriteText;
 use writers::write_str::{WriteFault, WriteStr};
 

@@ -1,10 +1,8 @@
 //! Words between quotes, as a shell reads them or as a message shows them.
 
 ghost use Rattle.std.specs.Prelude.{◌≡◌, ℕ, List, ◌∷◌, ◌++◌, ◌<◌, IfOk, IfSome, MatchOption, codes, length, map, string_bytes};
-ghost use Rattle.std.specs.List.{flat_map};
-ghost use Rattle.std.specs.Option.{option_map};
+ghost use Rattle.styled_text.specs.Names.{flat_map, option_map, Puts};
 ghost use Rattle.report_text.specs.Quoting.{in_single_quotes, is_unquoted, is_unquoted_byte, quoted_text, shell_word, shell_words};
-ghost use Rattle.writers.specs.Writer.{Puts};
 
 use run_model::memory::OutOfMemory;
 use std::alloc::Global;
@@ -84,7 +82,6 @@ pub fn write_shell_command<W: WriteStr, T: CommandWord>(
     write_words_after(w, " ", args)
 }
 
-// Writes each word after the separator.
 fn write_words_after<W: WriteStr, T: CommandWord>(
     w: &mut W,
     separator: &str,
@@ -98,7 +95,6 @@ fn write_words_after<W: WriteStr, T: CommandWord>(
     Ok(())
 }
 
-// Writes the separator and the word.
 fn write_word_after<W: WriteStr>(w: &mut W, separator: &str, word: &str) -> Result<(), WriteFault>
     ensures { Puts W.meaning w.old (separator.now ++ shell_word word.now) result w.new }
 {
@@ -125,7 +121,6 @@ pub fn write_shell_word<W: WriteStr>(w: &mut W, word: &str) -> Result<(), WriteF
     write_between_quotes(w, "'", word)
 }
 
-// Writes a word between two quotes.
 fn write_between_quotes<W: WriteStr>(w: &mut W, quote: &str, word: &str) -> Result<(), WriteFault>
     ensures { Puts W.meaning w.old (quote.now ++ (quoted_text word.now ++ quote.now)) result w.new }
 {
@@ -134,21 +129,18 @@ fn write_between_quotes<W: WriteStr>(w: &mut W, quote: &str, word: &str) -> Resu
     w.write_str(quote)
 }
 
-// Whether the word means itself to a shell.
 fn is_unquoted(word: &str) -> bool
     ensures { result ≡ is_unquoted word.now }
 {
     !word.is_empty() && word.as_bytes().iter().all(|byte| is_unquoted_byte(*byte))
 }
 
-// Whether the byte means itself to a shell.
 fn is_unquoted_byte(byte: u8) -> bool
     ensures { result ≡ is_unquoted_byte byte }
 {
     byte.is_ascii_alphanumeric() || b"_-=/,.+:@".contains(&byte)
 }
 
-// Writes what stands between the quotes of a word.
 fn write_quoted<W: WriteStr>(w: &mut W, text: &str) -> Result<(), WriteFault>
     ensures { Puts W.meaning w.old (quoted_text text.now) result w.new }
 {
@@ -160,7 +152,6 @@ fn write_quoted<W: WriteStr>(w: &mut W, text: &str) -> Result<(), WriteFault>
     w.write_str(rest)
 }
 
-// The text cut at its first quote.
 fn split_quote(text: &str) -> Option<(&str, &str)>
     ensures parts { MatchOption result (quoted_text text.now ≡ text.now) (λ parts. quoted_text text.now ≡ (parts.0.now ++ codes "'\\''") ++ quoted_text parts.1.now) }
     ensures shorter { IfSome result (λ parts. length parts.1.now < length text.now) }

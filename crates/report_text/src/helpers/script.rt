@@ -7,13 +7,13 @@ ghost use Rattle.writers.specs.Writer.{Puts};
 
 use crate::helpers::instance::write_stress_prefix;
 use crate::helpers::quoting::{CommandWord, write_shell_command};
-use plain_text::style::{Style, plain, write_parts};
 use run_model::memory::OutOfMemory;
 use run_model::name::ScriptId;
 use run_model::stress::StressIndex;
 use std::alloc::Global;
 use std::fmt;
 use std::fmt::Formatter;
+use styled_text::style::{Style, plain, write_parts};
 use writers::show_written;
 use writers::write_str::{WriteFault, WriteStr};
 
@@ -72,7 +72,7 @@ impl DisplayScriptInstance {
         }
     }
 
-    /// Writes what it shows.
+    /// Writes the script.
     #[tactic(auto, unfolding(crate::specs::Instance::script_text))]
     pub fn write_to<W: WriteStr>(&self, w: &mut W) -> Result<(), WriteFault>
         ensures { Puts W.meaning w.old (script_text self.now.script_id_style self.now.count_style self.now.stress_index self.now.script_id (string_bytes self.now.full_command)) result w.new }

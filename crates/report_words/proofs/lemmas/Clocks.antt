@@ -1,12 +1,10 @@
 -- Hours, minutes and seconds have a column for each byte (for `clock_width`).
 use Rattle.std.proofs.Common.{◌≡◌, ℕ, ◌+◌, ◌/◌, ◌%◌, ◌^◌, ◌<◌, Bool, true, false, [], ◌∷◌, ◌++◌, length, nat_lt, codes, ap, arith, length-append, lit<, if◌then◌else◌}
-use Rattle.std.specs.Fmt.{decimal}
-use Rattle.std.specs.Str.{IsAscii, chars}
+use Rattle.styled_text.specs.Names.{decimal, IsAscii, chars, Text}
 use Rattle.std.proofs.lemmas.Str.{chars-IsAscii, IsAscii-append}
 use Rattle.std.proofs.lemmas.Fmt.{IsAscii-decimal_wide}
-use Rattle.plain_text.proofs.lemmas.Decimals.{IsAscii-cons, IsAscii-none}
+use Rattle.styled_text.proofs.lemmas.Decimals.{IsAscii-cons, IsAscii-none}
 use Rattle.report_words.specs.Durations.{clock_text, leading_zero}
-use Rattle.plain_text.specs.Texts.{Text}
 
 -- a colon and the last two digits of a number
 abbrev colon_digits : ℕ → Text → Text

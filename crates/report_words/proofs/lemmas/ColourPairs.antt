@@ -1,17 +1,12 @@
--- A text in colour against a plain one (for the lemmas `colour_pair-..` of the texts above).
+-- A text in colour and a plain one (for the lemmas `colour_pair-..` of the texts above).
 use Rattle.std.proofs.Common.{◌≡◌, Bool, true, false, cond, [], ◌∷◌, ◌++◌, refl, sym, ◌∙◌, ap, append_assoc, append-nil}
-use Rattle.plain_text.specs.Texts.{Text}
-use Rattle.plain_text.specs.EqualButEndSpaces.{IsEqualButEndSpaces}
+use Rattle.styled_text.specs.Names.{Text, IsEqualButEndSpaces, visible_after, sequence_len, visible, HasNoEscape, indent, plain, styled, reset_color, style_prefix, style_suffix, Style}
 use Rattle.report_words.specs.InColour.{IsInColour, IsColourPair, IsColourPairOfLine}
-use Rattle.plain_text.specs.Escapes.{visible_after, sequence_len, visible, HasNoEscape}
-use Rattle.plain_text.specs.Indent.{indent}
-use Rattle.plain_text.specs.Style.{plain, styled, reset_color, style_prefix, style_suffix}
-use Rattle.plain_text.specs.declared.style.Style.{Style}
-use Rattle.plain_text.specs.declared.style.Style.TheVariants as style
-use Rattle.plain_text.proofs.lemmas.IndentedEndSpaces.{IsBlank, alike-front, alike-line, indent-visible, indent-alike, indent-feed}
+use Rattle.styled_text.specs.declared.style.Style.TheVariants as style
+use Rattle.styled_text.proofs.lemmas.IndentedEndSpaces.{IsBlank, alike-front, alike-line, indent-visible, indent-alike, indent-feed}
 use Rattle.report_words.proofs.lemmas.FreeWords.{frees, free-plain, free-indent}
-use Rattle.plain_text.proofs.lemmas.LineSequences.{visible-line}
-use Rattle.plain_text.proofs.lemmas.Widths.{free_both, visible-free_append}
+use Rattle.styled_text.proofs.lemmas.LineSequences.{visible-line}
+use Rattle.styled_text.proofs.lemmas.Widths.{free_both, visible-free_append}
 
 in_colour-none : IsInColour [] []
 unfolding visible_after
@@ -23,7 +18,7 @@ in_colour-append c u d v h k = record {
   alike = λ rest more same. rw h.joins (simp append_assoc (h.alike (visible d ++ rest) (v ++ more) (k.alike rest more same)));
 }
 
--- what is visible of the text is exactly so, whatever comes after it
+-- the visible part of the text is exact, whatever comes after it
 in_colour-exact : (c u : Text) → ((rest : Text) → visible (c ++ rest) ≡ u ++ visible rest) → IsInColour c u
 unfolding visible_after
 in_colour-exact c u h =
@@ -70,7 +65,7 @@ suffix-append style.BrightBlack u = reset-append u
 wrapped-append : (s : Style) (w u : Text) → HasNoEscape w → visible ((style_prefix s ++ (w ++ style_suffix s)) ++ u) ≡ w ++ visible u
 wrapped-append s w u h = simp append_assoc (prefix-append s (w ++ (style_suffix s ++ u)) ∙ visible-free_append w (style_suffix s ++ u) h ∙ ap (λ t. w ++ t) (suffix-append s u))
 
--- the text as it stands
+-- the text as it is
 pub colour_pair-whole : (k : Bool) (c u : Text) → IsColourPair k c u → IsColourPairOfLine k c u
 colour_pair-whole k c u h = record { coloured = λ e. simp append-nil at ((h.coloured e).alike [] [] refl); plain = h.plain }
 
@@ -117,5 +112,5 @@ colour_pair-indented_line k p b c u h blank same = colour_pair-line k (indent p 
 pub colour_pair-indent : (k : Bool) (p : Text) (b : Bool) (c u : Text) → HasNoEscape p → IsBlank p → IsColourPairOfLine k c u → IsColourPair k (indent p b (c ++ 10 ∷ [])) (indent p b (u ++ 10 ∷ []))
 colour_pair-indent k p b c u h blank same = rw (indent-feed p b c, indent-feed p b u) (colour_pair-indented_line k p b c u h blank same)
 
--- what shows of a definition that it is a colour pair, where its parts are
+-- what shows that a definition is a colour pair if its parts are
 pub ruleset colour_pairs = (colour_pair-none, colour_pair-append, colour_pair-plain, colour_pair-styled, colour_pair-if, frees)

@@ -2,25 +2,17 @@
 use Rattle.std.proofs.Common.{◌≡◌, ℕ, ℤ, pos, negsuc, zero, suc, ◌+◌, ◌-◌, Bool, true, false, cond, ◌==◌, nat_lt, inl, inr, List, [], ◌∷◌, refl, arith, take, drop, ◌/◌, ◌%◌}
 use Rattle.std.proofs.lemmas.Bool.{cases_Bool}
 use Rattle.std.proofs.lemmas.Bool.Decides.{nat_tests}
-use Rattle.std.specs.Fmt.{signed_decimal}
+use Rattle.styled_text.specs.Names.{signed_decimal, Text, visible, HasNoEscape, indent, indent_onward, indent-onward, last_digits, with_point, seconds, plain}
 use Rattle.uuid.specs.Text.{by_index, hyphenated_text, lower, is_hyphen_place, hex_digit as id_digit, nibble, digit_place}
 use Rattle.run_names.specs.declared.config.NextestRunMode.{NextestRunMode}
 use Rattle.run_names.specs.declared.config.NextestRunMode.TheVariants.{Test, Benchmark}
 use Rattle.run_names.specs.Levels.{reason_words}
 use Rattle.run_names.specs.declared.level.CancelReason.{CancelReason}
 use Rattle.run_names.specs.declared.level.CancelReason.TheVariants as reason
-use Rattle.plain_text.specs.Texts.{Text}
-use Rattle.plain_text.specs.Escapes.{visible, HasNoEscape}
-use Rattle.plain_text.specs.Indent.{indent}
-use Rattle.plain_text.specs.Indentation.{indent_onward, indent-onward}
-use Rattle.plain_text.specs.Numbers.{last_digits, with_point, seconds}
-use Rattle.report_words.specs.Durations.{clock_text}
-use Rattle.report_words.specs.Plural.{were_word, tests_word_if, setup_scripts_word, binaries_word, iterations_word}
-use Rattle.plain_text.specs.Style.{plain}
-use Rattle.report_words.specs.Theme.{hbar_text}
-use Rattle.plain_text.proofs.lemmas.Closed.{decimal_free, right_free, repeat_free}
-use Rattle.plain_text.proofs.lemmas.Pieces.{free_parts, visible_after-free}
-use Rattle.plain_text.proofs.lemmas.Widths.{free_both}
+use Rattle.report_words.specs.Names.{clock_text, were_word, tests_word_if, setup_scripts_word, binaries_word, iterations_word, hbar_text}
+use Rattle.styled_text.proofs.lemmas.Closed.{decimal_free, right_free, repeat_free}
+use Rattle.styled_text.proofs.lemmas.Pieces.{free_parts, visible_after-free}
+use Rattle.styled_text.proofs.lemmas.Widths.{free_both}
 
 pub free-take : (n : ℕ) (t : Text) → HasNoEscape t → HasNoEscape (take n t)
 free-take zero t h = refl
@@ -122,7 +114,7 @@ unfolding hbar_text lib.Utf8.encode
 free-hbar_text true n = repeat_free n _ refl
 free-hbar_text false n = repeat_free n _ refl
 
--- what is visible of a text is so whatever the text holds
+-- a visible text holds no escape character, whatever the text holds
 pub free-visible : (t : Text) → HasNoEscape (visible t)
 free-visible t = visible_after-free 0 t
 

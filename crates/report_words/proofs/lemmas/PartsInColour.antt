@@ -1,24 +1,18 @@
 -- Parts painted in colour and plain: the law of colour, once for all texts of parts.
 use Rattle.std.proofs.Common.{ℕ, zero, suc, Bool, true, false, cond, List, ◌++◌, refl, [], ◌∷◌, ◌==◌, inl, inr, sym, ap, ◌∙◌, append_assoc, append-nil}
 use Rattle.std.proofs.lemmas.Bool.{cases_Bool, eqb-true}
-use Rattle.plain_text.specs.Texts.{Text, spaces}
-use Rattle.plain_text.specs.Escapes.{HasNoEscape}
-use Rattle.plain_text.specs.Style.{plain, styled, styles_of}
-use Rattle.plain_text.specs.declared.style.Styles.{Styles}
-use Rattle.plain_text.proofs.lemmas.Closed.{decimal_free, right_free, spaces_free}
+use Rattle.styled_text.specs.Names.{Text, spaces, HasNoEscape, visible, visible_after, plain, styled, styles_of, Styles, indent, without_end_spaces, flat_map, AllByRecursion}
+use Rattle.styled_text.proofs.lemmas.Closed.{decimal_free, right_free, spaces_free}
 use Rattle.report_words.proofs.lemmas.ColourPairs.{colour_pair-none, colour_pair-append, colour_pair-styled, colour_pair-if, colour_pair-free, colour_pair-whole, colour_pair-indent, colour_pair-indented_line}
-use Rattle.report_words.specs.InColour.{IsColourPair, IsColourPairOfLine}
-use Rattle.plain_text.specs.Indent.{indent}
-use Rattle.plain_text.specs.Escapes.{visible, visible_after}
-use Rattle.plain_text.specs.EqualButEndSpaces.{without_end_spaces}
-use Rattle.plain_text.proofs.lemmas.IndentedEndSpaces.{IsBlank, end_spaces-line, indent-feed}
-use Rattle.plain_text.proofs.lemmas.LineSequences.{visible-line}
-use Rattle.plain_text.proofs.lemmas.Widths.{free_front}
+use Rattle.report_words.specs.Names.{IsColourPair, IsColourPairOfLine, Parts, Tone, Count, Pass, Retry, Fail, Skip, ScriptId, RunIdPrefix, RunIdRest, none, Words, Word, Verbatim, Toned, Right, number}
+use Rattle.report_words.specs.Names.{given, given_toned, given_right, Join, choice, each, indented, indented_line, plainly, openly, loosely, drawn_given, drawn_given_line, End, Line, Open, Lines}
+use Rattle.report_words.specs.Names.{ending, joined_end, either_end, EndsLine, IsOfLines, style_of, paint}
+use Rattle.styled_text.proofs.lemmas.IndentedEndSpaces.{IsBlank, end_spaces-line, indent-feed}
+use Rattle.styled_text.proofs.lemmas.LineSequences.{visible-line}
+use Rattle.styled_text.proofs.lemmas.Widths.{free_front}
 use Rattle.std.proofs.lemmas.List.{append_cancel_right}
-use Rattle.std.specs.List.{flat_map, AllByRecursion}
-use Rattle.report_words.specs.Parts.{Parts, Tone, Count, Pass, Retry, Fail, Skip, ScriptId, RunIdPrefix, RunIdRest, none, Words, Word, Verbatim, Toned, Right, number, given, given_toned, given_right, Join, choice, each, indented, indented_line, plainly, openly, loosely, drawn_given, drawn_given_line, End, Line, Open, Lines, ending, joined_end, either_end, EndsLine, IsOfLines, style_of, paint}
 
--- what is handed in holds no escape character
+-- words from outside hold no escape character
 abbrev pub AreFreeGiven : {a : Bool} {d : End} → Bool → Parts a d → Type 0
 AreFreeGiven k (given t) = HasNoEscape t
 AreFreeGiven k (given_toned tone t) = HasNoEscape t
@@ -48,7 +42,7 @@ in_tone k ScriptId t h = colour_pair-styled k _ t h
 in_tone k RunIdPrefix t h = colour_pair-styled k _ t h
 in_tone k RunIdRest t h = colour_pair-styled k _ t h
 
--- the text ends so
+-- the text has this end
 abbrev pub EndsBy : End → Text → Type 0
 EndsBy Line t = EndsLine t
 EndsBy Open t = Unit {0}
@@ -127,7 +121,7 @@ ends s (loosely x) = inr (ends s x)
 ends s (drawn_given f) = tt
 ends s (drawn_given_line f whole) = whole s
 
--- lines that end in a line feed are alike where what stands before it is
+-- lines that end in a line feed are alike if what precedes it is
 unfed : (k : Bool) (c u : Text) → IsColourPair k (c ++ 10 ∷ []) (u ++ 10 ∷ []) → IsColourPairOfLine k c u
 unfolding without_end_spaces visible_after
 unfed k c u h = record {
@@ -147,7 +141,7 @@ each-pair_all : {X : Type 0} (k : Bool) (f g : X → Text) (P : X → Type 0) (x
 each-pair_all k f g P [] all h = colour_pair-none k
 each-pair_all k f g P (x ∷ xs) all h = colour_pair-append k _ _ _ _ (h x all.0) (each-pair_all k f g P xs all.1 h)
 
--- the parts in colour are the plain ones, where what is handed in is free of escape characters
+-- the parts in colour are the plain ones, if words from outside hold no escape character
 pub in_colour : {a : Bool} {d : End} (k : Bool) (x : Parts a d) → AreFree k x → IsColourPair k (paint (styles_of true) x) (paint (styles_of false) x)
 unfolding plain
 in_colour k none h = colour_pair-none k

@@ -1,10 +1,9 @@
 -- Lists of paths cut at their colons (for `split_colon`).
 use Rattle.std.proofs.Common.{◌≡◌, ◌≢◌, ℕ, suc, ◌<◌, [], ◌∷◌, ◌++◌, length, get_or, Option, None, Some, MatchOption, IfSome, refl, ap, ◌∙◌, arith, length-append, lit<, inl, inr}
-use Rattle.std.specs.Borrow.{Bor}
+use Rattle.styled_text.specs.Names.{Bor, Text}
 use Rattle.std.proofs.lemmas.Bool.Decides.{eqb_tells}
 use Rattle.std.proofs.lemmas.Str.Pattern.{split_parts, IsSplitOnceResult}
 use Rattle.report_words.specs.Paths.{between_colons, in_first_path}
-use Rattle.plain_text.specs.Texts.{Text}
 
 -- no byte is a colon
 abbrev HasNoColon : Text → Type 0
@@ -31,7 +30,7 @@ pub colon_parts : (t : Text) (r : Option (Bor Text × Bor Text)) → IsSplitOnce
 colon_parts t None h = one_path t (split_parts 58 t None h (lit< tt))
 colon_parts t (Some x) h = let p = split_parts 58 t (Some x) h (lit< tt) in ap between_colons p.0 ∙ first_path x.0.now x.1.now p.1
 
--- what stands after a colon is shorter
+-- the text after a colon is shorter
 pub after_shorter : (t : Text) (r : Option (Bor Text × Bor Text)) → IsSplitOnceResult 58 t r → IfSome r (λ x. length x.1.now < length t)
 after_shorter t None h = tt
 after_shorter t (Some x) h =

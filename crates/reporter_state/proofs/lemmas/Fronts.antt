@@ -1,13 +1,11 @@
 -- Short ids with the same first bytes are the same (for `FrontedId::is_short_and_same`, `KeptBinaryId::compare`).
 use Rattle.std.proofs.Common.{◌≡◌, true, ◌&&◌, eqb, ℕ, ◌+◌, ◌-◌, ◌<◌, ◌≤◌, zero, suc, List, length, get_or, refl, sym, subst, ◌∙◌, ap, arith, inl, inr, nat_cmp, Ordering, Less, Equal, Greater, is_lt}
-use Rattle.std.specs.Cmp.Lexicographic.{nat_list_cmp_total, slice_cmp}
-use Rattle.std.specs.Ordering.{ordering_reverse}
+use Rattle.styled_text.specs.Names.{nat_list_cmp_total, slice_cmp, ordering_reverse}
 use Rattle.std.proofs.lemmas.Bool.{and_parts, cases_lt, eqb-true, false≢true}
 use Rattle.std.proofs.lemmas.Grind.{same_number_lists}
 use Rattle.std.proofs.lemmas.List.{get_or_past}
 use Rattle.std.proofs.lemmas.Nat.{le_bytes_8}
-use Rattle.reporter_state.specs.Fronts.{IsFront, eight, word_of}
-use Rattle.reporter_state.specs.declared.binary_ids.Front.{Front}
+use Rattle.reporter_state.specs.Names.{IsFront, eight, word_of, Front}
 
 nth : (text : List ℕ) (i j : ℕ) → j < 8 → get_or (eight text i) j 0 ≡ get_or text (i + j) 0
 nth text i zero h = ap (λ n. get_or text n 0) (omega arith)

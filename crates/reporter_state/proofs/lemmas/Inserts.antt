@@ -1,15 +1,10 @@
 -- An entry that is inserted at its key, whose place is after those of the existing entries (for `KeptEntries::keep`, `KeptEntries::write`).
 use Rattle.std.proofs.Common.{◌≡◌, ℕ, ◌<◌, ◌+◌, Bool, List, [], ◌∷◌, ◌++◌, refl, sym, subst, ◌∙◌, ap, arith, length, reverse, Ordering, Less, Equal, Greater, is_lt, nat_cmp}
-use Rattle.std.specs.Cmp.Lexicographic.{nat_list_cmp_total, lists_total}
-use Rattle.std.specs.Ordering.{ordering_reverse, ordering_then}
-use Rattle.std.specs.BTreeMap.{insert_entry}
+use Rattle.styled_text.specs.Names.{nat_list_cmp_total, lists_total, ordering_reverse, ordering_then, insert_entry}
 use Rattle.std.proofs.lemmas.List.{map-append, reverse-append, reverse-reverse}
 use Rattle.text_parts.specs.declared.settings.Settings.{Settings}
-use Rattle.reporter_state.specs.Entries.{shown_entries, entry_cmp, entry_key, shown_entry, final_order, is_before}
-use Rattle.reporter_state.specs.Keys.{ArePlaced, Held, IsPlaced, entries_of, entry_held, held_cmp, key_at, shown_of}
-use Rattle.reporter_state.specs.Order.{put_in}
-use Rattle.reporter_state.specs.declared.final_output.FinalOutputEntry.{FinalOutputEntry}
-use Rattle.reporter_state.specs.declared.kept_test.KeptTest.{KeptTest}
+use Rattle.reporter_state.specs.Names.{shown_entries, entry_cmp, entry_key, shown_entry, final_order, is_before, ArePlaced, Held, IsPlaced, entries_of, entry_held, held_cmp, key_at, shown_of, put_in}
+use Rattle.reporter_state.specs.Names.{FinalOutputEntry, KeptTest}
 use Rattle.reporter_state.proofs.lemmas.Keys.{is_before-ranks}
 use Rattle.reporter_state.proofs.lemmas.Orders.{order_more, put_back, rising-ordered_by}
 

@@ -3,29 +3,13 @@ use Rattle.std.proofs.Common.{◌≡◌, ℕ, Bool, true, false, not, Option, No
 use Rattle.std.specs.Option.{option_map_or}
 use Rattle.std.proofs.lemmas.Bool.{cases_Bool, false≢true}
 use Rattle.std.proofs.lemmas.Option.{none-some, same_Some}
-use Rattle.run_model.specs.Attempts.{Attempt, Attempts, Written}
-use Rattle.run_model.specs.Outputs.{has_loaded_output}
-use Rattle.run_model.specs.Statuses.{summary_of}
-use Rattle.run_names.specs.declared.config.TestOutputDisplay.{TestOutputDisplay}
-use Rattle.run_model.specs.declared.event.TestEventKind.{TestEventKind}
+use Rattle.run_model.specs.Names.{Attempt, Attempts, Written, has_loaded_output, summary_of, TestOutputDisplay, TestEventKind, TestInstanceId, ChildOutputDescription, LiveSpec, RunStats, StressIndex}
+use Rattle.run_model.specs.Names.{Nanos}
 use Rattle.run_model.specs.declared.event.TestEventKind.TheVariants.{SetupScriptFinished, TestAttemptFailedWillRetry, TestFinished, InfoResponse}
 use Rattle.run_names.specs.declared.level.StatusLevel.TheVariants as level
-use Rattle.run_names.specs.declared.name.TestInstanceId.{TestInstanceId}
-use Rattle.run_model.specs.declared.output.ChildOutputDescription.{ChildOutputDescription}
-use Rattle.run_model.specs.declared.output.LiveSpec.{LiveSpec}
-use Rattle.run_model.specs.declared.stats.RunStats.{RunStats}
-use Rattle.run_names.specs.declared.stress.StressIndex.{StressIndex}
-use Rattle.run_names.specs.declared.time.Nanos.{Nanos}
-use Rattle.unit_report.specs.Overrides.{display_for}
-use Rattle.store_text.specs.declared.config.StoreConfig.{StoreConfig}
-use Rattle.test_text.specs.TestFinished.{FinishReport, HasShownOutput, test_finish}
-use Rattle.text_parts.specs.Finish.{display_of, is_ever_shown}
-use Rattle.test_text.specs.TestRetry.{HasFailedAttemptOutput, is_failed_output_shown}
-use Rattle.text_parts.specs.Settings.{is_level_shown}
-use Rattle.text_parts.specs.declared.settings.Settings.{Settings}
-use Rattle.reporter_state.specs.Effects.{finish_by}
-use Rattle.reporter_state.specs.Refusals.{decider_by}
-use Rattle.reporter_state.specs.Loads.{lacks_output, loads_attempt, loads_finish}
+use Rattle.text_parts.specs.Names.{display_for, display_of, is_ever_shown, is_level_shown, Settings}
+use Rattle.reporter_state.specs.Names.{StoreConfig, FinishReport, HasShownOutput, test_finish, HasFailedAttemptOutput, is_failed_output_shown, finish_by, decider_by, lacks_output, loads_attempt}
+use Rattle.reporter_state.specs.Names.{loads_finish}
 
 -- needed output is loaded, unless needed output was not loaded
 pub loaded_where : (is_needed : Bool) (output : Written) →

@@ -1,8 +1,6 @@
 -- Lists in order, with ties in their order of arrival: there is exactly one (for the lemmas of Inserts, Pasts).
 use Rattle.std.proofs.Common.{suc-add, ap₂, ◌≡◌, zero, suc, Bool, true, false, not, cond, List, [], ◌∷◌, ◌++◌, filter, reverse, refl, sym, ◌∙◌, ap, arith, inl, inr, IsSortedBy}
-use Rattle.std.specs.Cmp.{IsStrictWeakOrder}
-use Rattle.std.specs.List.{AllByRecursion}
-use Rattle.std.specs.List.Sorted.{ties, IsStableBy}
+use Rattle.styled_text.specs.Names.{IsStrictWeakOrder, AllByRecursion, ties, IsStableBy}
 use Rattle.std.proofs.lemmas.Bool.{false≢true, cases_Bool, and_parts, not-true}
 use Rattle.std.proofs.lemmas.List.Elements.{recursion_from_All, All-from_recursion}
 use Rattle.std.proofs.lemmas.Grind.{reverse_onto}

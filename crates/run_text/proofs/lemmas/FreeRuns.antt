@@ -1,30 +1,17 @@
--- What is handed in for the texts of a run: its id and profile, its setup scripts, and the tests that were not seen.
+-- The texts of a run without escape characters: its id and profile, its setup scripts, and the tests that were not seen.
 use Rattle.std.proofs.Common.{ℕ, Bool, false, List, [], ◌∷◌, Option, None, Some}
-use Rattle.std.specs.List.{AllByRecursion}
+use Rattle.styled_text.specs.Names.{AllByRecursion, HasNoEscape, Text}
 use Rattle.jiff_core.specs.declared.civil.datetime.DateTime.{DateTime}
-use Rattle.run_names.specs.UniquePrefixes.{UniquePrefix}
-use Rattle.run_names.specs.declared.config.NextestRunMode.{NextestRunMode}
-use Rattle.run_names.specs.declared.name.OwnedTestInstanceId.{OwnedTestInstanceId}
-use Rattle.run_names.specs.declared.not_seen.NotSeen.{NotSeen}
+use Rattle.run_model.specs.Names.{UniquePrefix, NextestRunMode, OwnedTestInstanceId, NotSeen, TestCounts, ChildOutputDescription, LiveSpec, ReplayHeader, ExecutionResultDescription}
+use Rattle.run_model.specs.Names.{SetupScriptExecuteStatus}
 use Rattle.run_names.specs.declared.unit.UnitKind.TheVariants as unit
-use Rattle.run_model.specs.declared.event.TestCounts.{TestCounts}
-use Rattle.run_model.specs.declared.output.ChildOutputDescription.{ChildOutputDescription}
-use Rattle.run_model.specs.declared.output.LiveSpec.{LiveSpec}
-use Rattle.run_model.specs.declared.replay.ReplayHeader.{ReplayHeader}
-use Rattle.run_model.specs.declared.status.ExecutionResultDescription.{ExecutionResultDescription}
-use Rattle.run_model.specs.declared.status.SetupScriptExecuteStatus.{SetupScriptExecuteStatus}
-use Rattle.plain_text.specs.Escapes.{HasNoEscape}
-use Rattle.plain_text.specs.Texts.{Text}
 use Rattle.report_words.specs.PlainTexts.{HoldsIf}
 use Rattle.report_words.proofs.lemmas.ColourPairs.{colour_pair-free}
 use Rattle.report_words.proofs.lemmas.FreeWords.{frees, free-last_digits}
 use Rattle.report_words.proofs.lemmas.PartsInColour.{AreFree, AreFreeGiven}
-use Rattle.report_text.specs.PlainResults.{IsPlainResult}
+use Rattle.text_parts.specs.Names.{IsPlainResult, skipped_tests_in, IsPlainScript, Script, Settings}
 use Rattle.report_text.proofs.lemmas.InstanceColourPairs.{colour_pair-test_text}
-use Rattle.unit_report.specs.SkipCounts.{skipped_tests_in}
 use Rattle.unit_report.proofs.lemmas.FreeSkipCounts.{free-skip_note}
-use Rattle.text_parts.specs.Script.{IsPlainScript, Script}
-use Rattle.text_parts.specs.declared.settings.Settings.{Settings}
 use Rattle.text_parts.proofs.lemmas.LineColourPairs.{free-shown_script}
 use Rattle.text_parts.proofs.lemmas.OutputColourPairs.{free-unit_output}
 use Rattle.text_parts.proofs.lemmas.ResultColourPairs.{free-short_word}
@@ -51,7 +38,7 @@ pub free-run_started_text : (k : Bool) (s : Settings) (prefix : Option UniquePre
 unfolding run_started_text run_id_line profile_text
 free-run_started_text k s prefix c id profile h p q = (tt, ((tt, (tt, (free-id_text k prefix id p, (tt, (q, tt))))), free-starting_line k s c h))
 
--- what a replay says before it
+-- the header of a replay
 free-started_text : (d : DateTime) → HasNoEscape (started_text d)
 unfolding started_text date_text time_text
 free-started_text d = search (frees, free-last_digits) depth 12
@@ -83,7 +70,7 @@ unfolding setup_script_finished_text failed_script_output
 free-setup_script_finished_text k s x status h p =
     (free-setup_script_line k x status.result status.time_taken.0 h p.0, (tt, free-unit_output k s unit.Script false status.result status.output p.0 p.1))
 
--- the tests that a rerun was to see and has not
+-- the outstanding tests that a rerun has not seen
 free-not_seen_line : (k : Bool) (i : OwnedTestInstanceId) → IsPlainOwned i → AreFree k (not_seen_line i)
 unfolding not_seen_line
 free-not_seen_line k i h = (tt, (colour_pair-test_text k None None i.binary_id i.test_name tt h.0 h.1, tt))

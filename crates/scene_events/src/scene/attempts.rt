@@ -78,9 +78,7 @@ impl Model for EarlierAttempts {
 }
 
 impl Model for SceneAttempts {
-    ghost use Rattle.run_model.specs.Attempts.{Attempts};
-    ghost use Rattle.run_model.specs.declared.output.ChildOutputDescription.{ChildOutputDescription};
-    ghost use Rattle.run_model.specs.declared.output.LiveSpec.{LiveSpec};
+    ghost use Rattle.run_model.specs.Names.{Attempts, ChildOutputDescription, LiveSpec};
 
     ghost Value = { Attempts LiveSpec ChildOutputDescription };
 
@@ -377,9 +375,7 @@ impl Model for SceneAttempt {
 }
 
 impl SceneAttempt {
-    ghost use Rattle.run_model.specs.Attempts.{attempt_with_output};
-    ghost use Rattle.run_model.specs.Outputs.{has_loaded_output};
-    ghost use Rattle.run_model.specs.Statuses.{is_success};
+    ghost use Rattle.run_model.specs.Names.{attempt_with_output, has_loaded_output, is_success};
     ghost use Rattle.scene_events.specs.SceneAttempts.{script_status};
     ghost use Rattle.scene_events.specs.SceneOutputs.{written};
     ghost use Rattle.std.specs.Prelude.{Some};

@@ -2,9 +2,7 @@
 use Rattle.std.proofs.Common.{◌≡◌, ℕ, ◌+◌, ◌≤◌, List, [], ◌∷◌, length, drop, false, Option, None, Some, refl, ap, sym, ◌∙◌, arith}
 use Rattle.std.specs.Option.{is_some}
 use Rattle.run_model.specs.declared.output.ChildOutputDescription.TheVariants as streams
-use Rattle.scene_fields.specs.Fields.{Noted, Place, next_stored, noting, stored_among}
-use Rattle.scene_fields.specs.declared.stored.StoredOutput.{StoredOutput}
-use Rattle.scene_text.specs.EventLines.{after_streams, output_fields, spelled_output_fields, stored_output_fields}
+use Rattle.scene_text.specs.Names.{Noted, Place, next_stored, noting, stored_among, StoredOutput, after_streams, output_fields, spelled_output_fields, stored_output_fields}
 
 pub place_by : (p : Place) (n : ℕ) (left : List (List ℕ)) (noted : Option Noted) → n ≡ p.number → left ≡ p.left → noted ≡ p.noted → ◌≡◌ {A = Place} (record { number = n; left = left; noted = noted }) p
 place_by p n left noted e f g = rw (e, f, g) refl

@@ -1,10 +1,7 @@
 -- The stored outputs of a recorded line that was read (for `read_recorded_line`).
 use Rattle.std.proofs.Common.{◌≡◌, List, Result, Ok, Err, IfOk, ap, sym, ◌∙◌}
 use Rattle.std.specs.Result.{result_map_both}
-use Rattle.scene_fields.specs.Fields.{Place, noted_outputs}
-use Rattle.scene_fields.specs.declared.fault.LineFault.{LineFault}
-use Rattle.scene_fields.specs.declared.stored.PlacedOutput.{PlacedOutput}
-use Rattle.scene_text.specs.SceneTexts.{ParsedLine, ParsedLines, lines_with, value_of}
+use Rattle.scene_text.specs.Names.{Place, noted_outputs, LineFault, PlacedOutput, ParsedLine, ParsedLines, lines_with, value_of}
 
 abbrev with_stored : ParsedLine × Place → ParsedLine × List PlacedOutput
 with_stored x = (x.0, noted_outputs x.1.noted)

@@ -4,15 +4,11 @@ use Rattle.std.specs.Prelude.{nat_lt}
 use Rattle.std.specs.Result.{result_map_both}
 use Rattle.std.proofs.lemmas.Bool.Decides.{nat_tests}
 use Rattle.std.proofs.lemmas.List.{length-append}
-use Rattle.scene_events.specs.declared.scene.event.SceneEvent.{SceneEvent}
-use Rattle.scene_fields.specs.Fields.{Fails}
-use Rattle.scene_fields.specs.declared.fault.LineError.{LineError}
+use Rattle.scene_text.specs.Names.{SceneEvent, Fails, LineError, LineFault, ReadFault, AllRead, IsNextFault, LeavesLines, NotesLine, ParsedLine, ReadsLines, RunLine, ConfigLine, EventLine, NoEvent}
+use Rattle.scene_text.specs.Names.{ParsedLines, before_next, event_lines, fault_at, is_begun, is_begun_behind, line_here, line_read, line_value, lines_before, lines_read, parsed_lines, lines_after}
+use Rattle.scene_text.specs.Names.{lines_with, LinesRead}
 use Rattle.scene_fields.specs.declared.fault.LineError.TheVariants as error
-use Rattle.scene_fields.specs.declared.fault.LineFault.{LineFault}
-use Rattle.scene_fields.specs.declared.fault.ReadFault.{ReadFault}
 use Rattle.scene_fields.specs.declared.fault.ReadFault.TheVariants as fault
-use Rattle.scene_text.specs.SceneTexts.{AllRead, IsNextFault, LeavesLines, NotesLine, ParsedLine, ReadsLines, RunLine, ConfigLine, EventLine, NoEvent, ParsedLines, before_next, event_lines, fault_at, is_begun, is_begun_behind, line_here, line_read, line_value, lines_before, lines_read, parsed_lines, lines_after, lines_with}
-use Rattle.scene_text.specs.declared.reader.LinesRead.{LinesRead}
 
 -- lines tell, and others behind them
 pub all_append : (before : ParsedLines) (ts : List RunLine) (mid : ParsedLines) (us : List RunLine) (after : ParsedLines) → AllRead before ts mid → AllRead mid us after → AllRead before (ts ++ us) after

@@ -1,12 +1,12 @@
 //! The lines of events: of tests and of setup scripts, what they wrote, and what both answer when they are asked what they are doing; and of the
 //! run, of the iterations of a stress run, and of a replay.
 
-ghost use Rattle.scene_events.specs.declared.scene.event.SceneEvent.{SceneEvent};
-ghost use Rattle.scene_fields.specs.Fields.{answered, field, Gives};
-ghost use Rattle.scene_fields.specs.Lists.{errors_in};
-ghost use Rattle.scene_fields.specs.Split.{field_texts};
-ghost use Rattle.scene_fields.specs.Texts.{bytes_in, text_in};
-ghost use Rattle.scene_text.specs.EventLines.{after_streams, all_attempts, answer_fields, answer_script_line_fields, answer_test_line_fields, attempt_fields, attempts_behind, cancel_line_fields, done_line_fields, empty_output_fields, end_line_fields, end_stress_line_fields, header_line_fields, info_line_fields, input_line_fields, made, not_seen_fields, output_fields, pause_line_fields, prefix_line_fields, retry_fields, retry_line_fields, retry_start_line_fields, run_line_fields, script_fields, setup_done_line_fields, setup_line_fields, setup_slow_line_fields, slow_line_fields, some_text_in, spelled_output_fields, start_line_fields, state_fields, stream_in, sub_end_line_fields, TakesEmptyOutput, TakesStoredOutput, test_fields, unique_prefix_fields};
+ghost use Rattle.scene_text.specs.Names.{SceneEvent, answered, field, Gives, errors_in, field_texts, bytes_in, text_in, after_streams, all_attempts, answer_fields, answer_script_line_fields};
+ghost use Rattle.scene_text.specs.Names.{answer_test_line_fields, attempt_fields, attempts_behind, cancel_line_fields, done_line_fields, empty_output_fields, end_line_fields, end_stress_line_fields};
+ghost use Rattle.scene_text.specs.Names.{header_line_fields, info_line_fields, input_line_fields, made, not_seen_fields, output_fields, pause_line_fields, prefix_line_fields, retry_fields};
+ghost use Rattle.scene_text.specs.Names.{retry_line_fields, retry_start_line_fields, run_line_fields, script_fields, setup_done_line_fields, setup_line_fields, setup_slow_line_fields};
+ghost use Rattle.scene_text.specs.Names.{slow_line_fields, some_text_in, spelled_output_fields, start_line_fields, state_fields, stream_in, sub_end_line_fields, TakesEmptyOutput, TakesStoredOutput};
+ghost use Rattle.scene_text.specs.Names.{test_fields, unique_prefix_fields};
 ghost use Rattle.std.specs.Prelude.{drop, IfOk, IsTrue, ◌++◌, ◌≡◌};
 
 use super::binary_ids::BinaryIds;

@@ -1,8 +1,7 @@
 //! The kinds of line that a scene has, and the fields of a `config` line.
 
 ghost use Rattle.std.specs.Prelude.{◌≡◌};
-ghost use Rattle.scene_fields.specs.Fields.{Gives, answered};
-ghost use Rattle.scene_text.specs.EventLines.{by_row, config_line_fields, event_line_fields, other_event_rows, run_event_rows, unknown};
+ghost use Rattle.scene_text.specs.Names.{Gives, answered, by_row, config_line_fields, event_line_fields, other_event_rows, run_event_rows, unknown};
 
 use super::EventResult;
 use super::binary_ids::BinaryIds;

@@ -3,8 +3,8 @@
 //!
 //! What a unit is doing is a word, as `running`, and its parts. How the attempt ended stands in the next field.
 
-ghost use Rattle.scene_events.specs.Moments.{clock_of, day_of};
-ghost use Rattle.scene_text.specs.Parts.{delay_in, exited_in, exiting_in, result_or_none_in, running_in, slow_after_in, state_in, state_with, terminate_reason_in, terminating_in, timing_in, wait_in, checked_clock, checked_day, moment_in, highlight_in, highlight_stream_in, progress_in, stress_count_in};
+ghost use Rattle.scene_text.specs.Names.{clock_of, day_of, delay_in, exited_in, exiting_in, result_or_none_in, running_in, slow_after_in, state_in, state_with, terminate_reason_in, terminating_in};
+ghost use Rattle.scene_text.specs.Names.{timing_in, wait_in, checked_clock, checked_day, moment_in, highlight_in, highlight_stream_in, progress_in, stress_count_in};
 ghost use Rattle.std.specs.Option.{option_map};
 ghost use Rattle.std.specs.Prelude.{◌≡◌, IfOk};
 

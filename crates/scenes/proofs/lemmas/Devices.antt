@@ -1,15 +1,10 @@
 -- What devices hold of a report that was written to buffers (for `report_accepted`, `follow_source`).
 use Rattle.std.proofs.Common.{◌≡◌, ◌⊎◌, ℕ, List, [], ◌∷◌, ◌++◌, reverse, Option, None, Some, Result, Ok, Err, IfErr, OnOk, refl, sym, ap, ◌∙◌, subst, append-nil, inl, inr}
-use Rattle.std.specs.Io.KnownBytes.{Appends, append_known}
+use Rattle.styled_text.specs.Names.{Appends, append_known, BufferStops, buffer_laws, GrowsWithin, Holds, AppendsFront, WriteFault}
 use Rattle.scenes.proofs.Common.{Appends-nil, AreWhole, Begins, buffer_meaning, BufferAccepts, DeliversRest, device, Event, false≢true, Fault, HasAtLeast, HasAtMost, HasBeginning, Header, is_some, IsSameStore, Meaning, Options, ParsedLines, Prefix, report_of, ReportCall, Reported, SceneConfig, StandAtOneCall, Store, store_for, store_meaning, stored, stored_of, StoreFailed, Text, TextBuffer, WriteFailed}
-use Rattle.writers.specs.TextBuffer.{BufferStops, buffer_laws, GrowsWithin, Holds}
-use Rattle.writers.specs.Writer.{AppendsFront}
-use Rattle.writers.specs.declared.write_str.WriteFault.{WriteFault}
 use Rattle.writers.specs.declared.write_str.WriteFault.TheVariants.{Device, Memory}
 use Rattle.writers.proofs.lemmas.Deliveries.{accepted_delivers, begins_of, stopped_begins}
-use Rattle.scenes.specs.Deferred.{deferred_meaning}
-use Rattle.scenes.specs.Prints.{AreBegun, IsStop}
-use Rattle.scenes.specs.declared.deferred.Deferred.{Deferred}
+use Rattle.scenes.specs.Names.{deferred_meaning, AreBegun, IsStop, Deferred}
 use Rattle.scenes.proofs.lemmas.Prints.{Begun, calls_so, memory_no_store, write_no_store}
 
 -- known bytes that stay, and grow by a beginning where they are known

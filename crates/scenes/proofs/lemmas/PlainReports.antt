@@ -5,25 +5,14 @@ use Rattle.std.proofs.Math.Seq.{drop-append_seam, drop-cons, take-append_seam}
 use Rattle.std.proofs.lemmas.List.{get_or-take, length-take-le, drop-map, length-map, map-append, take-append-drop, take-map}
 use Rattle.std.proofs.lemmas.List.Quantifiers.{position-Some}
 use Rattle.std.proofs.lemmas.Option.{slice_get_cases}
-use Rattle.std.specs.List.{position}
-use Rattle.std.specs.Option.{option_and_then, option_map_or}
+use Rattle.styled_text.specs.Names.{position, option_and_then, option_map_or, buffer_laws, Appends}
 use Rattle.std.specs.Prelude.{slice_get}
 use Rattle.scenes.proofs.Common.{AllZip, Appends-nil, AreReadyCallsOf, AreWhole, Begins, buffer_meaning, BufferAccepts, common_steps, device, Prints, scene_lines, StandAtOneCall, TextBuffer, IsCallOf, position_or_len, configuration_for, decider_for, false≢true, Fault, fault_at_call, first_refused, HasAtLeast, HasAtMost, HasBeginning, HasFirstCalls, IsSceneRefused, is_some, Meaning, option_map, Options, OutOfMemory, OutputLoadDecider, Records, refusal_by, report, report_of, ReportCall, reverse-append, Scene, SceneConfig, Stops, store_for, stored, stored_of, stored_text, take_all, Text, text, unloaded_for, unread, unread_call, WriteEventError, Io, StoreIo, StoreFailed, WriteFailed}
-use Rattle.console_reporter.specs.Accepted.{refusal_at}
-use Rattle.console_reporter.specs.Configuration.{Configuration, configured_in}
-use Rattle.console_reporter.specs.Outcomes.Side.{Report}
-use Rattle.console_reporter.specs.Report.{past_at, text_at}
-use Rattle.console_reporter.specs.Stored.{stored_at}
-use Rattle.reporter_state.specs.Refusals.{refusal_at_by, refusal_in}
-use Rattle.writers.specs.TextBuffer.{buffer_laws}
+use Rattle.console_reporter.specs.Names.{refusal_at, Configuration, configured_in, Report, past_at, text_at, stored_at, DisplayReporterBuilder}
+use Rattle.reporter_state.specs.Names.{refusal_at_by, refusal_in, StoreConfig}
 use Rattle.writers.specs.declared.write_str.WriteFault.TheVariants.{Device}
-use Rattle.std.specs.Io.KnownBytes.{Appends}
-use Rattle.store_text.specs.declared.config.StoreConfig.{StoreConfig}
-use Rattle.console_reporter.specs.declared.imp.builder.DisplayReporterBuilder.{DisplayReporterBuilder}
-use Rattle.scenes.specs.Judged.{fault_of_first}
-use Rattle.scenes.specs.Reports.{builder_for, surroundings_of}
+use Rattle.scenes.specs.Names.{fault_of_first, builder_for, surroundings_of, AreBegun}
 use Rattle.scenes.proofs.lemmas.Devices.{alone_begun, beginning_here, begun_here, stand_there}
-use Rattle.scenes.specs.Prints.{AreBegun}
 use Rattle.scenes.proofs.lemmas.Prints.{Begun, call_stopped, front_of_more, HasText, is_stop, IsNext, none_begun, stand_here}
 use Rattle.scenes.proofs.lemmas.ReadyCalls.{report_ready, stored_ready}
 use Rattle.scenes.proofs.lemmas.Refusals.{all_judged, fails_behind, mapped_none}

@@ -7,8 +7,7 @@ use Rattle.console_reporter.proofs.lemmas.Isolation.{isolated}
 use Rattle.reporter_state.specs.Unread.{is_skipped}
 use Rattle.run_model.specs.Unloaded.{unloaded_kind}
 use Rattle.run_model.specs.declared.event.TestEventKind.TheVariants as kind
-use Rattle.scenes.specs.Outcomes.{outcome_after_event, run_outcome}
-use Rattle.scenes.specs.Reports.{ready_if}
+use Rattle.scenes.specs.Names.{outcome_after_event, run_outcome, ready_if}
 
 module _ (options : Options) (scene : Scene) where
   -- nothing is left unread

@@ -1,20 +1,13 @@
 -- Worked rows: what the definitions say of some records.
 use Rattle.std.proofs.Common.{◌≡◌, ◌++◌, [], ◌∷◌, true, false, pos, None, Some, codes, refl}
-use Rattle.std.specs.Fmt.{digits}
-use Rattle.std.specs.Str.{chars, is_utf8}
+use Rattle.styled_text.specs.Names.{digits, chars, is_utf8, Text}
 use Rattle.std.proofs.lemmas.Str.{IsUtf8-from_is_utf8}
-use Rattle.run_model.specs.Attempts.{Attempts}
-use Rattle.run_names.specs.declared.name.TestInstanceId.{TestInstanceId}
+use Rattle.run_model.specs.Names.{Attempts, TestInstanceId, ChildOutputDescription, LiveSpec, ExecutionResultDescription, decoded_text}
 use Rattle.run_model.specs.declared.output.ChildExecutionOutputDescription.TheVariants.{Output}
-use Rattle.run_model.specs.declared.output.ChildOutputDescription.{ChildOutputDescription}
 use Rattle.run_model.specs.declared.output.ChildOutputDescription.TheVariants.{Split}
-use Rattle.run_model.specs.declared.output.LiveSpec.{LiveSpec}
-use Rattle.run_model.specs.declared.status.ExecutionResultDescription.{ExecutionResultDescription}
 use Rattle.run_model.specs.declared.status.ExecutionResultDescription.TheVariants as outcome
 use Rattle.run_model.specs.declared.status.FailureDescription.TheVariants.{ExitCode}
 use Rattle.run_model.specs.declared.status.FlakyResult.TheVariants as flaky
-use Rattle.run_model.specs.Decoded.{decoded_text}
-use Rattle.plain_text.specs.Texts.{Text}
 use Rattle.run_model.proofs.lemmas.Decoded.{decoded-same}
 use Rattle.text_parts.specs.ResultWords.{short_word}
 use Rattle.store_text.specs.Netstring.{netstring, netstring_head}

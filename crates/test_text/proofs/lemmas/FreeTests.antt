@@ -1,24 +1,14 @@
--- What is handed in for the lines of tests that have not finished (for the texts of their events).
+-- The lines of tests that have not finished, without escape characters (for the texts of their events).
 use Rattle.std.proofs.Common.{ℕ, Bool, true, false, List, Option}
-use Rattle.std.specs.List.{AllByRecursion}
-use Rattle.run_names.specs.declared.config.TestOutputDisplay.{TestOutputDisplay}
-use Rattle.run_names.specs.declared.name.TestInstanceId.{TestInstanceId}
-use Rattle.run_names.specs.declared.stress.StressIndex.{StressIndex}
+use Rattle.styled_text.specs.Names.{AllByRecursion, HasNoEscape, Text}
+use Rattle.run_model.specs.Names.{TestOutputDisplay, TestInstanceId, StressIndex, Attempt, RunStats, RetryData}
 use Rattle.run_names.specs.declared.unit.UnitKind.TheVariants as unit
-use Rattle.run_model.specs.Attempts.{Attempt}
-use Rattle.run_model.specs.declared.stats.RunStats.{RunStats}
-use Rattle.run_model.specs.declared.status.RetryData.{RetryData}
-use Rattle.plain_text.specs.Escapes.{HasNoEscape}
-use Rattle.plain_text.specs.Texts.{Text}
 use Rattle.report_words.specs.PlainTexts.{IsPlainInstance}
 use Rattle.report_words.proofs.lemmas.ColourPairs.{colour_pair-free}
 use Rattle.report_words.proofs.lemmas.FreeWords.{frees}
 use Rattle.report_words.proofs.lemmas.PartsInColour.{AreFree}
-use Rattle.report_text.specs.PlainResults.{IsPlainResult}
+use Rattle.text_parts.specs.Names.{IsPlainResult, IsPlainWritten, CountedInstance, Settings}
 use Rattle.report_text.proofs.lemmas.FreeDetails.{free-shell_words}
-use Rattle.unit_report.specs.PlainOutputs.{IsPlainWritten}
-use Rattle.text_parts.specs.declared.instance.CountedInstance.{CountedInstance}
-use Rattle.text_parts.specs.declared.settings.Settings.{Settings}
 use Rattle.text_parts.proofs.lemmas.LineColourPairs.{IsPlainTest, plain-started_counter, plain-padded, free-instance_end, free-untimed_end}
 use Rattle.text_parts.proofs.lemmas.OutputColourPairs.{free-unit_output}
 use Rattle.text_parts.proofs.lemmas.ResultColourPairs.{free-short_word}
@@ -62,7 +52,7 @@ unfolding test_slow_text slow_text terminating_text
 free-test_slow_text k s stress i r elapsed true h = ((tt, free-slow_end k _ elapsed (plain-padded s stress i h)), tt)
 free-test_slow_text k s stress i r elapsed false h = ((tt, free-slow_end k _ elapsed (plain-padded s stress i h)), tt)
 
--- an attempt that failed where another one follows
+-- a failed attempt that is retried
 free-attempt_failed_line : (k : Bool) (test : CountedInstance) (x : Attempt) → IsPlainTest test → IsPlainResult x.result → AreFree k (attempt_failed_line test x)
 unfolding attempt_failed_line
 free-attempt_failed_line k test x h j = let word = free-short_word x.result j in (search frees depth 12, (tt, (tt, free-instance_end k test h)))

@@ -1,20 +1,13 @@
--- The tests and setup scripts that lines speak of, handed in without escape characters (for all lines of units).
+-- The tests and setup scripts of lines, without escape characters (for all lines of units).
 use Rattle.std.proofs.Common.{◌≢◌, ◌∷◌, ℕ, Bool, true, false, arith, Option, None, Some}
-use Rattle.run_names.specs.declared.name.TestInstanceId.{TestInstanceId}
-use Rattle.run_model.specs.declared.stats.RunStats.{RunStats}
-use Rattle.run_names.specs.declared.stress.StressIndex.{StressIndex}
-use Rattle.report_text.specs.Instance.{HasPlainCounter}
-use Rattle.report_words.specs.PlainTexts.{IsPlainInstance}
-use Rattle.plain_text.specs.Style.{styles_of}
-use Rattle.report_words.specs.Theme.{hbar_character}
+use Rattle.run_model.specs.Names.{TestInstanceId, RunStats, StressIndex}
+use Rattle.text_parts.specs.Names.{HasPlainCounter, padded_instance, instance_end, untimed_end, IsPlainScript, Script, shown_script, counter_where, finished_counter, next_where, started_counter}
+use Rattle.text_parts.specs.Names.{padded_where, padded_counter, CountedInstance, Settings}
+use Rattle.report_words.specs.Names.{IsPlainInstance, hbar_character}
+use Rattle.styled_text.specs.Style.{styles_of}
 use Rattle.report_text.proofs.lemmas.FreeDetails.{free-shell_words}
 use Rattle.report_text.proofs.lemmas.InstanceColourPairs.{colour_pair-instance_text, colour_pair-script_text}
 use Rattle.report_words.proofs.lemmas.PartsInColour.{AreFree}
-use Rattle.text_parts.specs.Instance.{padded_instance, instance_end, untimed_end}
-use Rattle.text_parts.specs.Script.{IsPlainScript, Script, shown_script}
-use Rattle.text_parts.specs.Settings.{counter_where, finished_counter, next_where, started_counter, padded_where, padded_counter}
-use Rattle.text_parts.specs.declared.instance.CountedInstance.{CountedInstance}
-use Rattle.text_parts.specs.declared.settings.Settings.{Settings}
 
 -- the same settings, in colour or plain
 abbrev pub painted : Bool → Settings → Settings
@@ -46,7 +39,7 @@ plain-padded_counter s = go s.counter_width
     go None = tt
     go (Some width) = plain-hbar s.theme_characters.is_unicode
 
--- nor does a test in a line
+-- nor does a test of a line
 abbrev pub IsPlainTest : CountedInstance → Type 0
 IsPlainTest test = HasPlainCounter test.counter × IsPlainInstance test.instance
 

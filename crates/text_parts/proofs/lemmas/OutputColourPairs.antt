@@ -1,25 +1,18 @@
--- The output of an attempt or of a setup script, where what is handed in is plain (for the lines that it follows).
+-- The output of an attempt or of a setup script, without escape characters (for the lines that it follows).
 use Rattle.std.proofs.Common.{◌≡◌, Bool, true, false, refl}
-use Rattle.run_model.specs.declared.status.ExecutionResultDescription.{ExecutionResultDescription}
+use Rattle.run_model.specs.Names.{ExecutionResultDescription, UnitKind, Written}
 use Rattle.run_model.specs.declared.status.ExecutionResultDescription.TheVariants as outcome
 use Rattle.run_model.specs.declared.status.LeakTimeoutResult.TheVariants as leak
 use Rattle.run_model.specs.declared.status.SlowTimeoutResult.TheVariants as slow
-use Rattle.run_names.specs.declared.unit.UnitKind.{UnitKind}
-use Rattle.plain_text.specs.EqualButEndSpaces.{without_end_spaces}
-use Rattle.report_text.specs.PlainResults.{IsPlainResult}
-use Rattle.plain_text.specs.Style.{styles_of}
+use Rattle.styled_text.specs.Names.{without_end_spaces, styles_of, Style}
+use Rattle.text_parts.specs.Names.{IsPlainResult, IsPlainWritten, header_style, layout_in, shown_info_line, info_line, unit_output, Settings}
 use Rattle.report_words.specs.declared.theme.ThemeCharacters.{ThemeCharacters}
-use Rattle.plain_text.specs.declared.style.Style.{Style}
-use Rattle.plain_text.specs.declared.style.Style.TheVariants as style
+use Rattle.styled_text.specs.declared.style.Style.TheVariants as style
 use Rattle.report_words.proofs.lemmas.PartsInColour.{AreFree}
-use Rattle.unit_report.specs.PlainOutputs.{IsPlainWritten}
 use Rattle.unit_report.proofs.lemmas.UnitColourPairs.{IsColourPairOfLayout, colour_pair-bars, colour_pair-execution_output}
-use Rattle.text_parts.specs.AttemptOutput.{header_style, layout_in, shown_info_line, info_line, unit_output}
-use Rattle.run_model.specs.Attempts.{Written}
-use Rattle.text_parts.specs.declared.settings.Settings.{Settings}
 use Rattle.text_parts.proofs.lemmas.ResultColourPairs.{free-info_text}
 
--- a layout in a style and in none
+-- a layout with a style and without
 colour_pair-layout_in : (k : Bool) (kind : UnitKind) (b : Bool) (theme : ThemeCharacters) (s : Style) → IsColourPairOfLayout k (layout_in kind b theme s) (layout_in kind b theme style.Plain)
 unfolding without_end_spaces
 colour_pair-layout_in k kind true theme s = record { stdout = colour_pair-bars k _ _ _ _ _; stderr = colour_pair-bars k _ _ _ _ _; combined = colour_pair-bars k _ _ _ _ _; exec_fail = colour_pair-bars k _ _ _ _ _; margin = refl; free = refl; blank = refl }
@@ -36,7 +29,7 @@ plain_style outcome.ExecFail false = refl
 plain_style (outcome.Timeout slow.Pass) false = refl
 plain_style (outcome.Timeout slow.Fail) false = refl
 
--- the output and what is said after it
+-- the output and the line after it
 pub free-unit_output : (k : Bool) (s : Settings) (kind : UnitKind) (is_retry : Bool) (x : ExecutionResultDescription) (w : Written) → IsPlainResult x → IsPlainWritten k w
     → AreFree k (unit_output s kind is_retry x w)
 unfolding unit_output info_line shown_info_line

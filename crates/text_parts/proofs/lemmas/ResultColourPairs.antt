@@ -1,4 +1,4 @@
--- Results in words, handed in without escape characters (for the lines and the outputs of tests).
+-- Results in words, without escape characters (for the lines and the outputs of tests).
 use Rattle.std.proofs.Common.{Bool, true, false, refl, Option, None, Some}
 use Rattle.run_names.specs.declared.abort.AbortDescription.TheVariants.{UnixSignal, WindowsNtStatus, WindowsJobObject}
 use Rattle.run_model.specs.declared.status.ExecutionResultDescription.{ExecutionResultDescription}
@@ -6,16 +6,12 @@ use Rattle.run_model.specs.declared.status.ExecutionResultDescription.TheVariant
 use Rattle.run_model.specs.declared.status.FailureDescription.TheVariants.{ExitCode, Abort}
 use Rattle.run_model.specs.declared.status.LeakTimeoutResult.TheVariants as leak
 use Rattle.run_model.specs.declared.status.SlowTimeoutResult.TheVariants as slow
-use Rattle.plain_text.specs.Texts.{Text}
-use Rattle.plain_text.specs.Escapes.{HasNoEscape}
+use Rattle.styled_text.specs.Names.{Text, HasNoEscape}
 use Rattle.report_words.proofs.lemmas.FreeWords.{free-signed, frees}
 use Rattle.report_words.proofs.lemmas.ColourPairs.{colour_pair-free}
 use Rattle.report_words.proofs.lemmas.PartsInColour.{AreFree}
-use Rattle.text_parts.specs.AbortLine.{indented_message, nt_message, nt_line, abort_line}
-use Rattle.text_parts.specs.InfoResult.{signal_name, signal_info, info_text}
-use Rattle.text_parts.specs.ResultWords.{long_word, short_word, success_word}
+use Rattle.text_parts.specs.Names.{indented_message, nt_message, nt_line, abort_line, signal_name, signal_info, info_text, long_word, short_word, success_word, IsPlainResult}
 use Rattle.report_words.specs.PlainTexts.{HoldsIf}
-use Rattle.report_text.specs.PlainResults.{IsPlainResult}
 
 pub free-long_word : (x : ExecutionResultDescription) → IsPlainResult x → HasNoEscape (long_word x)
 unfolding long_word

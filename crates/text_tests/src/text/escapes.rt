@@ -1,7 +1,7 @@
 //! The pieces of a text.
 
-use plain_text::escapes::{Piece, pieces, strip};
 use std::test::Fail;
+use styled_text::escapes::{Piece, pieces, strip};
 
 #[test]
 fn hands_out_pieces(rt: HostRuntime) -> Result<(), Fail> {

@@ -1,12 +1,12 @@
 //! Texts and tests that are cut: wide, combining and control characters at the cut, sequences, and parts that meet.
 
-use plain_text::fitting::{count_columns, write_fitted};
-use plain_text::style::ListStyles;
 use report_text::helpers::DisplayTestInstance;
 use report_text::helpers::instance::DisplayCounterIndex;
 use run_model::name::OwnedTestInstanceId;
 use std::alloc::Global;
 use std::test::Fail;
+use styled_text::fitting::{count_columns, write_fitted};
+use styled_text::style::ListStyles;
 use writers::text::WriteText;
 use writers::write_str::{WriteFault, WriteStr};
 

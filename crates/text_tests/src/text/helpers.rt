@@ -1,6 +1,5 @@
 //! Each form that no scene prints, with the text of nextest, and the greatest numbers.
 
-use plain_text::style::{ListStyles, Style};
 use report_text::helpers::paths::is_relative;
 use report_text::helpers::plural::*;
 use report_text::helpers::*;
@@ -11,6 +10,7 @@ use run_model::stress::StressIndex;
 use run_model::time::Nanos;
 use std::alloc::Global;
 use std::test::Fail;
+use styled_text::style::{ListStyles, Style};
 
 #[test]
 fn words_are_singular_for_one_alone(rt: HostRuntime) {

@@ -1,7 +1,7 @@
 //! Indented texts: whole, character by character, and in two levels.
 
-use plain_text::indenter::{DisplayIndented, indented};
 use std::test::Fail;
+use styled_text::indenter::{DisplayIndented, indented};
 use writers::write_str::{WriteFault, WriteStr};
 
 // Writes a text indented, character by character.

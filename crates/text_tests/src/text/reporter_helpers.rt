@@ -1,8 +1,8 @@
 //! Chunks of lines, and where a highlight ends.
 
-use plain_text::reporter_helpers::{highlight_end, print_lines_in_chunks};
 use std::alloc::Global;
 use std::test::Fail;
+use styled_text::reporter_helpers::{highlight_end, print_lines_in_chunks};
 
 // The chunks of a text, each with a bar behind it.
 fn chunks(alloc: Global, text: &str, limit: usize) -> Result<String, Fail> {

@@ -1,8 +1,8 @@
 //! Texts without their sequences, and line feeds at the end of a piece.
 
-use plain_text::stripped::write_stripped_text;
-use plain_text::trailing_newline::TrailingNewline;
 use std::test::Fail;
+use styled_text::stripped::write_stripped_text;
+use styled_text::trailing_newline::TrailingNewline;
 use writers::write_str::{WriteFault, WriteStr};
 
 // Writes the pieces without the line feed that closes them.

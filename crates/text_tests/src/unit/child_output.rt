@@ -4,8 +4,6 @@ ghost use Rattle.std.specs.Prelude.{◌≡◌, IfOk, true};
 ghost use Rattle.run_model.specs.Outputs.{has_loaded_output, is_loaded};
 
 use bytes::Bytes;
-use plain_text::escapes::strip;
-use plain_text::style::{Style, Styles};
 use report_words::theme::ThemeCharacters;
 use run_model::memory::OutOfMemory;
 use run_model::output::{
@@ -16,6 +14,8 @@ use run_model::status::ExecutionResultDescription;
 use run_model::unit::UnitKind;
 use std::alloc::Global;
 use std::test::Fail;
+use styled_text::escapes::strip;
+use styled_text::style::{Style, Styles};
 use unit_report::unit_output::{
     ChildOutputSpec, DisplayerKind, OutputDisplayOverrides, OutputHeader, OutputName,
     UnitOutputReporter,

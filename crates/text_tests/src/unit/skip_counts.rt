@@ -1,11 +1,11 @@
 //! What a run skips, also by a filter that no scene has: of another profile than the default one, and of its overrides.
 
-use plain_text::style::Styles;
 use run_model::config::{CompiledDefaultFilter, CompiledDefaultFilterSection, NextestRunMode};
 use run_model::event::SkipCounts;
 use run_model::name::ProfileName;
 use std::alloc::Global;
 use std::test::Fail;
+use styled_text::style::Styles;
 use unit_report::formatters::write_skip_counts;
 
 // The rows of nextest-runner's test `test_write_skip_counts`, and two in colour. A digit each for the tests that passed before, are

@@ -1,10 +1,10 @@
 //! The warnings at the end of a run.
 
-use plain_text::style::Styles;
 use run_model::config::NextestRunMode;
 use run_model::level::CancelReason;
 use run_model::stats::{FinalRunStats, RunStatsFailureKind};
 use std::test::Fail;
+use styled_text::style::Styles;
 use unit_report::formatters::write_final_warnings;
 
 // A run of so many tests, of which so many did not run.

@@ -1,27 +1,17 @@
 -- Captured output with its highlight, in colour and plain (for `colour_pair-shown_stream`).
 use Rattle.std.proofs.Common.{◌≡◌, ℕ, ◌<◌, Bool, true, false, List, [], ◌∷◌, ◌++◌, refl, sym, ◌∙◌, ap, ap₂, arith, inl, inr, append_assoc, append-nil, Option, None, Some, length, take, drop, take-append-drop, drop-drop, length-drop, ◌==◌}
-use Rattle.std.specs.List.{AllByRecursion, flat_map}
+use Rattle.styled_text.specs.Names.{AllByRecursion, flat_map, without_trailing_newline, ends_in_line_feed, visible_after, visible, HasNoEscape, highlight_end, indent, plain, styles_of, reset_color}
+use Rattle.styled_text.specs.Names.{style_suffix, Text, Style, onto_first_line, whole_lines, without_end_spaces}
 use Rattle.std.proofs.lemmas.Bool.{cases_Bool, eqb-true}
-use Rattle.run_model.specs.Outputs.{Part}
-use Rattle.plain_text.specs.TrailingNewline.{without_trailing_newline, ends_in_line_feed}
-use Rattle.plain_text.specs.Escapes.{visible_after, visible, HasNoEscape}
-use Rattle.plain_text.specs.Highlights.{highlight_end}
-use Rattle.plain_text.specs.Indent.{indent}
-use Rattle.run_model.specs.Decoded.{decoded_text}
-use Rattle.plain_text.specs.Style.{plain, styles_of, reset_color, style_suffix}
-use Rattle.plain_text.specs.Texts.{Text}
-use Rattle.plain_text.specs.declared.style.Style.{Style}
+use Rattle.run_model.specs.Names.{Part, decoded_text}
 use Rattle.unit_report.specs.Captured.{plain_output, reset_output, highlighted_output, is_valid, highlight_stop, highlighted_by, coloured_output, captured}
-use Rattle.plain_text.specs.Lines.{onto_first_line, whole_lines}
 use Rattle.unit_report.specs.HighlightedLines.{body_len, highlighted_line, highlighted_lines}
-use Rattle.plain_text.specs.EqualButEndSpaces.{without_end_spaces}
-use Rattle.plain_text.proofs.lemmas.Pieces.{free_parts, visible-free}
-use Rattle.plain_text.proofs.lemmas.Widths.{free_both, visible-free_append}
+use Rattle.styled_text.proofs.lemmas.Pieces.{free_parts, visible-free}
+use Rattle.styled_text.proofs.lemmas.Widths.{free_both, visible-free_append}
 use Rattle.report_words.proofs.lemmas.FreeWords.{free-take, free-drop, free-indent, free-visible}
-use Rattle.plain_text.proofs.lemmas.IndentedEndSpaces.{IsBlank}
-use Rattle.report_words.specs.InColour.{IsColourPair}
+use Rattle.styled_text.proofs.lemmas.IndentedEndSpaces.{IsBlank}
+use Rattle.report_words.specs.Names.{IsColourPair, HoldsIf}
 use Rattle.report_words.proofs.lemmas.ColourPairs.{prefix-append, suffix-append, reset-append, colour_pair-indent}
-use Rattle.report_words.specs.PlainTexts.{HoldsIf}
 use Rattle.unit_report.specs.PlainOutputs.{IsInside, IsPlainStream}
 
 -- both texts close with a line feed, and before it the visible part of the first is the second

@@ -1,13 +1,9 @@
 -- What a run skips, for a profile name without escape characters (for the line of its start).
 use Rattle.std.proofs.Common.{ℕ, Bool, codes, refl}
-use Rattle.run_names.specs.declared.config.CompiledDefaultFilter.{CompiledDefaultFilter}
-use Rattle.run_names.specs.declared.config.CompiledDefaultFilterSection.{CompiledDefaultFilterSection}
+use Rattle.run_model.specs.Names.{CompiledDefaultFilter, CompiledDefaultFilterSection, NextestRunMode, SkipCounts}
 use Rattle.run_names.specs.declared.config.CompiledDefaultFilterSection.TheVariants.{Profile, Override}
-use Rattle.run_names.specs.declared.config.NextestRunMode.{NextestRunMode}
-use Rattle.run_model.specs.declared.event.SkipCounts.{SkipCounts}
-use Rattle.plain_text.specs.Texts.{Text}
-use Rattle.plain_text.specs.Escapes.{HasNoEscape}
-use Rattle.plain_text.proofs.lemmas.Widths.{free_both}
+use Rattle.styled_text.specs.Names.{Text, HasNoEscape}
+use Rattle.styled_text.proofs.lemmas.Widths.{free_both}
 use Rattle.report_words.proofs.lemmas.PartsInColour.{AreFree}
 use Rattle.unit_report.specs.SkipCounts.{override_name, filter_name, via_filter, filtered_text, included_text, skip_reason, skip_note}
 

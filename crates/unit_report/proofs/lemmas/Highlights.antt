@@ -2,11 +2,8 @@
 use Rattle.std.proofs.Common.{◌≡◌, ℕ, true, false, ◌==◌, ◌&&◌, Bool, refl, ◌∙◌, arith, drop, drop-drop}
 use Rattle.std.proofs.lemmas.Bool.Decides.{nat_tests}
 use Rattle.std.proofs.lemmas.Str.{IsCharBoundary-from_rest}
-use Rattle.std.specs.List.{starts_with}
-use Rattle.std.specs.Str.{IsCharBoundary}
+use Rattle.styled_text.specs.Names.{starts_with, IsCharBoundary, highlight_end, Text}
 use Rattle.run_model.specs.Outputs.{Part}
-use Rattle.plain_text.specs.Highlights.{highlight_end}
-use Rattle.plain_text.specs.Texts.{Text}
 use Rattle.unit_report.specs.Captured.{ends_character, highlight_stop, is_valid}
 
 boundary-ends : (n : ℕ) (t : Text) → IsCharBoundary t n → ends_character n t ≡ true

@@ -1,22 +1,11 @@
 -- The output of a unit, in colour and plain (for the output of attempts and of answers).
 use Rattle.std.proofs.Common.{◌≡◌, ℕ, Bool, true, false, refl, List, [], ◌∷◌, Option, None, Some, codes}
-use Rattle.std.specs.List.{AllByRecursion, flat_map}
-use Rattle.std.specs.Option.{option_and_then}
-use Rattle.run_names.specs.ErrorChains.{MessageAndCauses}
-use Rattle.run_model.specs.Outputs.{Part, stdout_part, stderr_part}
-use Rattle.run_model.specs.declared.output.ChildExecutionOutputDescription.{ChildExecutionOutputDescription}
+use Rattle.styled_text.specs.Names.{AllByRecursion, flat_map, option_and_then, Text, HasNoEscape, styles_of, Style, Styles}
+use Rattle.run_model.specs.Names.{MessageAndCauses, Part, stdout_part, stderr_part, ChildExecutionOutputDescription, ChildOutputDescription, Highlight, LiveSpec}
 use Rattle.run_model.specs.declared.output.ChildExecutionOutputDescription.TheVariants.{Output, StartError}
-use Rattle.run_model.specs.declared.output.ChildOutputDescription.{ChildOutputDescription}
 use Rattle.run_model.specs.declared.output.ChildOutputDescription.TheVariants.{Split, Combined, NotLoaded}
-use Rattle.run_model.specs.declared.output.Highlight.{Highlight}
-use Rattle.run_model.specs.declared.output.LiveSpec.{LiveSpec}
-use Rattle.plain_text.specs.Texts.{Text}
-use Rattle.plain_text.specs.Escapes.{HasNoEscape}
-use Rattle.plain_text.specs.Style.{styles_of}
-use Rattle.report_words.specs.declared.theme.ThemeCharacters.{ThemeCharacters}
-use Rattle.plain_text.specs.declared.style.Style.{Style}
-use Rattle.plain_text.specs.declared.style.Styles.{Styles}
-use Rattle.plain_text.specs.declared.style.Style.TheVariants as style
+use Rattle.report_words.specs.Names.{ThemeCharacters, IsColourPair, EndsLine, drawn_given, words, ◌⧺◌, HoldsIf, IsPlainChain}
+use Rattle.styled_text.specs.declared.style.Style.TheVariants as style
 use Rattle.unit_report.specs.ErrorChain.{cause_text, causes_text, error_chain_text}
 use Rattle.unit_report.specs.Header.{output_name_text, bar_text, header_text}
 use Rattle.unit_report.specs.UnitOutput.{OutputLayout, not_captured_text, shown_stream, present_stream, stream_text, both_streams, split_text, child_output, errors_block, errors_text, execution_output}
@@ -26,12 +15,9 @@ use Rattle.unit_report.specs.declared.unit_output.header.OutputName.{OutputName}
 use Rattle.unit_report.specs.declared.unit_output.header.OutputName.TheVariants as name
 use Rattle.unit_report.specs.declared.unit_output.reporter.UnitOutputReporter.{UnitOutputReporter}
 use Rattle.report_words.proofs.lemmas.FreeWords.{frees}
-use Rattle.plain_text.proofs.lemmas.IndentedEndSpaces.{IsBlank}
-use Rattle.report_words.specs.InColour.{IsColourPair}
-use Rattle.report_words.specs.Parts.{EndsLine, drawn_given, words, ◌⧺◌}
+use Rattle.styled_text.proofs.lemmas.IndentedEndSpaces.{IsBlank}
 use Rattle.report_words.proofs.lemmas.PartsInColour.{ends}
 use Rattle.report_words.proofs.lemmas.ColourPairs.{colour_pair-none, colour_pair-append, colour_pair-free, colour_pair-if, colour_pairs}
-use Rattle.report_words.specs.PlainTexts.{HoldsIf, IsPlainChain}
 use Rattle.unit_report.specs.PlainOutputs.{IsPlainStream, IsPlainOutput, IsPlainWritten}
 use Rattle.unit_report.proofs.lemmas.CapturedColourPairs.{colour_pair-indent_ended, ended-captured}
 

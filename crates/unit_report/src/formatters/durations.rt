@@ -1,15 +1,14 @@
 //! Durations as the lines of a report show them.
 
 ghost use Rattle.std.specs.Prelude.{Some};
-ghost use Rattle.plain_text.specs.Numbers.{seconds};
-ghost use Rattle.writers.specs.Writer.{Puts};
+ghost use Rattle.styled_text.specs.Names.{seconds, Puts};
 ghost use Rattle.unit_report.specs.Durations.{bracketed_clock, bracketed_duration, duration_by, slow_duration};
 
-use plain_text::numbers::{write_bracketed_seconds, write_seconds_between};
 use report_words::durations::write_clock_between;
 use run_model::time::Nanos;
 use std::fmt;
 use std::fmt::Formatter;
+use styled_text::numbers::{write_bracketed_seconds, write_seconds_between};
 use writers::show_written;
 use writers::text::WriteText;
 use writers::write_str::{WriteFault, WriteStr};

@@ -5,11 +5,11 @@ ghost use Rattle.writers.specs.Writer.{Puts};
 ghost use Rattle.report_words.specs.Parts.{paint};
 ghost use Rattle.unit_report.specs.SkipCounts.{filter_name, included_text, skip_counts_text, skip_reason, skipped_tests_in, tests_and_binaries, tests_text, via_filter};
 
-use plain_text::style::Styles;
-use plain_text::text::{Number, Painted, Toned};
 use report_words::plural::{binaries_str, tests_str};
 use run_model::config::{CompiledDefaultFilter, CompiledDefaultFilterSection, NextestRunMode};
 use run_model::event::SkipCounts;
+use styled_text::style::Styles;
+use styled_text::text::{Number, Painted, Toned};
 use writers::text::{Unless, WriteText};
 use writers::write_str::{WriteFault, WriteStr};
 
@@ -134,7 +134,7 @@ impl WriteText for ViaFilter<'_> {
     }
 }
 
-#[tactic(auto, unfolding(crate::specs::SkipCounts::override_name, plain_text::specs::Style::plain))]
+#[tactic(auto, unfolding(crate::specs::SkipCounts::override_name, styled_text::specs::Style::plain))]
 fn write_filter_name<W: WriteStr>(
     w: &mut W,
     styles: &Styles,

@@ -4,12 +4,12 @@ ghost use Rattle.writers.specs.Writer.{Puts};
 ghost use Rattle.report_words.specs.Parts.{paint};
 ghost use Rattle.unit_report.specs.Warnings.{due_to, final_warnings, hint_after, not_run_warning, options_hint, warning_of};
 
-use plain_text::style::Styles;
-use plain_text::text::{Number, Toned};
 use report_words::plural::{tests_plural_if, were_plural_if};
 use run_model::config::NextestRunMode;
 use run_model::level::CancelReason;
 use run_model::stats::{FinalRunStats, RunStatsFailureKind};
+use styled_text::style::Styles;
+use styled_text::text::{Number, Toned};
 use writers::text::{Unless, WriteText};
 use writers::write_str::{WriteFault, WriteStr};
 

@@ -5,16 +5,15 @@
 
 ghost use Rattle.std.specs.Prelude.{◌≡◌, true, false, take, drop, MatchOption};
 ghost use Rattle.run_model.specs.Outputs.{subslice_value};
-ghost use Rattle.plain_text.specs.Highlights.{highlight_end};
-ghost use Rattle.writers.specs.Writer.{Puts};
+ghost use Rattle.styled_text.specs.Names.{highlight_end, Puts};
 ghost use Rattle.unit_report.specs.Captured.{captured, coloured_output, highlight_stop, is_valid, part_value, reset_output};
 
 use super::highlighted_lines::write_highlighted_lines;
-use plain_text::reporter_helpers::highlight_end;
-use plain_text::stripped::write_stripped_text;
-use plain_text::style::{RESET_COLOR, Style, Styles, write_plain};
-use plain_text::trailing_newline::split_trailing_newline;
 use run_model::output::ByteSubslice;
+use styled_text::reporter_helpers::highlight_end;
+use styled_text::stripped::write_stripped_text;
+use styled_text::style::{RESET_COLOR, Style, Styles, write_plain};
+use styled_text::trailing_newline::split_trailing_newline;
 use writers::text::WriteText;
 use writers::write_str::{WriteFault, WriteStr};
 

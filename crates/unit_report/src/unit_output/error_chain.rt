@@ -1,12 +1,11 @@
 //! An error and its causes, as text.
 
-ghost use Rattle.std.specs.List.{flat_map};
-ghost use Rattle.writers.specs.Writer.{Puts};
+ghost use Rattle.styled_text.specs.Names.{flat_map, Puts};
 ghost use Rattle.unit_report.specs.ErrorChain.{cause_text, error_chain_text};
 
-use plain_text::text::IndentLater;
 use run_model::abort::DescriptionText;
 use run_model::output::ErrorChain;
+use styled_text::text::IndentLater;
 use writers::text::{Unless, WriteText};
 use writers::write_str::{WriteFault, WriteStr};
 

@@ -1,16 +1,16 @@
 //! What begins and what ends a style, for formatting.
 
 ghost use Rattle.std.specs.Prelude.{Some};
-ghost use Rattle.plain_text.specs.Style.{style_prefix, style_suffix};
+ghost use Rattle.styled_text.specs.Style.{style_prefix, style_suffix};
 
-use plain_text::style::Style;
 use std::fmt;
 use std::fmt::Formatter;
+use styled_text::style::Style;
 
 /// Displays the prefix of a style: ESC `[` code `m`, or nothing.
 ///
 /// ```
-/// use plain_text::style::Style;
+/// use styled_text::style::Style;
 /// assert_eq!(FmtPrefix(Style::BoldRed).to_string(alloc)?.as_str(), "\x1b[31;1m");
 /// ```
 #[derive(Clone, Copy, PartialEq, Eq)]

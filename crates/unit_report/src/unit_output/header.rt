@@ -3,9 +3,9 @@
 ghost use Rattle.std.specs.Prelude.{◌≡◌};
 ghost use Rattle.unit_report.specs.Header.{bar_text, header_text, output_name_text};
 
-use plain_text::style::Style;
-use plain_text::text::{Painted, Toned};
 use report_words::theme::ThemeCharacters;
+use styled_text::style::Style;
+use styled_text::text::{Painted, Toned};
 use writers::text::WriteText;
 use writers::write_str::{WriteFault, WriteStr};
 

@@ -4,9 +4,9 @@ ghost use Rattle.std.specs.Prelude.{◌≡◌, take, drop};
 ghost use Rattle.writers.specs.Writer.{Puts};
 ghost use Rattle.unit_report.specs.HighlightedLines.{body_len, closes_line, highlighted_line, highlighted_lines};
 
-use plain_text::escapes::write_stripped;
-use plain_text::lines::split_line;
-use plain_text::style::Style;
+use styled_text::escapes::write_stripped;
+use styled_text::lines::split_line;
+use styled_text::style::Style;
 use writers::write_str::{WriteFault, WriteStr};
 
 /// Writes a text line by line in this style, without its escape sequences.

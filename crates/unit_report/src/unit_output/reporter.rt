@@ -1,10 +1,8 @@
 //! What is shown of the output of a test or a setup script.
 
 ghost use Rattle.std.specs.Prelude.{◌≡◌, ◌∷◌, ◌++◌, [], true};
-ghost use Rattle.std.specs.Option.{option_map, option_and_then};
+ghost use Rattle.styled_text.specs.Names.{option_map, option_and_then, indent, Puts};
 ghost use Rattle.run_model.specs.Outputs.{combined_part, has_loaded_output, is_loaded, stderr_part, stdout_part, subslice_value};
-ghost use Rattle.plain_text.specs.Indent.{indent};
-ghost use Rattle.writers.specs.Writer.{Puts};
 ghost use Rattle.unit_report.specs.Captured.{captured};
 ghost use Rattle.unit_report.specs.ErrorChain.{error_chain_text};
 ghost use Rattle.unit_report.specs.UnitOutput.{both_streams, child_output, errors_block, errors_text, execution_output, layout_of, not_captured_text, present_stream, shown_stream, split_text, stream_text};
@@ -14,14 +12,14 @@ use super::captured::Captured;
 use super::error_chain::DisplayErrorChain;
 use super::header::{OutputHeader, OutputName};
 use super::overrides::OutputDisplayOverrides;
-use plain_text::style::{Styles, write_plain};
-use plain_text::text::{Indent, Toned};
 use run_model::boxed::Boxed;
 use run_model::output::{
     ByteSubslice, ChildExecutionOutputDescription, ChildOutputDescription, ChildSingleOutput,
     ErrorChain, Highlight, LiveSpec,
 };
 use run_model::unit::UnitKind;
+use styled_text::style::{Styles, write_plain};
+use styled_text::text::{Indent, Toned};
 use writers::text::WriteText;
 use writers::write_str::{WriteFault, WriteStr};
 

@@ -1,4 +1,4 @@
--- What a device took of what a `TextBuffer` accepted (for `delivery_law`).
+-- What a device took of the text that a `TextBuffer` accepted (for `delivery_law`).
 use Rattle.std.proofs.Common.{◌≡◌, ℕ, List, [], ◌++◌, Option, Some, sym, ap, ◌∙◌, append_assoc}
 use Rattle.std.proofs.lemmas.List.{append_cancel_left}
 use Rattle.writers.specs.TextBuffer.{BufferAccepts, BufferStops, Delivers, DeliversWithin, GrowsWithin}
@@ -13,7 +13,7 @@ taken_of old held new pending text taken d g = record {
   rest = append_cancel_left old (taken ++ pending) (held ++ text) (sym (append_assoc old taken pending) ∙ ap (λ x. x ++ pending) (sym d) ∙ g ∙ append_assoc old held text);
 }
 
--- where nothing was pending, the device took a beginning of the text
+-- if nothing was pending, the device took a prefix of the text
 pub begins_of : (old held new pending text : List ℕ) → held ≡ [] → DeliversWithin old held new pending text → GrowsWithin old new text
 begins_of old held new pending text none h =
     let rest = h.delivers.rest in

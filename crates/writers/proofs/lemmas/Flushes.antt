@@ -1,4 +1,4 @@
--- A text that is delivered once it was written.
+-- A text that is delivered after it was written.
 use Rattle.std.proofs.Common.{ℕ, List, [], subst, append-nil, Result, Ok, Err}
 use Rattle.writers.specs.Writer.{Meaning, WriterLaws, Puts}
 use Rattle.writers.specs.declared.write_str.WriteFault.{WriteFault}

@@ -1,4 +1,4 @@
--- Writes in turn (for `ColumnCounterWriteStr::write_str`, `TrailingNewline::write`, `FittedWriteStr::write_str`, `Indented::write_line` and others).
+-- Writes in sequence (for `ColumnCounterWriteStr::write_str`, `TrailingNewline::write`, `FittedWriteStr::write_str`, `Indented::write_line` and others).
 use Rattle.std.proofs.Common.{◌≡◌, ℕ, List, [], ◌∷◌, ◌++◌, true, length, arith, ◌≤◌, take, drop, take-append-drop, ◌==◌, Result, Ok, Err, subst, sym}
 use Rattle.std.proofs.lemmas.Bool.{eqb-true}
 use Rattle.std.proofs.lemmas.List.{drop_all}
@@ -26,15 +26,15 @@ module _ {S : Type 0} {m : Meaning S} (laws : WriterLaws m) where
   pub owes_all : (a : S) (t : List ℕ) → Owes m a t a t
   owes_all a t r c p = p
 
-  -- A front of what is owed is accepted: the rest is owed.
+  -- A prefix of what is owed is accepted: the rest is owed.
   pub owes_accepted : (a b c : S) (text rest t u : List ℕ) → Owes m a text b rest → rest ≡ t ++ u → m.accepts b t c → Owes m a text c u
   owes_accepted a b c text rest t u o h p r d q = o r d (subst (λ x. Puts m b x r d) (sym h) (puts_then b c d t u r p q))
 
-  -- A front of what is owed is stopped, at the exit of a `?`.
+  -- A prefix of what is owed is stopped, at the exit of a `?`.
   pub owes_stopped : (a b c : S) (text rest t u : List ℕ) (e : WriteFault) (r : Result (Unit {0}) WriteFault) → Owes m a text b rest → rest ≡ t ++ u → IsErrAnd r (λ f. f ≡ e) → m.stops b t e c → Puts m a text r c
   owes_stopped a b c text rest t u e r o h x s = o r c (at_exit b c rest e r x (stops_early b c t u rest e h s))
 
-  -- Nothing is owed any more.
+  -- Nothing more is owed.
   pub owes_done : (a b : S) (text rest : List ℕ) → Owes m a text b rest → true ≡ (length rest == 0) → m.accepts a text b
   owes_done a b text [] o h = o (Ok tt) b (laws.nothing b)
   owes_done a b text (x ∷ xs) o h = let e : length (x ∷ xs) ≡ 0 = eqb-true (length (x ∷ xs)) 0 (sym h) in absurd (omega arith)

@@ -1,4 +1,4 @@
-//! What a device holds of what a `TextBuffer` accepted.
+//! What a device holds of the text that a `TextBuffer` accepted.
 
 ghost use Rattle.std.specs.Prelude.{◌≡◌, ℕ, [], List, Some};
 ghost use Rattle.writers.specs.TextBuffer.{buffer_meaning, Delivers, DeliversWithin, GrowsWithin};
@@ -7,9 +7,9 @@ ghost use Rattle.writers.specs.declared.write_str.text_buffer.TextBuffer.{TextBu
 
 use std::io::Write;
 
-/// Over a device that tells its bytes: it holds what it held, and what it took since. With what is pending, that is what
-/// was pending and the text, or on a fault a beginning of the text. So where nothing was pending, a fault leaves on the
-/// device what it held and a beginning of the text.
+/// For a device whose bytes are known: it holds what it held, and what it took since. Followed by what is pending, that is what
+/// was pending and the text, or after a fault a prefix of the text. So if nothing was pending, a fault leaves on the
+/// device what it held and a prefix of the text.
 #[tactic(auto, using(crate::proofs::lemmas::Deliveries::accepted_delivers))]
 pub fn delivery_law<W: Write>()
     ensures accepted { (a b : TextBuffer W) (old new text : List ℕ) → W.contents a.writer ≡ Some old → W.contents b.writer ≡ Some new →

@@ -30,7 +30,7 @@ macro_rules! show_written {
     ($value:expr, $formatter:expr) => {{
         let mut out = $crate::write_str::OnFormatter::new($formatter);
         let result = $value.write_to(&mut out);
-        // The formatter is given back, so that what it shows is known.
+        // The formatter is returned, so that what it shows is known.
         let back = out.into_inner();
         let _ = &*back;
         match result {
@@ -59,7 +59,7 @@ impl<'a, W> OnFormatter<'a, W> {
         }
     }
 
-    /// Gives the formatter back.
+    /// Returns the formatter.
     pub fn into_inner(self) -> &'a mut Formatter<W>
         ensures now { result.now ≡ self.entry.formatter.now }
         ensures same { result.ghost_name ≡ self.entry.formatter.ghost_name }

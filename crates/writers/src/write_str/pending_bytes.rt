@@ -44,7 +44,7 @@ impl PendingBytes {
         &self.memory.as_slice()[..self.len]
     }
 
-    /// The bytes, in the memory in which they were gathered.
+    /// The bytes, in the memory that held them.
     pub(super) fn into_vec(self) -> Vec<u8>
         ensures { result.items ≡ self }
     {
@@ -53,7 +53,7 @@ impl PendingBytes {
         memory
     }
 
-    /// How many bytes have room.
+    /// How many more bytes fit.
     #[inline]
     pub(super) fn room(&self) -> usize
         ensures { length self.now + result ≡ 8192 }
@@ -61,7 +61,7 @@ impl PendingBytes {
         CAPACITY - self.len
     }
 
-    /// Gathers bytes that have room.
+    /// Gathers bytes that fit.
     #[inline]
     pub(super) fn push(&mut self, bytes: &[u8])
         requires { length self.old + length bytes.now ≤ 8192 }

@@ -1,4 +1,4 @@
-//! A device whose interrupted calls are made again.
+//! A device whose interrupted calls are repeated.
 
 ghost use Rattle.std.specs.Prelude.{◌≡◌, ◌≢◌, IfErr};
 ghost use Rattle.std.specs.IoError.{error_kind};
@@ -8,10 +8,10 @@ ghost use Rattle.std.specs.Io.KnownBytes.{Keeps, WriteAppends};
 use std::io;
 use std::io::{ErrorKind, Write};
 
-/// Makes a write and a flush again where a signal interrupted it, as Rust's `write_all` does with writes.
+/// Repeats a write or a flush that a signal interrupted, like Rust's `write_all`.
 ///
-/// To a [`TextBuffer`](super::TextBuffer) every error is a failure of the device, so this stands in front of a device that signals
-/// interrupt, such as standard output. It holds what the device holds, and allocates nothing.
+/// To a [`TextBuffer`](super::TextBuffer) every error is a failure of the device, so a device that signals can
+/// interrupt, such as standard output, is wrapped in this. It holds what the device holds, and allocates nothing.
 ///
 /// ```
 /// use std::io::Write;

@@ -1,7 +1,7 @@
 //! Text that is gathered for a device.
 //!
-//! Reports are made of short texts, so a call for each would cost more than the texts do. The memory is reserved once,
-//! and no later call takes any.
+//! Reports consist of short texts, and a system call for each would cost more than the texts do. The memory is reserved once,
+//! and no later call allocates.
 
 ghost use Rattle.std.specs.Prelude.{◌≡◌, ◌≤◌, length, take};
 ghost use Rattle.std.specs.Bool.{OnTrue};
@@ -14,9 +14,9 @@ use std::io::Write;
 
 /// Gathers text and delivers it to a device, such as a file or standard output.
 ///
-/// Its accepted text is what was delivered followed by what is pending. A device fails where it answers an error of any
-/// kind, or takes none of the bytes that it was given; what was not delivered then stays pending. Where signals can interrupt the
-/// device, [`RetryInterrupted`](super::RetryInterrupted) stands in front of it.
+/// Its accepted text is what was delivered followed by what is pending. A device fails if it returns an error of any
+/// kind, or takes none of the given bytes; what was not delivered then stays pending. If signals can interrupt the
+/// device, wrap it in a [`RetryInterrupted`](super::RetryInterrupted).
 ///
 /// ```
 /// use std::io;
@@ -36,7 +36,7 @@ impl<W: Write> TextBuffer<W> {
     ghost use Rattle.writers.specs.TextBuffer.{buffer_meaning};
     ghost use Rattle.writers.specs.Writer.{Puts};
 
-    /// Reserves the memory, 8,192 bytes, once. Where that is refused, the device is given back.
+    /// Reserves the memory, 8,192 bytes, once. If that is refused, the device is returned.
     pub fn new(alloc: Global, writer: W) -> Result<TextBuffer<W>, (AllocError, W)>
         ensures ok { IfOk result (λ b. (b.writer ≡ writer) × (b.pending ≡ []) × (b.failures ≡ 0)) }
         ensures err { IfErr result (λ refused. refused.1 ≡ writer) }
@@ -59,7 +59,7 @@ impl<W: Write> TextBuffer<W> {
         (self.writer, self.pending.into_vec())
     }
 
-    // Delivers what is pending. What a failure leaves stays pending.
+    // After a failure, what was not delivered stays pending.
     fn deliver(&mut self) -> Result<(), WriteFault>
         ensures text { Puts (buffer_meaning W.contents) self.old [] result self.new }
         ensures empty { OnOk result (self.new.pending ≡ []) }
@@ -85,7 +85,7 @@ impl<W: Write> TextBuffer<W> {
         self.write_long(bytes)
     }
 
-    // Gathers bytes for which there is no room, a piece at a time.
+    // Gathers bytes that do not fit, a piece at a time.
     #[cold]
     #[inline(never)]
     fn write_long(&mut self, bytes: &[u8]) -> Result<(), WriteFault>
@@ -101,7 +101,7 @@ impl<W: Write> TextBuffer<W> {
         Ok(())
     }
 
-    // Gathers a piece, after a delivery where there is no room.
+    // Gathers a piece, after a delivery if it does not fit.
     fn write_piece(&mut self, piece: &[u8]) -> Result<(), WriteFault>
         requires { length piece.now ≤ 8192 }
         ensures { Puts (buffer_meaning W.contents) self.old piece.now result self.new }
@@ -136,7 +136,7 @@ impl<W: Write> WriteStr for TextBuffer<W> {
     }
 }
 
-// Writes until all is taken or a write fails, and says how many bytes were taken and whether all was.
+// Writes until all is taken or a write fails, and returns how many bytes were taken and whether all were.
 fn send<W: Write>(bytes: &[u8], to: &mut W) -> (usize, bool)
     ensures bound { result.0 ≤ length bytes.now }
     ensures all { OnTrue result.1 (result.0 ≡ length bytes.now) }

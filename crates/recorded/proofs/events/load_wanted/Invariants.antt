@@ -1,6 +1,5 @@
 use Rattle.std.proofs.Common.{◌≡◌, ◌≤◌, ◌-◌, ◌^◌, drop}
-use Rattle.recorded.specs.Outputs.{counted}
-use Rattle.recorded.specs.Events.{is_undamaged, outputs_len, wanted}
+use Rattle.recorded.specs.Names.{counted, is_undamaged, outputs_len, wanted}
 use Rattle.recorded.proofs.lemmas.Fields.{IsLeft, IsLeftEvent}
 use Rattle.recorded.proofs.events.load_wanted.Given as goal
 

@@ -2,7 +2,7 @@ use Rattle.std.proofs.Common.{◌≡◌, ◌↔◌, Option, None, Some, Result, 
 use Rattle.std.specs.Result.{result_ok}
 use Rattle.report_words.proofs.run_id.parsed_id.Goals as goal
 
--- a parser answers `Ok` exactly where there is something, and with that
+-- a parser returns `Ok` exactly if there is a value, and with it
 parsed_or_none : {A E : Type 0} (o : Option A) (r : Result A E) → (IsOk r ↔ ((x : A) × (o ≡ Some x))) → IfOk r (λ x. Some x ≡ o) → result_ok r ≡ o
 parsed_or_none o (Ok x) is_there same = same
 parsed_or_none None (Err e) is_there same = refl

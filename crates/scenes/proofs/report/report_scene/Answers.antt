@@ -1,7 +1,6 @@
 use Rattle.std.proofs.Common.{ℕ, List, inl, inr, refl}
-use Rattle.command_line.specs.Faults.{IsJudgeFault}
+use Rattle.scenes.specs.Names.{IsJudgeFault, IsFaultOf}
 use Rattle.scenes.proofs.Common.{Fault, Line, LineFault, OutOfMemory}
-use Rattle.scenes.specs.ParsedScenes.{IsFaultOf}
 use Rattle.scenes.proofs.report.report_scene.Goals as goal
 
 -- the fault of a refused call is one of judging

@@ -1,6 +1,5 @@
 use Rattle.std.proofs.Common.{arith, refl}
-use Rattle.recorded.specs.Outputs.{counted}
-use Rattle.recorded.specs.Runs.{lines_replayed, needed_bytes}
+use Rattle.recorded.specs.Names.{counted, lines_replayed, needed_bytes}
 use Rattle.recorded.proofs.lemmas.Reports.{prints_on_ok, reads_on_ok, spelled_on_ok}
 use Rattle.scenes.specs.Prints.{PrintsFollowed, device}
 use Rattle.recorded.proofs.runs.RecordedRun.replay.Goals as goal

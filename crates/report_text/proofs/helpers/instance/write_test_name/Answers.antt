@@ -1,5 +1,5 @@
 use Rattle.std.proofs.Common.{◌≡◌, rules}
-use Rattle.plain_text.specs.declared.style.Style.TheVariants.{Plain}
+use Rattle.styled_text.specs.declared.style.Style.TheVariants.{Plain}
 use Rattle.report_text.proofs.lemmas.PlainNames.{plain_name}
 use Rattle.report_text.proofs.helpers.instance.write_test_name.Goals as goal
 

@@ -1,9 +1,8 @@
 use Rattle.std.proofs.Common.{drop}
-use Rattle.std.specs.List.{flat_map}
+use Rattle.styled_text.specs.Names.{flat_map, Owes}
 use Rattle.report_text.specs.Interceptor.{listed_test}
-use Rattle.writers.specs.Writer.{Owes}
 use Rattle.report_text.proofs.helpers.interceptor.write_listed.Given as goal
 
--- the tests that are left are owed
+-- the remaining tests are owed
 abbrev pub invariant-loop-test_instance : goal.invariant-loop-test_instance
 invariant-loop-test_instance g l = Owes g.W.WriteStr.meaning l.fn.w (flat_map (listed_test l.list_styles) l.test_instances) l.w (flat_map (listed_test l.list_styles) (drop l.test_instance-index l.test_instances))

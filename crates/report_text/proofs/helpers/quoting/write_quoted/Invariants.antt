@@ -5,7 +5,7 @@ use Rattle.report_text.specs.Quoting.{quoted_text}
 use Rattle.writers.specs.Writer.{Owes}
 use Rattle.report_text.proofs.helpers.quoting.write_quoted.Given as goal
 
--- what is left is owed
+-- the rest is owed
 abbrev pub invariant-loop-front : goal.invariant-loop-front
 invariant-loop-front g l = shadow (Utf8 l.rest) × Owes g.W.WriteStr.meaning l.fn.w (quoted_text l.text) l.w (quoted_text l.rest)
 

@@ -1,9 +1,8 @@
 use Rattle.std.proofs.Common.{◌++◌, drop}
-use Rattle.std.specs.List.{flat_map}
+use Rattle.styled_text.specs.Names.{flat_map, Owes}
 use Rattle.report_text.specs.Quoting.{shell_word}
-use Rattle.writers.specs.Writer.{Owes}
 use Rattle.report_text.proofs.helpers.quoting.write_words_after.Given as goal
 
--- the words that are left are owed
+-- the remaining words are owed
 abbrev pub invariant-loop-word : goal.invariant-loop-word
 invariant-loop-word g l = Owes g.W.WriteStr.meaning l.fn.w (flat_map (λ word. l.separator ++ shell_word (g.T.CommandWord.text word)) l.words) l.w (flat_map (λ word. l.separator ++ shell_word (g.T.CommandWord.text word)) (drop l.word-index l.words))

@@ -1,8 +1,7 @@
 use Rattle.std.proofs.Common.{◌≡◌, [], ap, rules}
 use Rattle.std.specs.Iterator.Adapters.{rev_source}
 use Rattle.writers.proofs.lemmas.Steps.{owes_accepted, owes_nothing, owes_stopped}
-use Rattle.reporter_state.specs.Entries.{shown_entries}
-use Rattle.reporter_state.specs.Keys.{shown_of}
+use Rattle.reporter_state.specs.Names.{shown_entries, shown_of}
 use Rattle.reporter_state.proofs.lemmas.Inserts.{text-left}
 use Rattle.reporter_state.proofs.kept.KeptEntries.write.Goals as goal
 

@@ -1,7 +1,5 @@
-use Rattle.std.specs.Iterator.Adapters.{rev_source}
-use Rattle.writers.specs.Writer.{Owes}
-use Rattle.reporter_state.specs.Entries.{shown_entries}
-use Rattle.reporter_state.specs.Keys.{shown_of}
+use Rattle.styled_text.specs.Names.{rev_source, Owes}
+use Rattle.reporter_state.specs.Names.{shown_entries, shown_of}
 use Rattle.reporter_state.proofs.kept.KeptEntries.write.Given as goal
 
 -- the remaining entries are owed

@@ -1,6 +1,5 @@
 use Rattle.std.proofs.Common.{◌≡◌, ◌+◌, ◌∷◌, ap, map, refl, ◌∙◌}
-use Rattle.scene_fields.specs.Split.{pieces_left}
-use Rattle.scene_text.specs.SceneTexts.{plain_line, text_lines}
+use Rattle.scene_text.specs.Names.{pieces_left, plain_line, text_lines}
 use Rattle.scene_text.proofs.lemmas.Tellings.{leaves_here, leaves_refused, reads_none, reads_on}
 use Rattle.scene_text.proofs.reader.LinesRead.read_more.Goals as goal
 

@@ -1,6 +1,5 @@
 use Rattle.std.proofs.Common.{◌≡◌, map}
-use Rattle.scene_fields.specs.Split.{pieces_left}
-use Rattle.scene_text.specs.SceneTexts.{plain_line, text_lines}
+use Rattle.scene_text.specs.Names.{pieces_left, plain_line, text_lines}
 use Rattle.scene_text.proofs.lemmas.Tellings.{ReadsOn}
 use Rattle.scene_text.proofs.reader.LinesRead.read_more.Given as goal
 

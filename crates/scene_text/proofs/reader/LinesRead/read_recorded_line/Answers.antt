@@ -1,9 +1,7 @@
 use Rattle.std.proofs.Common.{◌≡◌, Some, false, true, sym, ap, ◌∙◌}
 use Rattle.std.specs.Str.{is_utf8}
 use Rattle.scene_fields.proofs.lemmas.Utf8.{utf8_passes}
-use Rattle.scene_fields.specs.Fields.{none_noted}
-use Rattle.scene_fields.specs.Split.{field_texts, split_on}
-use Rattle.scene_text.specs.SceneTexts.{before_next, is_passed_over, line_from, line_words}
+use Rattle.scene_text.specs.Names.{none_noted, field_texts, split_on, before_next, is_passed_over, line_from, line_words}
 use Rattle.scene_text.proofs.lemmas.Recorded.{stored_by}
 use Rattle.scene_text.proofs.reader.LinesRead.read_recorded_line.Goals as goal
 

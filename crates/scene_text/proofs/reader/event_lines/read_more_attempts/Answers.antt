@@ -1,11 +1,8 @@
 use Rattle.std.proofs.Common.{◌≡◌, ℕ, suc, ◌-◌, ◌+◌, ◌/◌, ◌^◌, ◌<◌, true, false, Result, Ok, nat_lt, ap, refl, sym, ◌∙◌, arith}
 use Rattle.std.proofs.lemmas.Bool.Decides.{nat_tests}
 use Rattle.std.proofs.lemmas.Result.{err_from_is_err_and}
-use Rattle.scene_fields.specs.Fields.{Line, Place, Fails, goes_on}
-use Rattle.scene_fields.specs.declared.fault.LineError.{LineError}
+use Rattle.scene_text.specs.Names.{Line, Place, Fails, goes_on, LineError, LineFault, attempts_from}
 use Rattle.scene_fields.specs.declared.fault.LineError.TheVariants as error
-use Rattle.scene_fields.specs.declared.fault.LineFault.{LineFault}
-use Rattle.scene_text.specs.EventLines.{attempts_from}
 use Rattle.scene_text.proofs.reader.event_lines.read_more_attempts.Goals as goal
 
 -- a fault of what is read first is that of all

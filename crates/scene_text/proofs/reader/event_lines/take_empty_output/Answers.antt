@@ -1,9 +1,5 @@
 use Rattle.std.proofs.Common.{◌≡◌, ℕ, ◌+◌, List, ◌++◌, true, drop, Option, None, Some, Ok, refl, ap, sym, ◌∙◌, arith}
-use Rattle.scene_events.specs.SceneOutputs.{no_output}
-use Rattle.scene_fields.specs.Fields.{Noted, Place, noting, stored_among}
-use Rattle.scene_fields.specs.Split.{cut}
-use Rattle.scene_fields.specs.Texts.{unescaped_after}
-use Rattle.scene_text.specs.EventLines.{after_streams, output_fields, spelled_output_fields, empty_output_fields, TakesEmptyOutput}
+use Rattle.scene_text.specs.Names.{no_output, Noted, Place, noting, stored_among, cut, unescaped_after, after_streams, output_fields, spelled_output_fields, empty_output_fields, TakesEmptyOutput}
 use Rattle.scene_text.proofs.lemmas.Outputs.{place_by}
 use Rattle.scene_text.proofs.reader.event_lines.take_empty_output.Goals as goal
 

@@ -10,8 +10,7 @@ use mir.Syntax.{Width}
 use Rattle.jiff_core.specs.Calendar.{days_in_month, IsBetween, IsDate, IsYear}
 use Rattle.jiff_core.specs.Date.{IsYmd}
 use Rattle.jiff_core.specs.declared.civil.date.Date.{Date}
-use Rattle.scene_events.specs.Moments.{Day, day_of}
-use Rattle.scene_text.specs.Parts.{checked_day, is_day}
+use Rattle.scene_text.specs.Names.{Day, day_of, checked_day, is_day}
 use Rattle.scene_text.proofs.reader.parts.new_day.Goals as goal
 
 -- of a month with so many days

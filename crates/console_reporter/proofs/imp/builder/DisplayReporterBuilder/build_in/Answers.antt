@@ -1,6 +1,5 @@
 use Rattle.std.proofs.Common.{refl}
-use Rattle.console_reporter.specs.Configuration.{configured_in}
-use Rattle.console_reporter.specs.OptionalStore.{config_of}
+use Rattle.console_reporter.specs.Names.{configured_in, config_of}
 use Rattle.console_reporter.proofs.imp.builder.DisplayReporterBuilder.build_in.Goals as goal
 
 pub returns-clause-stands : goal.returns-clause-stands

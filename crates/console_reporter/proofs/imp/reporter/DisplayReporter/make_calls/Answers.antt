@@ -1,7 +1,6 @@
 use Rattle.std.proofs.Common.{rules, arith, length, refl, sym, subst, ap, ◌∙◌, Err, Some, inr}
 use Rattle.std.proofs.lemmas.Option.{slice_get-get_or, slice_get_past}
-use Rattle.console_reporter.specs.Telling.{Promises, TellsRun}
-use Rattle.console_reporter.specs.Report.{past_at}
+use Rattle.console_reporter.specs.Names.{Promises, TellsRun, past_at}
 use Rattle.console_reporter.proofs.lemmas.Calls.{accepted_read, accepted_to_end, past_all, past_read}
 use Rattle.console_reporter.proofs.lemmas.Runs.{run_begun, run_more, same-after}
 use Rattle.console_reporter.proofs.lemmas.Stores.{same-store}

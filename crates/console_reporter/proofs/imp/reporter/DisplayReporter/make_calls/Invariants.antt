@@ -1,9 +1,5 @@
 use Rattle.std.proofs.Common.{[], take}
-use Rattle.console_reporter.specs.Accepted.{AreAccepted}
-use Rattle.console_reporter.specs.Configuration.{Configuration}
-use Rattle.console_reporter.specs.Report.{past_at}
-use Rattle.console_reporter.specs.HeldState.{StandsAfter}
-use Rattle.console_reporter.specs.Telling.{AreDelivered, IsSameReporter, TellsRun}
+use Rattle.console_reporter.specs.Names.{AreAccepted, Configuration, past_at, StandsAfter, AreDelivered, IsSameReporter, TellsRun}
 use Rattle.console_reporter.proofs.imp.reporter.DisplayReporter.make_calls.Given as goal
 
 abbrev pub invariant-loop-position : goal.invariant-loop-position

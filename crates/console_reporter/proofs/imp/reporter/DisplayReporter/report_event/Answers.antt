@@ -1,8 +1,7 @@
 use Rattle.std.proofs.Common.{rules, [], ap, sym, append-nil, inr, max, ◌∙◌}
-use Rattle.reporter_state.specs.Effects.{effect_of}
+use Rattle.reporter_state.specs.Names.{effect_of, cancel, prefix}
 use Rattle.console_reporter.proofs.lemmas.Calls.{stops_error}
 use Rattle.console_reporter.proofs.lemmas.Pasts.{kept-more, text-held}
-use Rattle.reporter_state.specs.Entries.{cancel, prefix}
 use Rattle.console_reporter.specs.Report.{text}
 use Rattle.run_model.specs.declared.call.ReportCall.TheVariants.{Event}
 use Rattle.console_reporter.proofs.imp.reporter.DisplayReporter.report_event.Goals as goal

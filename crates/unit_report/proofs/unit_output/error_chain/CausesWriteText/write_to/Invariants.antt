@@ -1,6 +1,5 @@
 use Rattle.std.proofs.Common.{drop}
-use Rattle.std.specs.List.{flat_map}
-use Rattle.writers.specs.Writer.{Owes}
+use Rattle.styled_text.specs.Names.{flat_map, Owes}
 use Rattle.unit_report.specs.ErrorChain.{cause_text}
 use Rattle.unit_report.proofs.unit_output.error_chain.CausesWriteText.write_to.Given as goal
 

@@ -4,7 +4,7 @@ use Rattle.std.proofs.lemmas.List.Edits.{take-paste}
 use lib.Seq.{paste}
 use Rattle.writers.proofs.write_str.pending_bytes.PendingBytes.remove_front.Goals as goal
 
--- what follows the first n of len bytes, once it lies in front
+-- what follows the first n of len bytes, once it is at the front
 moved : (memory : List ℕ) (n len : ℕ) → n ≤ len → len ≤ length memory → take (len - n) (paste memory 0 (drop n memory) (len - n)) ≡ drop n (take len memory)
 moved memory n len within fits =
     let whole : n + (len - n) ≡ len = omega arith in

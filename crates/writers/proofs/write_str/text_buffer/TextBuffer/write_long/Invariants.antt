@@ -3,7 +3,7 @@ use Rattle.writers.specs.TextBuffer.{buffer_meaning}
 use Rattle.writers.specs.Writer.{Owes}
 use Rattle.writers.proofs.write_str.text_buffer.TextBuffer.write_long.Given as goal
 
--- what is left is owed
+-- the rest is owed
 abbrev pub invariant-loop-rest : goal.invariant-loop-rest
 invariant-loop-rest g l = Owes (buffer_meaning g.W.Write.contents) l.initial.self l.bytes l.self l.rest
 

@@ -1,7 +1,0 @@
-use Rattle.std.proofs.Common.{arith}
-use Rattle.plain_text.specs.Escapes.{is_parameter}
-use Rattle.plain_text.proofs.lemmas.Blocks.{run_ends}
-use Rattle.plain_text.proofs.blocks.parameters_in_block.Goals as goal
-
-pub returns : goal.returns
-returns c = run_ends is_parameter 16 c.args.bytes.now _ c.other_marks-marks.ensures (omega arith) (omega arith) (omega arith)

@@ -1,7 +1,0 @@
-use Rattle.std.proofs.Common.{arith}
-use Rattle.plain_text.specs.Escapes.{is_visible}
-use Rattle.plain_text.proofs.lemmas.Blocks.{run_ends}
-use Rattle.plain_text.proofs.blocks.stretch_in_block.Goals as goal
-
-pub returns : goal.returns
-returns c = run_ends is_visible 32 c.args.bytes.now _ c.escape_marks-marks.ensures (omega arith) (omega arith) (omega arith)

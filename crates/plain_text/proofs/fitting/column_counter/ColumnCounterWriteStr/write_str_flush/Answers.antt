@@ -1,5 +1,0 @@
-use Rattle.plain_text.specs.ColumnCounter.{counter_laws}
-use Rattle.plain_text.proofs.fitting.column_counter.ColumnCounterWriteStr.write_str_flush.Goals as goal
-
-pub returns-clause-text : goal.returns-clause-text
-returns-clause-text c = counter_laws.nothing c.args.self.now

@@ -1,6 +1,0 @@
-use Rattle.std.proofs.Common.{◌∙◌}
-use Rattle.plain_text.proofs.lemmas.FitMarks.{all_counted}
-use Rattle.plain_text.proofs.fitting.count_columns.Goals as goal
-
-pub returns-clause-value : goal.returns-clause-value
-returns-clause-value g c = c.columns.ensures ∙ all_counted _ _ _ c.new-counter.ensures.mode c.new-counter.ensures.columns c.in-Ok.ensures

@@ -1,5 +1,0 @@
-use Rattle.plain_text.proofs.lemmas.Widths.{append-painted}
-use Rattle.plain_text.proofs.fitting.width_laws.Goals as goal
-
-pub returns-clause-joined : goal.returns-clause-joined
-returns-clause-joined c = append-painted

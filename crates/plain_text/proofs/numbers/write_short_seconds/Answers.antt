@@ -1,8 +1,0 @@
-use Rattle.std.proofs.Common.{refl}
-use Rattle.plain_text.proofs.lemmas.Decimals.{bracketed-row}
-use Rattle.plain_text.proofs.numbers.write_short_seconds.Goals as goal
-
-pub returns : goal.returns
-returns g c =
-    let row = bracketed-row c.args.nanos _ _ _ _ _ c.requires refl refl c.digit_or_space.ensures c.digit_or_space-2.ensures c.digit_or_space-3.ensures in
-    rw (← row, ← c.from_utf8_unchecked.ensures) c.write_str.ensures

@@ -1,5 +1,0 @@
-use Rattle.plain_text.proofs.lemmas.TrailingNewlines.{begun}
-use Rattle.plain_text.proofs.stripped.gathered_pieces.GatheredPieces.begin.Goals as goal
-
-pub returns : goal.returns
-returns g c rest = begun g.met.W.WriteStr.laws _ _ _ _ _ _ rest _ c.requires c.write.ensures.text c.write.ensures.held

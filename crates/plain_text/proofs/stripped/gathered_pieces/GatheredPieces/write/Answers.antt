@@ -1,6 +1,0 @@
-use Rattle.std.proofs.Common.{◌++◌}
-use Rattle.plain_text.proofs.lemmas.TrailingNewlines.{carried_on}
-use Rattle.plain_text.proofs.stripped.gathered_pieces.GatheredPieces.write.Goals as goal
-
-pub returns : goal.returns
-returns g c rest = carried_on g.met.W.WriteStr.laws _ _ _ _ _ _ _ (c.in_ok-flush.ensures.text (c.args.piece.now ++ rest)) (c.begin.ensures rest)

@@ -1,0 +1,93 @@
+-- Texts each of whose sequences ends by itself, made of styles and of words without escape characters (for the lemmas of InstanceWidths).
+use Rattle.std.proofs.Common.{◌≡◌, ◌≢◌, ℕ, zero, suc, ◌-◌, false, inl, inr, List, [], ◌∷◌, ◌++◌, refl, sym, ap, ◌∙◌, arith, length, encode_utf8, chars, ◌/◌, ◌%◌}
+use Rattle.std.proofs.lemmas.Bool.{cases_lt}
+use Rattle.std.proofs.lemmas.Bool.Decides.{nat_tests, eqb_tells}
+use Rattle.std.proofs.lemmas.Str.{encode_ascii}
+use Rattle.styled_text.specs.Names.{decimal, digits, digits_onto, digit_glyph, repeat, Text, spaces, right_in, pieces, pieces_after, sequence_len, HasNoEscape, sequences, AreClosed, part_text, plain}
+use Rattle.styled_text.specs.Names.{styled, style_prefix, style_suffix, reset_color, PartText, Plain, Styled, part_texts, Style}
+use Rattle.styled_text.proofs.lemmas.Marks.{AreHigh, encode-high}
+use Rattle.styled_text.proofs.lemmas.Widths.{free_both, sequences-joined, free_after, sequences-free, closed_both}
+use Rattle.styled_text.proofs.lemmas.Pieces.{joined-pieces}
+use Rattle.styled_text.specs.declared.style.Style.TheVariants as style
+
+-- a text whose sequences end by themselves
+abbrev pub IsClosedText : Text → Type 0
+IsClosedText t = AreClosed (sequences (pieces t))
+
+pub closed-append : (a b : Text) → IsClosedText a → IsClosedText b → IsClosedText (a ++ b)
+closed-append a b h k =
+    let e : sequences (pieces (a ++ b)) ≡ sequences (pieces a) ++ sequences (pieces b) = ap (λ x. sequences (pieces (x ++ b))) (sym (joined-pieces a)) ∙ sequences-joined (pieces a) b (free_after 0 a) h in
+    rw e (closed_both (sequences (pieces a)) (sequences (pieces b)) h k)
+
+pub closed-free : (t : Text) → HasNoEscape t → IsClosedText t
+closed-free t h = rw (sequences-free t h) tt
+
+pub closed-none : IsClosedText []
+unfolding pieces_after
+closed-none = tt
+
+reset_closed : IsClosedText reset_color
+unfolding pieces_after sequence_len
+reset_closed = ((λ u. refl), tt)
+
+prefix_closed : (s : Style) → IsClosedText (style_prefix s)
+unfolding pieces_after sequence_len
+prefix_closed style.Plain = tt
+prefix_closed _ = ((λ u. refl), tt)
+
+suffix_closed : (s : Style) → IsClosedText (style_suffix s)
+suffix_closed style.Plain = closed-none
+suffix_closed _ = reset_closed
+
+-- the words of a part
+abbrev pub words_of : PartText → Text
+words_of (Plain t) = t
+words_of (Styled s t) = t
+
+part_closed : (p : PartText) → HasNoEscape (words_of p) → IsClosedText (part_text p)
+unfolding plain styled
+part_closed (Plain t) h = closed-free t h
+part_closed (Styled s t) h = closed-append (style_prefix s) (t ++ style_suffix s) (prefix_closed s) (closed-append t (style_suffix s) (closed-free t h) (suffix_closed s))
+
+abbrev pub AreFreeParts : List PartText → Type 0
+AreFreeParts [] = Unit {0}
+AreFreeParts (p ∷ ps) = HasNoEscape (words_of p) × AreFreeParts ps
+
+pub paint_closed : (ps : List PartText) → AreFreeParts ps → IsClosedText (part_texts ps)
+paint_closed [] h = closed-none
+paint_closed (p ∷ ps) h = closed-append (part_text p) (part_texts ps) (part_closed p h.0) (paint_closed ps h.1)
+
+-- words without escape characters
+glyph_free : (d : ℕ) (acc : Text) → HasNoEscape acc → HasNoEscape (digit_glyph false d ∷ acc)
+glyph_free d acc h = grind (arith, nat_tests)
+
+digits_free : (k n : ℕ) (acc : Text) → HasNoEscape acc → HasNoEscape (digits_onto k 10 false n acc)
+digits_free zero n acc h = h
+digits_free (suc k) n acc h =
+    let here = glyph_free (n % 10) acc h in grind (arith, here, digits_free k (n / 10) (digit_glyph false (n % 10) ∷ acc) here)
+
+pub decimal_free : (n : ℕ) → HasNoEscape (decimal n)
+unfolding digits
+decimal_free n = digits_free 64 n [] refl
+
+pub spaces_free : (n : ℕ) → HasNoEscape (spaces n)
+spaces_free zero = refl
+spaces_free (suc n) = spaces_free n
+
+pub right_free : (n : ℕ) (t : Text) → HasNoEscape t → HasNoEscape (right_in n t)
+unfolding right_in
+right_free n t h = free_both (spaces (n - length (chars t))) t (spaces_free (n - length (chars t))) h
+
+high_free : (bs : Text) → AreHigh bs → HasNoEscape bs
+high_free [] h = refl
+high_free (b ∷ bs) h = grind (arith, nat_tests, h.0, high_free bs h.1)
+
+pub char_free : (c : ℕ) → c ≢ 27 → HasNoEscape (encode_utf8 c)
+char_free c h = elim (cases_lt c 128) [
+  | inl l ↦ rw (encode_ascii c l) (elim (eqb_tells c 27) [ inl y ↦ absurd (h y.1) | inr n ↦ rw n.0 refl ])
+  | inr l ↦ (let e = encode-high c l in rw e.2 (high_free (e.0 ∷ e.1) e.3))
+]
+
+pub repeat_free : (n : ℕ) (t : Text) → HasNoEscape t → HasNoEscape (repeat n t)
+repeat_free zero t h = refl
+repeat_free (suc n) t h = free_both t (repeat n t) h (repeat_free n t h)

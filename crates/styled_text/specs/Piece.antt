@@ -1,0 +1,10 @@
+-- What a piece holds.
+use Rattle.styled_text.specs.Escapes.{PieceText}
+use Rattle.styled_text.specs.Escapes.PieceText.{SequenceText, StretchText}
+use Rattle.styled_text.specs.declared.escapes.Piece.{Piece}
+use Rattle.styled_text.specs.declared.escapes.Piece.TheVariants.{Sequence, Stretch}
+
+-- its bytes, without their address
+abbrev pub piece_text : Piece → PieceText
+piece_text (Sequence s) = SequenceText s.now
+piece_text (Stretch s) = StretchText s.now

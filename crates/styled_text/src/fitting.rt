@@ -1,0 +1,96 @@
+//! Columns of a text, and texts that are cut to some of them.
+//!
+//! A character has the columns that `unicode_width` gives it alone, a control character none, a sequence none. A cut text
+//! keeps every sequence. A text is cut while it is written, character by character, so that no memory is taken and
+//! stretches that meet across two writes are one.
+
+ghost use Rattle.std.specs.Prelude.{◌≡◌, ℕ, ◌-◌, ◌^◌, ◌<◌, ◌≤◌, ◌++◌, List, false, true};
+ghost use Rattle.styled_text.specs.Names.{IsUtf8, saturated, HasNoEscape, pieces, columns, fit, shrunk, shrunk_parts, sequences, part_sequences, IsPainted, ArePainted, Puts};
+
+mod column_counter;
+mod fitted;
+mod scan_state;
+
+use column_counter::ColumnCounter;
+use fitted::Fitted;
+use writers::text::WriteText;
+use writers::write_str::{WriteFault, WriteStr};
+
+/// The laws of cut texts, where each sequence of a text ends by itself: how wide they are, and that they keep each sequence.
+#[tactic(auto, using(crate::proofs::lemmas::Widths::width_laws))]
+pub fn width_laws()
+    ensures columns { (t : List ℕ) (start end : ℕ) → IsPainted t → columns (fit t start end) ≤ end - start }
+    ensures sequences { (t : List ℕ) (start end : ℕ) → IsPainted t → sequences (pieces (fit t start end)) ≡ sequences (pieces t) }
+    ensures part_columns { (ts : List (List ℕ)) (name : List ℕ) (width : ℕ) → ArePainted ts → IsPainted name → columns (shrunk_parts ts name width) ≤ width }
+    ensures part_sequences { (ts : List (List ℕ)) (name : List ℕ) (width : ℕ) → ArePainted ts → IsPainted name → sequences (pieces (shrunk_parts ts name width)) ≡ part_sequences ts ++ sequences (pieces name) }
+    ensures plain { (t : List ℕ) → IsUtf8 t → HasNoEscape t → IsPainted t }
+    ensures joined { (a b : List ℕ) → IsPainted a → IsPainted b → IsPainted (a ++ b) }
+{}
+
+/// The columns of a text, up to `u128::MAX`. It is written once, to be counted.
+pub fn count_columns<T: WriteText>(part: &T) -> u128
+    ensures utf8 { IsUtf8 (T.text part.now) }
+    ensures value { result ≡ saturated (columns (T.text part.now)) }
+{
+    let mut counter = ColumnCounter::new();
+    match part.write_to(&mut counter) {
+        Ok(()) => counter.columns(),
+        Err(_) => unreachable!(),
+    }
+}
+
+/// Writes what lies between two columns of a text, and every sequence of it.
+pub fn write_fitted<T: WriteText, W: WriteStr>(
+    w: &mut W,
+    part: &T,
+    start: u128,
+    end: u128,
+) -> Result<(), WriteFault>
+    requires utf8 { IsUtf8 (T.text part.now) }
+    requires bounded { end < 2 ^ 127 }
+    ensures { Puts W.meaning w.old (fit (T.text part.now) start end) result w.new }
+{
+    let mut out = Fitted::new(w, start, end);
+    let result = part.write_to(&mut out);
+    let back = out.into_inner();
+    let _ = &*back;
+    result
+}
+
+/// Writes a text of this width, or its front if there is less room.
+#[tactic(auto, using(std::proofs::lemmas::Bool::Decides::nat_tests))]
+pub fn write_front<T: WriteText, W: WriteStr>(
+    w: &mut W,
+    part: &T,
+    width: u128,
+    room: u128,
+) -> Result<(), WriteFault>
+    requires utf8 { IsUtf8 (T.text part.now) }
+    requires width { width ≡ saturated (columns (T.text part.now)) }
+    requires bounded { room < 2 ^ 127 }
+    ensures { Puts W.meaning w.old (shrunk false (T.text part.now) room) result w.new }
+{
+    if width <= room {
+        return part.write_to(w);
+    }
+    write_fitted(w, part, 0, room)
+}
+
+/// Writes a text of this width, or its end if there is less room.
+#[tactic(auto, using(std::proofs::lemmas::Bool::Decides::nat_tests))]
+pub fn write_back<T: WriteText, W: WriteStr>(
+    w: &mut W,
+    part: &T,
+    width: u128,
+    room: u128,
+) -> Result<(), WriteFault>
+    requires utf8 { IsUtf8 (T.text part.now) }
+    requires width { width ≡ columns (T.text part.now) }
+    requires bounded { width < 2 ^ 127 }
+    ensures { Puts W.meaning w.old (shrunk true (T.text part.now) room) result w.new }
+{
+    if width <= room {
+        return part.write_to(w);
+    }
+    write_fitted(w, part, width - room, width)
+}
