@@ -70,7 +70,7 @@ fn only_place(event: &SceneEvent) -> Option<usize>
     }
 }
 
-// Whether the decider skips the outputs of an event, by what the event says beside them. Of others, as of a unit's answer, it is not asked.
+// Whether the decider skips the outputs of an event, from its metadata. It is not asked about others, such as the response of a unit.
 #[tactic(auto, using(crate::proofs::lemmas::Skips::loads_by_last))]
 fn skips(decider: &OutputLoadDecider, event: &SceneEvent) -> bool
     ensures { result ≡ skips decider.now event.now }

@@ -1,4 +1,4 @@
-//! The tests of recorded runs and of their outputs. They stand in a crate of their own because a crate with tests is proved twice.
+//! The tests of recorded runs and of their outputs. They have their own crate because a crate with tests is proved twice.
 #![tactic(auto)]
 
 #[cfg(test)]
