@@ -112,7 +112,7 @@ fn check_all_there<O: ReadAt + Drop>(
     Ok(())
 }
 
-// The same of one output. Standard output comes first.
+// For one output. Standard output comes first.
 fn check_output_there<O: ReadAt + Drop>(
     placed: &PlacedOutput,
     outputs: &mut RecordedOutputs<O>,
@@ -125,7 +125,7 @@ fn check_output_there<O: ReadAt + Drop>(
     check_stream_there(placed, StreamField::Second, outputs)
 }
 
-// The same of one of its streams.
+// For one of its streams.
 fn check_stream_there<O: ReadAt + Drop>(
     placed: &PlacedOutput,
     stream: StreamField,

@@ -222,7 +222,7 @@ fn follow<R: Read + Drop, W: Write>(
     (outcome, writer)
 }
 
-// So many turns of a loop: more than 16 bits count.
+// The turns of a loop: more than 16 bits count.
 const MANY: usize = 70_000;
 
 // Two tests, after a line of this many bytes, and with this many lines before the first event and after it. No report shows these.

@@ -93,7 +93,7 @@ pub struct Shortened<'a> {
 }
 
 impl<'a> Shortened<'a> {
-    /// So many of them are there.
+    /// How many of them there are.
     pub fn new(all: &'a [u8], there: usize) -> Shortened<'a> {
         Shortened { all, there }
     }

@@ -242,7 +242,7 @@ fn try_each(
     Err(Fail::from("every device failed"))
 }
 
-// The same of either writer, and of each way to fail.
+// For either writer, and for each way to fail.
 fn try_all(
     alloc: Global,
     refused: &TestEvent<'_>,
