@@ -1,4 +1,4 @@
--- What is handed in for the answers of units without escape characters.
+-- The responses of units without escape characters.
 use Rattle.std.specs.Prelude.{Bool}
 use Rattle.run_model.specs.Names.{InfoResponse, UnitState}
 use Rattle.run_model.specs.declared.info.InfoResponse.TheVariants.{SetupScript, Test}
@@ -9,7 +9,7 @@ use Rattle.text_parts.specs.Names.{IsPlainResult, IsPlainWritten, IsPlainScript}
 use Rattle.info_text.specs.Response.{answering_script}
 use Rattle.info_text.specs.State.{signal_of}
 
--- what a unit came to and the signal that it was sent hold no escape character
+-- the result of a unit and the signal that it was sent hold no escape character
 abbrev pub IsPlainState : UnitState → Type 0
 IsPlainState (Running pid taken mark) = Unit {0}
 IsPlainState (Exiting pid taken mark result waiting remaining) = HoldsIf IsPlainResult result
@@ -17,7 +17,7 @@ IsPlainState (Terminating x) = HasNoEscape (signal_of x.method)
 IsPlainState (Exited result taken mark) = IsPlainResult result
 IsPlainState (DelayBeforeNextAttempt result is_slow waiting remaining) = IsPlainResult result
 
--- nor do the names of a unit and its state. What it wrote is plain by the flag, which says that texts are in colour
+-- nor do the names of a unit and its state. Its output must be plain in colour (the flag)
 abbrev pub IsPlainResponse : Bool → InfoResponse → Type 0
 IsPlainResponse k (SetupScript x) = IsPlainScript (answering_script x) × IsPlainState x.state × IsPlainWritten k x.output
 IsPlainResponse k (Test x) = IsPlainInstance x.test_instance × IsPlainState x.state × IsPlainWritten k x.output

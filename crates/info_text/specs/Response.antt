@@ -1,4 +1,4 @@
--- The answer of a unit that is asked what it is doing.
+-- The response of a unit that is asked for its state.
 use Rattle.std.specs.Prelude.{◌≡◌, ℕ, ◌+◌, ◌-◌, ◌==◌, Bool, true, false, ◌&&◌, ◌||◌, Option, None, Some, [], ◌++◌, length, codes, nat_lt, if◌then◌else◌, refl}
 use Rattle.styled_text.specs.Names.{decimal, HasNoEscape, plain, Text, spaces, Styles}
 use Rattle.run_model.specs.Names.{has_valid_output, has_errors, has_loaded_output, InfoResponse, SetupScriptInfoResponse, TestInfoResponse, UnitState, RetryData, UnitKind, Written}
@@ -16,7 +16,7 @@ use Rattle.unit_report.specs.declared.unit_output.header.OutputName.TheVariants 
 use Rattle.info_text.specs.State.{state_text}
 use Rattle.info_text.specs.declared.state.InfoUnit.{InfoUnit}
 
--- a bar of eight characters before each answer but the first
+-- a bar of eight characters before each response but the first
 unfoldable pub separator : ThemeCharacters → ℕ → Text
 separator theme index = if index == 0 then [] else hbar_text theme.is_unicode 8 ++ plain (codes "\n")
 
@@ -24,14 +24,14 @@ pub free-separator : (theme : ThemeCharacters) (index : ℕ) → HasNoEscape (se
 unfolding separator plain
 free-separator theme index = free-if (index == 0) [] _ refl (free_both (hbar_text theme.is_unicode 8) (codes "\n") (free-hbar_text theme.is_unicode 8) refl)
 
--- the spaces after the number of an answer, which stands as wide as the word before a state, where it has room
+-- the spaces after the number of a response, which is as wide as the word before a state, if it has room
 abbrev pub number_padding : ℕ → ℕ → Text
 number_padding place total = spaces (8 - (length (decimal place) + length (decimal total) + 3))
 
 pub free-number_padding : (place total : ℕ) → HasNoEscape (number_padding place total)
 free-number_padding place total = spaces_free (8 - (length (decimal place) + length (decimal total) + 3))
 
--- which of so many answers it is, counted from 1
+-- which response of how many it is, counted from 1
 unfoldable pub response_number : ℕ → ℕ → Fixed Open
 response_number place total =
     words (codes "\n* ")
@@ -41,7 +41,7 @@ response_number place total =
     ⧺ words (codes ": ")
     ⧺ Word (number_padding place total) (free-number_padding place total)
 
--- how the output within an answer is laid out: names without bars, and two spaces before each line
+-- the layout of the output in a response: names without bars, and two spaces before each line
 abbrev pub info_layout : Styles → UnitKind → OutputLayout
 info_layout s kind = record {
   kind = kind;
@@ -52,31 +52,31 @@ info_layout s kind = record {
   output_indent = codes "  ";
 }
 
--- the output is there, if it is that of the unit
+-- the output is loaded, if it is the unit's own
 abbrev pub HasValidOutput : UnitState → Written → Type 0
 HasValidOutput state output = has_valid_output state ≡ true → has_loaded_output output ≡ true
 
--- the output as the answer shows it
+-- the output as the response shows it
 abbrev pub told_output : Settings → UnitKind → Written → Parts false Line
 told_output s kind output =
     drawn_given_line (λ t. execution_output s.unit_output t (info_layout t kind) output) (λ t. ends-execution_output s.unit_output t (info_layout t kind) output)
 
--- the output, where it is that of the unit
+-- the output, if it is the unit's own
 unfoldable pub valid_output : Settings → UnitKind → UnitState → Written → Parts false Lines
 valid_output s kind state output = choice (has_valid_output state) (told_output s kind output) none
 
--- what a unit is doing and what it has written
+-- the state of a unit and its output
 unfoldable pub unit_answer : Settings → InfoUnit → UnitState → Written → Parts false Open
 unit_answer s u state output = state_text s.mode u state ⧺ valid_output s u.kind state output
 
--- a setup script as its answer names it, and as its state is told of it
+-- a setup script as its response names it, and as its state does
 abbrev pub answering_script : SetupScriptInfoResponse → Script
 answering_script x = record { stress_index = x.stress_index; script_id = x.script_id; program = x.program; args = x.args }
 
 abbrev pub script_unit : SetupScriptInfoResponse → InfoUnit
 script_unit x = record { kind = unit.Script; attempt = None; has_errors = has_errors x.output }
 
--- the answer of a setup script
+-- the response of a setup script
 unfoldable pub script_answer : Settings → SetupScriptInfoResponse → Parts false Open
 script_answer s x = shown_script (answering_script x) ⧺ words (codes "\n") ⧺ unit_answer s (script_unit x) x.state x.output
 
@@ -88,32 +88,32 @@ is_delay (Terminating state) = false
 is_delay (Exited result taken slow_after) = false
 is_delay (DelayBeforeNextAttempt result is_slow waiting remaining) = true
 
--- the attempt is told of a later one of several, and where the next one waits
+-- the attempt is shown for a later one of several, and for one that waits
 abbrev pub told_attempt : RetryData → UnitState → Option RetryData
 told_attempt r state = if (nat_lt 1 r.attempt && nat_lt 1 r.total_attempts) || is_delay state then Some r else None
 
--- a test as its answer names it, and as its state is told of it
+-- a test as its response names it, and as its state does
 abbrev pub answering_test : TestInfoResponse → CountedInstance
 answering_test x = record { stress_index = x.stress_index; counter = None; instance = x.test_instance }
 
 abbrev pub test_unit : TestInfoResponse → InfoUnit
 test_unit x = record { kind = unit.Test; attempt = told_attempt x.retry_data x.state; has_errors = has_errors x.output }
 
--- the answer of a test
+-- the response of a test
 unfoldable pub test_answer : Settings → TestInfoResponse → Parts false Open
 test_answer s x = instance_end (answering_test x) ⧺ unit_answer s (test_unit x) x.state x.output
 
--- the output of an answer is there, if it is that of its unit
+-- the output of a response is loaded, if it is the unit's own
 abbrev pub HasAnswerOutput : InfoResponse → Type 0
 HasAnswerOutput (SetupScript x) = HasValidOutput x.state x.output
 HasAnswerOutput (Test x) = HasValidOutput x.state x.output
 
--- what stands after the number of an answer
+-- a response, after its number
 abbrev pub answer : Settings → InfoResponse → Parts false Open
 answer s (SetupScript x) = script_answer s x
 answer s (Test x) = test_answer s x
 
--- the answer of a unit, from its place. All lines but that of its number are indented, and an empty line follows
+-- the response of a unit, with its index. All lines but that of its number are indented, and an empty line follows
 unfoldable pub info_response_text : Settings → ℕ → ℕ → InfoResponse → Parts false Line
 info_response_text s index total response =
     Verbatim (separator s.theme_characters index) (free-separator s.theme_characters index)

@@ -8,6 +8,6 @@ use Rattle.report_words.specs.Parts.{Fixed, Open, Word}
 abbrev pub seconds_part : ℕ → Fixed Open
 seconds_part nanos = Word (seconds 3 nanos) (free-seconds 3 nanos)
 
--- the same between two texts
+-- a duration between two texts
 abbrev pub seconds_between : Text → ℕ → Text → Text
 seconds_between before nanos after = plain before ++ (plain (seconds 3 nanos) ++ plain after)

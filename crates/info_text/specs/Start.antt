@@ -1,11 +1,11 @@
--- That all units are asked what they are doing, and that no further answers are waited for.
+-- All units are asked for their state, and no further responses are waited for.
 use Rattle.std.specs.Prelude.{ℕ, ◌==◌, codes}
 use Rattle.run_model.specs.declared.stats.RunStats.{RunStats}
 use Rattle.report_words.specs.Names.{ThemeCharacters, Fixed, Line, Lines, Count, Skip, none, words, toned, number, ◌⧺◌, choice}
 use Rattle.text_parts.specs.Names.{bar_line, failure_tone, progress_message}
 use Rattle.info_text.specs.Seconds.{seconds_part}
 
--- so many units are asked; they stand for those that run. The line tells the counts of the run and how long it has taken
+-- n units are asked, those that run. The line has the counts of the run and how long it has taken
 unfoldable pub info_started_text : ThemeCharacters → ℕ → ℕ → RunStats → Fixed Line
 info_started_text theme elapsed total stats =
     bar_line theme
@@ -16,14 +16,14 @@ info_started_text theme elapsed total stats =
     ⧺ seconds_part elapsed
     ⧺ words (codes "s\n")
 
--- how many have not answered
+-- how many have not responded
 unfoldable pub missing_line : ℕ → Fixed Line
 missing_line missing = toned Skip (codes "info") ⧺ words (codes ": missing ") ⧺ number Count missing ⧺ words (codes " responses\n")
 
--- that is told where there are some
+-- if any
 unfoldable pub missing_note : ℕ → Fixed Lines
 missing_note missing = choice (missing == 0) none (missing_line missing)
 
--- that no further answers are waited for
+-- no further responses are waited for
 unfoldable pub info_finished_text : ThemeCharacters → ℕ → Fixed Line
 info_finished_text theme missing = missing_note missing ⧺ bar_line theme

@@ -1,4 +1,4 @@
--- What a unit is doing, in the lines of its answer.
+-- The state of a unit, in the lines of its response.
 use Rattle.std.specs.Prelude.{ℕ, Bool, false, Option, None, Some, [], ◌++◌, codes, nat_lt, if◌then◌else◌, refl}
 use Rattle.styled_text.specs.Names.{decimal, is_some, option_map, HasNoEscape, seconds, plain, Text}
 use Rattle.run_model.specs.Names.{terminate_reason_text, UnitState, UnitTerminateMethod, UnitTerminateReason, UnitTerminatingState, ExecutionResultDescription, RetryData, NextestRunMode, Nanos}
@@ -13,7 +13,7 @@ use Rattle.text_parts.specs.Names.{unit_part, info_text}
 use Rattle.info_text.specs.Seconds.{seconds_between, seconds_part}
 use Rattle.info_text.specs.declared.state.InfoUnit.{InfoUnit}
 
--- which attempt it is, where that is told
+-- which attempt it is, if that is shown
 unfoldable pub attempt_text : Option RetryData → Text
 attempt_text None = []
 attempt_text (Some r) =
@@ -30,11 +30,11 @@ free-attempt_text (Some r) =
 unfoldable pub status_start : InfoUnit → Fixed Open
 status_start u = toned Count (codes "status") ⧺ words (codes ": ") ⧺ Verbatim (attempt_text u.attempt) (free-attempt_text u.attempt)
 
--- the same with the word for the unit
+-- with the word for the unit
 unfoldable pub unit_start : NextestRunMode → InfoUnit → Fixed Open
 unit_start mode u = status_start u ⧺ unit_part mode u.kind ⧺ words (codes " ")
 
--- when the unit was marked as slow, where it was, and the end of the line
+-- when the unit was marked as slow, if it was, and the end of the line
 unfoldable pub marked_slow_end : Option ℕ → Text
 marked_slow_end None = plain (codes "\n")
 marked_slow_end (Some after) = seconds_between (codes " (marked slow after ") after (codes "s)\n")
@@ -65,12 +65,12 @@ running_line mode u pid taken mark =
 unfoldable pub unknown_info : Fixed Open
 unknown_info = toned Fail (codes "failed") ⧺ words (codes " with unknown status")
 
--- how a unit ended as far as that is known; the flag says that it was slow
+-- how a unit ended, as far as known; the flag says that it was slow
 abbrev pub tentative_info : Bool → Option ExecutionResultDescription → Parts false Open
 tentative_info is_slow None = plainly unknown_info
 tentative_info is_slow (Some result) = info_text is_slow result
 
--- how long a unit took that has ended, and the end of the line
+-- how long a unit took, and the end of the line
 unfoldable pub taken_end : ℕ → Option Nanos → Text
 taken_end taken mark = seconds_between (codes " after ") taken (codes "s") ++ marked_slow_end (nanos_of mark)
 
@@ -87,7 +87,7 @@ exited_text mode u result taken mark = unit_start mode u ⧺ info_text (is_some 
 unfoldable pub note_start : Fixed Open
 note_start = toned Count (codes "note")
 
--- that a unit is waited for by its process: the word for it, and the process's id
+-- the unit's process is waited for: the word for it, and the process's id
 unfoldable pub process_of : NextestRunMode → InfoUnit → ℕ → Fixed Open
 process_of mode u pid = unit_part mode u.kind ⧺ words (codes " PID ") ⧺ number Count pid
 
@@ -171,7 +171,7 @@ state_line mode u (Terminating x) = plainly (openly (terminating_line mode u x))
 state_line mode u (Exited result taken mark) = exited_text mode u result taken.0 mark
 state_line mode u (DelayBeforeNextAttempt result is_slow waiting remaining) = openly (waiting_line mode u result is_slow)
 
--- the note below it, which says for how long something is waited for
+-- the note below it, which says how long something is waited for
 unfoldable pub state_note : NextestRunMode → InfoUnit → UnitState → Parts false Lines
 state_note mode u (Running pid taken mark) = plainly none
 state_note mode u (Exiting pid taken mark result waiting remaining) = plainly (exiting_note mode u pid waiting.0 remaining.0)
@@ -179,6 +179,6 @@ state_note mode u (Terminating x) = loosely (terminating_note mode u x)
 state_note mode u (Exited result taken mark) = plainly none
 state_note mode u (DelayBeforeNextAttempt result is_slow waiting remaining) = plainly (loosely (delay_note mode u waiting.0 remaining.0))
 
--- what a unit is doing
+-- the state of a unit
 unfoldable pub state_text : NextestRunMode → InfoUnit → UnitState → Parts false Open
 state_text mode u x = state_line mode u x ⧺ state_note mode u x

@@ -1,4 +1,4 @@
-//! The answer of a unit that is asked what it is doing.
+//! The response of a unit that is asked for its state.
 
 ghost use Rattle.std.specs.Prelude.{◌≡◌, ◌+◌, false};
 ghost use Rattle.styled_text.specs.Names.{indent, Puts, spaces};
@@ -23,8 +23,8 @@ use unit_report::unit_output::{ChildOutputSpec, OutputHeader, OutputName};
 use writers::text::WriteText;
 use writers::write_str::{WriteFault, WriteStr};
 
-/// Writes the answer of a unit. `index` is its place among all, from 0. Output of the unit must not have been left
-/// unread.
+/// Writes the response of a unit. `index` is its index among all, from 0. Output of the unit must be
+/// loaded.
 #[tactic(auto, unfolding(crate::specs::Response::info_response_text, crate::specs::Response::response_number))]
 pub fn write_info_response<W: WriteStr>(
     w: &mut W,
@@ -52,7 +52,7 @@ pub fn write_info_response<W: WriteStr>(
     "\n".write_to(w)
 }
 
-// A bar before each answer but the first. It is shorter than those round all answers.
+// A bar before each response but the first. It is shorter than those around all responses.
 #[derive(Clone, Copy)]
 struct Separator(ThemeCharacters, usize);
 
@@ -69,7 +69,7 @@ impl WriteText for Separator {
     }
 }
 
-// The spaces after that number, which stands as wide as `status: ` where it has room.
+// The spaces after that number, which is as wide as `status: ` if it has room.
 fn number_padding(number: u128, total: usize) -> &'static str
     ensures { result.now ≡ number_padding number total }
 {
@@ -80,7 +80,7 @@ fn number_padding(number: u128, total: usize) -> &'static str
     spaces_str(left)
 }
 
-// Writes what stands after the number, indented from the second line on.
+// Later lines are indented.
 fn write_indented<W: WriteStr>(
     w: &mut W,
     settings: &Settings,
@@ -96,7 +96,7 @@ fn write_indented<W: WriteStr>(
     result
 }
 
-// Writes who answers, what it is doing and what it has written.
+// Who responds, its state and its output.
 fn write_answer<W: WriteStr>(
     w: &mut W,
     settings: &Settings,
@@ -111,7 +111,6 @@ fn write_answer<W: WriteStr>(
     }
 }
 
-// Writes the answer of a setup script.
 #[tactic(auto, unfolding(crate::specs::Response::script_answer))]
 fn write_script_answer<W: WriteStr>(
     w: &mut W,
@@ -132,7 +131,6 @@ fn write_script_answer<W: WriteStr>(
     )
 }
 
-// The setup script that answers.
 fn script_of_response(response: &SetupScriptInfoResponse) -> ScriptInstance<'_>
     ensures { script_of result ≡ answering_script response.now }
 {
@@ -144,7 +142,6 @@ fn script_of_response(response: &SetupScriptInfoResponse) -> ScriptInstance<'_>
     }
 }
 
-// How its state is told.
 fn script_unit(response: &SetupScriptInfoResponse) -> InfoUnit
     ensures { result ≡ script_unit response.now }
 {
@@ -155,7 +152,6 @@ fn script_unit(response: &SetupScriptInfoResponse) -> InfoUnit
     }
 }
 
-// Writes the answer of a test.
 #[tactic(auto, unfolding(crate::specs::Response::test_answer))]
 fn write_test_answer<W: WriteStr>(
     w: &mut W,
@@ -176,7 +172,7 @@ fn write_test_answer<W: WriteStr>(
     )
 }
 
-// The test that answers. Its line has no counter.
+// Its line has no counter.
 fn test_of_response<'a>(response: &TestInfoResponse<'a>) -> CountedInstance<'a>
     ensures { result ≡ answering_test response.now }
 {
@@ -187,7 +183,6 @@ fn test_of_response<'a>(response: &TestInfoResponse<'a>) -> CountedInstance<'a>
     }
 }
 
-// How its state is told.
 fn test_unit(response: &TestInfoResponse<'_>) -> InfoUnit
     ensures { result ≡ test_unit response.now }
 {
@@ -198,7 +193,7 @@ fn test_unit(response: &TestInfoResponse<'_>) -> InfoUnit
     }
 }
 
-// The attempt, where it is told: of a later one of several, and where the next one waits.
+// The attempt, if it is shown: a later one of several, or one that waits.
 fn told_attempt(retry_data: RetryData, state: &UnitState) -> Option<RetryData>
     ensures { result ≡ told_attempt retry_data state.now }
 {
@@ -209,14 +204,12 @@ fn told_attempt(retry_data: RetryData, state: &UnitState) -> Option<RetryData>
     }
 }
 
-// Whether the next attempt waits.
 fn is_delay(state: &UnitState) -> bool
     ensures { result ≡ is_delay state.now }
 {
     matches!(state, UnitState::DelayBeforeNextAttempt { .. })
 }
 
-// Writes what a unit is doing and what it has written.
 #[tactic(auto, unfolding(crate::specs::Response::unit_answer))]
 fn write_unit_answer<W: WriteStr>(
     w: &mut W,
@@ -232,7 +225,7 @@ fn write_unit_answer<W: WriteStr>(
     write_valid_output(w, settings, unit.kind, state, output)
 }
 
-// Writes the output, where it is that of the unit.
+// The output counts only if it is the unit's own.
 #[tactic(auto, unfolding(crate::specs::Response::valid_output))]
 fn write_valid_output<W: WriteStr>(
     w: &mut W,
@@ -253,7 +246,6 @@ fn write_valid_output<W: WriteStr>(
         .write_child_execution_output(&settings.styles, &spec, output, w)
 }
 
-// How the output within an answer is laid out.
 fn output_spec_for_info(styles: &Styles, kind: UnitKind) -> ChildOutputSpec
     ensures { layout_of result ≡ info_layout styles.now kind }
 {

@@ -1,4 +1,4 @@
-//! That all units are asked what they are doing, and that no further answers are waited for.
+//! All units are asked for their state, and no further responses are waited for.
 
 ghost use Rattle.writers.specs.Writer.{Puts};
 ghost use Rattle.report_words.specs.Parts.{paint};
@@ -36,7 +36,7 @@ pub fn write_info_started<W: WriteStr>(
         .write_to(w)
 }
 
-/// Writes that no further answers are waited for, and how many are missing.
+/// Writes that no further responses are waited for, and how many are missing.
 #[tactic(auto, unfolding(crate::specs::Start::info_finished_text, crate::specs::Start::missing_note, crate::specs::Start::missing_line))]
 pub fn write_info_finished<W: WriteStr>(
     w: &mut W,

@@ -1,4 +1,4 @@
-//! What a unit is doing, in the lines of its answer.
+//! The state of a unit, in the lines of its response.
 
 ghost use Rattle.styled_text.specs.Names.{is_some, Puts};
 ghost use Rattle.std.specs.Prelude.{◌≡◌, ◌++◌};
@@ -17,7 +17,7 @@ use unit_report::formatters::DisplayUnitKind;
 use writers::text::{Decimal, Unless, WriteText};
 use writers::write_str::{WriteFault, WriteStr};
 
-/// The unit that a state is told of.
+/// The unit that a state is of.
 #[derive(Clone, Copy)]
 pub struct InfoUnit {
     /// Whether it is a test or a setup script.
@@ -28,7 +28,7 @@ pub struct InfoUnit {
     pub has_errors: bool,
 }
 
-/// Writes what a unit is doing: a line, and a note below it where it is told what is waited for.
+/// Writes the state of a unit: a line, and a note below it if something is waited for.
 #[tactic(auto, unfolding(crate::specs::State::state_text, crate::specs::State::state_line, crate::specs::State::state_note, crate::specs::State::unit_start, crate::specs::State::running_line, crate::specs::State::exiting_line, crate::specs::State::exiting_note, crate::specs::State::leak_note, crate::specs::State::exited_text, crate::specs::State::waiting_line, crate::specs::State::delay_note, crate::specs::State::note_start, crate::specs::State::process_of))]
 pub fn write_state<W: WriteStr>(
     w: &mut W,
@@ -130,7 +130,7 @@ pub fn write_state<W: WriteStr>(
     }
 }
 
-// Writes that a process is being ended, why and how.
+// Why a process is terminated, and how.
 #[tactic(auto, unfolding(crate::specs::State::terminating_line, crate::specs::State::terminating_note, crate::specs::State::process_of, crate::specs::State::note_start))]
 fn write_terminating<W: WriteStr>(
     w: &mut W,
@@ -185,7 +185,7 @@ fn signal_of(method: &UnitTerminateMethod) -> &str
     }
 }
 
-// The style in which a unit runs: one with errors in that of failures, a slow one in that of skipped tests.
+// The style of a running unit: one with errors has that of failures, a slow one that of skipped tests.
 fn running_style(styles: &Styles, has_errors: bool, is_slow: bool) -> Style
     ensures { result ≡ style_of styles.now (running_tone has_errors is_slow) }
 {
@@ -219,7 +219,7 @@ impl WriteText for StatusStart<'_> {
     }
 }
 
-// Which attempt it is, where that is told.
+// Which attempt it is, if that is shown.
 #[derive(Clone, Copy)]
 struct Attempt(Option<RetryData>);
 
@@ -242,7 +242,7 @@ impl WriteText for Attempt {
     }
 }
 
-// How a unit ended as far as that is known.
+// How a unit ended, as far as known.
 #[derive(Clone, Copy)]
 struct TentativeInfo<'a> {
     styles: &'a Styles,
@@ -275,7 +275,7 @@ impl WriteText for TakenEnd {
     }
 }
 
-// When a unit was marked as slow, where it was, and the end of the line.
+// When a unit was marked as slow, if it was, and the end of the line.
 #[derive(Clone, Copy)]
 struct MarkedSlowEnd(Option<Nanos>);
 

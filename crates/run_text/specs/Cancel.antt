@@ -7,7 +7,7 @@ use Rattle.report_words.specs.Parts.{Fixed, Open, Line, Fail, none, words, toned
 use Rattle.run_text.specs.Running.{is_none_running, running_of, running_text}
 use Rattle.run_text.specs.declared.running.Running.{Running}
 
--- why, where that is known
+-- the reason, if it is known
 unfoldable pub reason_text : Option CancelReason → Fixed Open
 reason_text None = openly none
 reason_text (Some r) = words (codes " due to ") ⧺ Toned Fail (reason_words r) (free-reason_words r)
@@ -24,14 +24,14 @@ ends_at_once (Some reason.Signal) = false
 ends_at_once (Some reason.Interrupt) = false
 ends_at_once (Some reason.SecondSignal) = false
 
--- it is ended
+-- what runs is terminated
 unfoldable pub terminating_words : Fixed Open
 terminating_words = words (codes "immediately ") ⧺ toned Fail (codes "terminating") ⧺ words (codes " ")
 
 unfoldable pub terminating_at_once : Bool → Fixed Open
 terminating_at_once is_terminating = choice is_terminating terminating_words none
 
--- how many still run, where anything does
+-- how many still run, if any
 unfoldable pub still_running : NextestRunMode → Bool → Running → Fixed Open
 still_running mode is_terminating r =
     choice (is_none_running r) none
@@ -42,7 +42,7 @@ unfoldable pub begin_cancel_text : NextestRunMode → ℕ → Option CancelReaso
 begin_cancel_text mode scripts why tests =
     right 12 Fail (codes "Cancelling") ⧺ reason_text why ⧺ still_running mode (ends_at_once why) (running_of scripts tests) ⧺ words (codes "\n")
 
--- the run is about to be killed, which is at once for each reason
+-- the run is about to be killed, immediately for each reason
 unfoldable pub begin_kill_text : NextestRunMode → ℕ → Option CancelReason → ℕ → Fixed Line
 begin_kill_text mode scripts why tests =
     right 12 Fail (codes "Killing") ⧺ reason_text why ⧺ still_running mode false (running_of scripts tests) ⧺ words (codes "\n")

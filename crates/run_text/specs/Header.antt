@@ -1,4 +1,4 @@
--- What a replay says before it.
+-- The header of a replay.
 use Rattle.std.specs.Prelude.{ℤ, pos, [], ◌++◌, codes, int_lt, unsigned_abs, if◌then◌else◌, false}
 use Rattle.jiff_core.specs.declared.civil.date.Date.{Date}
 use Rattle.jiff_core.specs.declared.civil.datetime.DateTime.{DateTime}
@@ -8,7 +8,7 @@ use Rattle.styled_text.specs.Names.{Text, last_digits, plain}
 use Rattle.report_words.specs.Parts.{Parts, Line, Count, Pass, words, right, given_toned, drawn_given, ◌⧺◌}
 use Rattle.run_text.specs.RunId.{id_text}
 
--- a minus before the year, where that is before the year 0
+-- a minus before the year, if that is before the year 0
 abbrev pub year_sign : ℤ → Text
 year_sign year = if int_lt year (pos 0) then codes "-" else []
 

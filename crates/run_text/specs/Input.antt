@@ -1,4 +1,4 @@
--- How a run stands, when it is asked for by a key.
+-- The state of a run, when it is requested by a key.
 use Rattle.std.specs.Prelude.{ℕ, codes}
 use Rattle.run_model.specs.declared.stats.RunStats.{RunStats}
 use Rattle.text_parts.specs.Names.{clock, failure_tone, progress_message}

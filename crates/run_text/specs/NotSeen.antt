@@ -1,4 +1,4 @@
--- The tests that a rerun was to see and has not.
+-- The outstanding tests that a rerun has not seen.
 use Rattle.std.specs.Prelude.{ℕ, false, ◌-◌, List, ◌==◌, Option, None, Some, length, codes}
 use Rattle.run_model.specs.Names.{NextestRunMode, OwnedTestInstanceId, NotSeen}
 use Rattle.report_text.specs.Instance.{test_text}
@@ -23,7 +23,7 @@ not_seen_line i = words (codes "             ") ⧺ drawn_given (λ s. test_text
 abbrev pub listed_line : Styles → OwnedTestInstanceId → Text
 listed_line s i = paint s (not_seen_line i)
 
--- how many tests are not listed, where there are such
+-- how many tests are not listed, if any
 unfoldable pub more_line : NextestRunMode → ℕ → Fixed Line
 more_line mode n =
     words (codes "             ... and ") ⧺ number Count n ⧺ words (codes " more ") ⧺ Word (tests_word mode n) (free-tests_word_if mode _) ⧺ words (codes "\n")
@@ -31,7 +31,7 @@ more_line mode n =
 unfoldable pub more_not_seen : NextestRunMode → ℕ → Fixed Lines
 more_not_seen mode n = choice (n == 0) none (more_line mode n)
 
--- so many tests, where there are such, with those that are listed
+-- how many tests, if any, with those that are listed
 unfoldable pub not_seen_note : NextestRunMode → ℕ → List OwnedTestInstanceId → Parts false Lines
 not_seen_note mode total listed =
     choice (total == 0) none (not_seen_start mode total ⧺ each not_seen_line listed ⧺ more_not_seen mode (total - length listed))

@@ -1,4 +1,4 @@
--- The iterations of a stress run: that one has started or has finished.
+-- The iterations of a stress run: one has started or has finished.
 use Rattle.std.specs.Prelude.{ℕ, ◌+◌, Option, None, Some, codes}
 use Rattle.std.specs.Int.NonZero.{non_zero_u32_get}
 use Rattle.run_model.specs.Names.{NextestRunMode, final_stats_of, Remaining, Iterations, Endless, TimeLeft, completed_of, elapsed_of, remaining_of, RunStats, StressProgress}
@@ -11,7 +11,7 @@ use Rattle.report_words.specs.Parts as tone
 use Rattle.text_parts.specs.Names.{bracketed, bar_line}
 use Rattle.run_text.specs.Summary.{outcome_tone, run_counts_text}
 
--- of how many iterations it is one, where that is known
+-- of how many iterations it is one, if that is known
 unfoldable pub of_iterations : StressProgress → Fixed Open
 of_iterations (Count (total.Count count) elapsed completed) = words (codes "/") ⧺ number tone.Count (non_zero_u32_get count)
 of_iterations (Count total.Infinite elapsed completed) = openly none
@@ -25,7 +25,7 @@ iteration_text x number_of = words (codes "iteration ") ⧺ number tone.Count nu
 abbrev pub toned_clock : ℕ → Fixed Open
 toned_clock n = Toned tone.Count (clock_text n) (free-clock_text n)
 
--- of how much time so much has passed, where that is known
+-- the time that has passed of the total, if that is known
 unfoldable pub of_time : StressProgress → Fixed Open
 of_time (Count all elapsed completed) = openly none
 of_time (Time all elapsed completed) = words (codes "/") ⧺ toned_clock (whole_seconds Floor all.0)

@@ -11,14 +11,14 @@ use Rattle.report_words.specs.Names.{openly}
 use Rattle.text_parts.specs.Names.{bracketed, bar_line, counted_text, summary_text}
 use Rattle.report_words.proofs.lemmas.FreeWords.{free-iterations_word, free-reason_words, free-tests_word_if}
 
--- what a run came to
+-- the style of the outcome of a run
 abbrev pub outcome_tone : FinalRunStats → Tone
 outcome_tone Success = Pass
 outcome_tone NoTestsRun = Skip
 outcome_tone (Cancelled reason kind) = Fail
 outcome_tone (Failed kind) = Fail
 
--- of how many tests so many ran, where that is another number
+-- the number of tests that were planned, if it differs from those that ran
 unfoldable pub initial_count_text : RunStats → Fixed Open
 initial_count_text x =
     choice (x.finished_count == x.initial_run_count) none (words (codes "/") ⧺ number Count x.initial_run_count)
@@ -34,12 +34,12 @@ run_counts_text mode x =
     ⧺ summary_text x
     ⧺ words (codes "\n")
 
--- of how many iterations so many have finished, where that is known
+-- the number of iterations that were planned, if it is known
 unfoldable pub of_total : Option NonZeroU32 → Fixed Open
 of_total None = openly none
 of_total (Some total) = words (codes "/") ⧺ number Count (non_zero_u32_get total)
 
--- how many iterations there were to be, and where that is not known how many have finished
+-- how many iterations were planned, or if that is not known how many have finished
 abbrev pub number_of : ℕ → Option NonZeroU32 → ℕ
 number_of current None = current
 number_of current (Some total) = non_zero_u32_get total
@@ -56,11 +56,11 @@ iterations_run_text i =
     ⧺ Word (iterations_word (last_number i)) (free-iterations_word _)
     ⧺ words (codes ": ")
 
--- how many iterations failed, where there is one
+-- how many iterations failed, if any
 unfoldable pub failed_iterations : ℕ → Fixed Open
 failed_iterations n = choice (n == 0) none (words (codes ", ") ⧺ counted_text n (toned Fail (codes "failed")))
 
--- why the last iteration was cancelled, where that is known
+-- why the last iteration was cancelled, if that is known
 unfoldable pub cancel_reason_text : Option CancelReason → Fixed Open
 cancel_reason_text None = openly none
 cancel_reason_text (Some reason) = words (codes "; cancelled due to ") ⧺ Toned Fail (reason_words reason) (free-reason_words reason)
@@ -80,7 +80,7 @@ stress_counts_text x =
     ⧺ cancelled_due_to x.last_final_stats
     ⧺ words (codes "\n")
 
--- what a stress run came to, and either run
+-- the style of the outcome of a stress run, and of either run
 abbrev pub stress_outcome_tone : StressFinalRunStats → Tone
 stress_outcome_tone stress.Success = Pass
 stress_outcome_tone stress.NoTestsRun = Skip

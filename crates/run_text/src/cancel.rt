@@ -58,7 +58,7 @@ pub fn write_begin_kill<W: WriteStr>(
     (word, Reason(&settings.styles, reason), still, "\n").write_to(w)
 }
 
-// Whether a run that is cancelled for this reason does not wait for what runs.
+// Whether a run that is cancelled for this reason terminates what runs.
 fn ends_at_once(reason: Option<CancelReason>) -> bool
     ensures { result ≡ ends_at_once reason }
 {
@@ -68,7 +68,7 @@ fn ends_at_once(reason: Option<CancelReason>) -> bool
     }
 }
 
-// Why, where that is known.
+// The reason, if it is known.
 #[derive(Clone, Copy)]
 struct Reason<'a>(&'a Styles, Option<CancelReason>);
 
@@ -84,7 +84,7 @@ impl WriteText for Reason<'_> {
     }
 }
 
-// How many still run, where anything does; the flag says that they are terminated.
+// How many still run, if any; the flag says that they are terminated.
 #[derive(Clone, Copy)]
 struct StillRunning<'a>(&'a Settings, bool, Running);
 

@@ -1,4 +1,4 @@
-//! What a replay says before it: which recorded run it shows, when that started, and how it ended.
+//! The header of a replay: which recorded run it shows, when that started, and how it ended.
 
 ghost use Rattle.std.specs.Prelude.{◌≡◌};
 ghost use Rattle.writers.specs.Writer.{Puts};
@@ -14,7 +14,7 @@ use styled_text::text::{Right, Toned};
 use writers::text::WriteText;
 use writers::write_str::{WriteFault, WriteStr, write_strs};
 
-/// Writes what a replay says before it.
+/// Writes the header of a replay.
 ///
 /// ```
 /// write_replay_header(&mut out, &styles, &header)?;
@@ -59,7 +59,6 @@ impl WriteText for StartedAt {
     }
 }
 
-// Writes a date: the year in four digits, the month and the day in two.
 #[tactic(auto, unfolding(crate::specs::Header::date_text))]
 fn write_date<W: WriteStr>(w: &mut W, date: Date) -> Result<(), WriteFault>
     ensures { Puts W.meaning w.old (date_text date) result w.new }
@@ -85,14 +84,13 @@ fn write_date<W: WriteStr>(w: &mut W, date: Date) -> Result<(), WriteFault>
     )
 }
 
-// A minus before the year, where that is before the year 0.
+// A minus before the year, if that is before the year 0.
 fn year_sign(year: i16) -> &'static str
     ensures { result.now ≡ year_sign year }
 {
     if year < 0 { "-" } else { "" }
 }
 
-// Writes a time of day: hour, minute and second in two digits.
 #[tactic(auto, unfolding(crate::specs::Header::time_text))]
 fn write_time<W: WriteStr>(w: &mut W, time: Time) -> Result<(), WriteFault>
     ensures { Puts W.meaning w.old (time_text time) result w.new }

@@ -1,4 +1,4 @@
-//! How a run stands, when it is asked for by a key.
+//! The state of a run, when it is requested by a key.
 
 ghost use Rattle.writers.specs.Writer.{Puts};
 ghost use Rattle.report_words.specs.Parts.{paint};

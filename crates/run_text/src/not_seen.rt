@@ -1,4 +1,4 @@
-//! The tests that a rerun was to see and has not.
+//! The outstanding tests that a rerun has not seen.
 
 ghost use Rattle.styled_text.specs.Names.{flat_map, Puts};
 ghost use Rattle.report_words.specs.Parts.{paint};
@@ -14,7 +14,7 @@ use text_parts::settings::Settings;
 use writers::text::{Unless, WriteText};
 use writers::write_str::{WriteFault, WriteStr};
 
-/// Writes how many outstanding tests were not seen, where there are such, and those that are listed.
+/// Writes how many outstanding tests were not seen, if any, and those that are listed.
 pub fn write_not_seen<W: WriteStr>(
     w: &mut W,
     settings: &Settings,
@@ -33,7 +33,6 @@ pub fn write_not_seen<W: WriteStr>(
     }
 }
 
-// Writes the note, where there are such tests.
 #[tactic(auto, unfolding(crate::specs::NotSeen::not_seen_note, crate::specs::NotSeen::not_seen_start, crate::specs::NotSeen::more_not_seen, crate::specs::NotSeen::more_line))]
 fn write_note<W: WriteStr>(
     w: &mut W,
@@ -69,7 +68,6 @@ fn write_note<W: WriteStr>(
     Unless(remaining == 0, more).write_to(w)
 }
 
-// Writes the tests, each on a line of its own.
 fn write_listed<W: WriteStr>(
     w: &mut W,
     styles: &Styles,
@@ -83,7 +81,7 @@ fn write_listed<W: WriteStr>(
     Ok(())
 }
 
-// Writes a test, without a counter or an iteration.
+// Without a counter or an iteration.
 #[tactic(auto, unfolding(crate::specs::NotSeen::not_seen_line))]
 fn write_listed_test<W: WriteStr>(
     w: &mut W,

@@ -42,7 +42,6 @@ pub fn write_run_continued<W: WriteStr>(
     write_pause(w, settings, "Continuing", setup_scripts_running, running)
 }
 
-// Writes what the run does on a signal, and how many run.
 #[tactic(auto, unfolding(crate::specs::Pause::due_to_signal, crate::specs::Pause::now_running))]
 fn write_pause<W: WriteStr>(
     w: &mut W,

@@ -11,7 +11,7 @@ use uuid::Uuid;
 use writers::text::WriteText;
 use writers::write_str::{WriteFault, WriteStr};
 
-/// A run's id, with its unique prefix where that is known.
+/// A run's id, with its unique prefix if that is known.
 #[derive(Clone, Copy)]
 pub struct ShownRunId<'a>(
     pub &'a Styles,

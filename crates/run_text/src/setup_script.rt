@@ -1,4 +1,4 @@
-//! Setup scripts: that one has started, runs for long or has finished.
+//! Setup scripts: one has started, runs for long or has finished.
 
 ghost use Rattle.std.specs.Prelude.{◌≡◌};
 ghost use Rattle.styled_text.specs.Names.{styled, right_in, Puts};
@@ -22,7 +22,7 @@ use unit_report::formatters::{DisplayBracketedDuration, DisplaySlowDuration};
 use writers::text::{When, WriteText};
 use writers::write_str::{WriteFault, WriteStr};
 
-/// Writes that a setup script has started. `index` is its place among all, from 0.
+/// Writes that a setup script has started. `index` is its index among all, from 0.
 #[tactic(auto, unfolding(crate::specs::SetupScript::setup_script_started_text))]
 pub fn write_setup_script_started<W: WriteStr>(
     w: &mut W,
@@ -38,7 +38,7 @@ pub fn write_setup_script_started<W: WriteStr>(
     (word, " ", counter, ShownScript(styles, &script), "\n").write_to(w)
 }
 
-// Which of the scripts it is, from 1. That number may be above the greatest of its type.
+// Which of the scripts it is, from 1. That number may be one more than the greatest of its type.
 #[derive(Clone, Copy)]
 struct ScriptCounter(usize, usize);
 
@@ -56,7 +56,7 @@ impl WriteText for ScriptCounter {
     }
 }
 
-/// Writes that a setup script has run for long, where its level is shown.
+/// Writes that a setup script has run for long, if its level is shown.
 #[tactic(auto, unfolding(crate::specs::SetupScript::setup_script_slow_text, crate::specs::SetupScript::shown_slow_script))]
 pub fn write_setup_script_slow<W: WriteStr>(
     w: &mut W,
@@ -82,7 +82,7 @@ pub fn write_setup_script_slow<W: WriteStr>(
     .write_to(w)
 }
 
-// The level from which on a slow script is told of.
+// The level from which a slow script is shown.
 fn slow_script_level(will_terminate: bool) -> StatusLevel
     ensures { result ≡ slow_script_level will_terminate }
 {
@@ -93,7 +93,7 @@ fn slow_script_level(will_terminate: bool) -> StatusLevel
     }
 }
 
-// That it is slow, or is ended for it.
+// Whether it is slow, or is terminated for it.
 #[derive(Clone, Copy)]
 struct SlowScriptWord<'a>(&'a Styles, bool);
 
@@ -110,8 +110,8 @@ impl WriteText for SlowScriptWord<'_> {
     }
 }
 
-/// Writes that a setup script has finished, and what it wrote unless it succeeded. What is shown must not have been left
-/// unread.
+/// Writes that a setup script has finished, and its output unless it succeeded. Output that is shown must be
+/// loaded.
 #[tactic(auto, unfolding(crate::specs::SetupScript::setup_script_finished_text, crate::specs::SetupScript::setup_script_line))]
 pub fn write_setup_script_finished<W: WriteStr>(
     w: &mut W,
@@ -150,7 +150,7 @@ impl WriteText for ScriptStatus<'_> {
     }
 }
 
-// The style of that. A timeout that counts as a success has that of a failure.
+// Its style. A timeout that counts as a success has that of a failure.
 fn script_status_style(styles: &Styles, outcome: &ExecutionResultDescription) -> Style
     ensures { result ≡ style_of styles.now (script_status_tone outcome.now) }
 {
@@ -168,7 +168,6 @@ fn script_status_style(styles: &Styles, outcome: &ExecutionResultDescription) ->
     }
 }
 
-// Writes what a setup script wrote, unless it succeeded.
 #[tactic(auto, unfolding(crate::specs::SetupScript::failed_script_output))]
 fn write_failed_script_output<W: WriteStr>(
     w: &mut W,

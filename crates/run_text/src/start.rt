@@ -1,4 +1,4 @@
-//! The start of a run: its id and profile, and what it is to run.
+//! The start of a run: its id and profile, and the tests that will run.
 
 ghost use Rattle.writers.specs.Writer.{Puts};
 ghost use Rattle.report_words.specs.Parts.{paint};

@@ -1,4 +1,4 @@
-//! The iterations of a stress run: that one has started or has finished.
+//! The iterations of a stress run: one has started or has finished.
 
 ghost use Rattle.styled_text.specs.Names.{option_map, Puts};
 ghost use Rattle.std.specs.Prelude.{◌≡◌};
@@ -20,7 +20,7 @@ use unit_report::formatters::DisplayBracketedDuration;
 use writers::text::WriteText;
 use writers::write_str::{WriteFault, WriteStr};
 
-/// Writes that an iteration of a stress run has started, and what of the run has passed and remains.
+/// Writes that an iteration of a stress run has started, and how much of the run has passed and remains.
 #[tactic(auto, unfolding(crate::specs::Stress::stress_sub_run_started_text, crate::specs::Stress::stress_sub_run_line, crate::specs::Stress::elapsed_text))]
 pub fn write_stress_sub_run_started<W: WriteStr>(
     w: &mut W,
@@ -47,7 +47,7 @@ pub fn write_stress_sub_run_started<W: WriteStr>(
     (BarLine(settings.theme_characters), line).write_to(w)
 }
 
-// The number of an iteration, and how many there are to be where that is known.
+// The number of an iteration, and the planned number if that is known.
 #[derive(Clone, Copy)]
 struct Iteration<'a>(&'a Styles, &'a StressProgress, u128);
 
@@ -66,7 +66,7 @@ impl WriteText for Iteration<'_> {
     }
 }
 
-// How many iterations there are to be, where that is known.
+// How many iterations are planned, if that is known.
 #[derive(Clone, Copy)]
 struct OfIterations<'a>(&'a Styles, &'a StressProgress);
 
@@ -89,7 +89,7 @@ impl WriteText for OfIterations<'_> {
     }
 }
 
-// How long the run is to take, where that is known.
+// How long the run should take, if that is known.
 #[derive(Clone, Copy)]
 struct OfTime<'a>(&'a Styles, &'a StressProgress);
 
@@ -119,8 +119,8 @@ fn toned_clock(
     Painted(styles.count, FormattedHhMmSs { duration, rounding })
 }
 
-// What remains, where that is known. A part of a second counts as one, so that it and the time that has passed do not
-// seem to make less than the whole.
+// What remains, if that is known. A part of a second counts as one, so that it and the time that has passed do not
+// seem to add up to less than the whole.
 #[derive(Clone, Copy)]
 struct Remaining<'a>(&'a Styles, Option<StressRemaining>);
 

@@ -86,7 +86,7 @@ impl WriteText for RunCounts<'_> {
     }
 }
 
-// Of how many iterations, where that is known.
+// The total number of iterations, if that is known.
 #[derive(Clone, Copy)]
 struct OfTotal<'a>(&'a Styles, Option<NonZeroU32>);
 
@@ -102,7 +102,7 @@ impl WriteText for OfTotal<'_> {
     }
 }
 
-// Why the last iteration was cancelled, where that is known.
+// Why the last iteration was cancelled, if that is known.
 #[derive(Clone, Copy)]
 struct CancelledDueTo<'a>(&'a Styles, FinalRunStats);
 
@@ -121,7 +121,7 @@ impl WriteText for CancelledDueTo<'_> {
     }
 }
 
-// The style of a summary, by what the run came to.
+// The style of a summary, by the outcome of the run.
 fn summary_style(styles: &Styles, run_stats: &RunFinishedStats) -> Style
     ensures { result ≡ style_of styles.now (summary_tone run_stats.now) }
 {
@@ -131,7 +131,7 @@ fn summary_style(styles: &Styles, run_stats: &RunFinishedStats) -> Style
     }
 }
 
-// The style of what a stress run came to.
+// The style of the outcome of a stress run.
 fn stress_outcome_style(styles: &Styles, outcome: StressFinalRunStats) -> Style
     ensures { result ≡ style_of styles.now (stress_outcome_tone outcome) }
 {
@@ -142,7 +142,7 @@ fn stress_outcome_style(styles: &Styles, outcome: StressFinalRunStats) -> Style
     }
 }
 
-// How many iterations there were to be, and where that is not known how many have finished.
+// How many iterations were planned, or if that is not known how many have finished.
 fn last_number(completed: &StressIndex) -> u32
     ensures { result ≡ last_number completed.now }
 {
@@ -152,7 +152,7 @@ fn last_number(completed: &StressIndex) -> u32
     }
 }
 
-/// The style of what a run came to.
+/// The style of the outcome of a run.
 pub fn outcome_style(styles: &Styles, outcome: FinalRunStats) -> Style
     ensures { result ≡ style_of styles.now (outcome_tone outcome) }
 {

@@ -10,8 +10,8 @@
 //! scanned once, and its pieces are slices of it.
 
 ghost use Rattle.std.specs.Prelude.{◌≡◌, ℕ, false, [], ◌∷◌, List, IfOk, IfSome, MatchOption, string_bytes};
-ghost use Rattle.styled_text.specs.Names.{YieldsFirstBy, item_count, sequence_len, csi_len, front_len, is_within, is_visible, is_parameter, pieces, visible, joined, stretches};
-ghost use Rattle.styled_text.specs.Names.{HasNoEscape, piece_text, rest_len, is_before_backslash, StepCounts, step_of, short_step_of, final_step_of, advanced, Puts};
+ghost use Rattle.styled_text.specs.Names.{YieldsFirstBy, item_count, sequence_len, csi_len, front_len, is_within, is_visible, is_parameter, pieces, visible, joined, stretches, HasNoEscape, piece_text};
+ghost use Rattle.styled_text.specs.Names.{rest_len, is_before_backslash, StepCounts, step_of, short_step_of, final_step_of, advanced, Puts};
 ghost use Rattle.styled_text.specs.declared.escapes.Mode.TheVariants.{Text};
 ghost use Rattle.styled_text.specs.declared.escapes.State.TheVariants.{Parameters, Intermediates, Command, Short};
 

@@ -20,7 +20,7 @@ attempt_words attempt word = codes "TRY " ++ (decimal attempt ++ (codes " " ++ w
 pub free-attempt_words : (attempt : ℕ) (word : Text) → HasNoEscape word → HasNoEscape (attempt_words attempt word)
 free-attempt_words attempt word free = free_both (decimal attempt) (codes " " ++ word) (decimal_free _) free
 
--- a success after earlier attempts: as it is shown at once, and in the summary
+-- a success after earlier attempts: as it is shown during the run, and in the summary
 abbrev pub flaky_tone : FlakyResult → Tone
 flaky_tone flaky.Pass = Skip
 flaky_tone flaky.Fail = Fail
@@ -39,19 +39,19 @@ free-flaky_words Intermediate x retry = free-attempt_words retry.attempt (codes 
 free-flaky_words Final flaky.Pass retry = free_both (decimal retry.attempt) (codes "/" ++ decimal retry.total_attempts) (decimal_free _) (decimal_free retry.total_attempts)
 free-flaky_words Final flaky.Fail retry = free_both (decimal retry.attempt) (codes "/" ++ decimal retry.total_attempts) (decimal_free _) (decimal_free retry.total_attempts)
 
--- a success at the first attempt: that it was slow is said in the summary alone
+-- a success at the first attempt: only the summary says that it was slow
 abbrev pub success_tone : Bool → ExecutionResultDescription → Tone
 success_tone is_slow result = if is_plain_success is_slow result then Pass else Skip
 
 abbrev pub success_text : Bool → ExecutionResultDescription → Fixed Open
 success_text is_slow result = Right 12 (success_tone is_slow result) (success_word is_slow result) (free-success_word is_slow result)
 
--- a failure, after its attempt's number where that is not 1
+-- a failure, after its attempt's number if that is not 1
 abbrev pub failure_words : ℕ → ExecutionResultDescription → Text
 failure_words attempt result =
     if attempt == 1 then long_word result else attempt_words attempt (short_word result)
 
--- what the code hands to a line
+-- as the code has it
 abbrev pub shown_summary : StatusLine → StatusSummary
 shown_summary line = record {
   case = line.case;
@@ -65,7 +65,7 @@ abbrev pub is_final_line : StatusLineKind → Bool
 is_final_line Intermediate = false
 is_final_line Final = true
 
--- what begins the line, by what the attempts came to
+-- the words that begin the line, by the outcome of the attempts
 abbrev pub status_words : StatusLineKind → StatusCase → StatusSummary → Parts false Open
 status_words kind Success x = plainly (success_text (is_final_line kind && x.is_slow) x.result)
 status_words kind (Flaky result) x = plainly (Right 12 (flaky_tone result) (flaky_words kind result x.retry_data) (free-flaky_words kind result x.retry_data))
@@ -82,16 +82,16 @@ is_flaky_failure (Flaky flaky.Pass) = false
 is_flaky_failure (Flaky flaky.Fail) = true
 is_flaky_failure Failure = false
 
--- what is said of that
+-- the note about that
 unfoldable pub flaky_note : Fixed Line
 flaky_note = words (codes "           - test configured to ") ⧺ toned Fail (codes "fail") ⧺ words (codes " if flaky\n")
 
--- it is said after the line that is shown at once
+-- it follows the line during the run
 unfoldable pub flaky_failure_line : StatusLineKind → StatusCase → Fixed Lines
 flaky_failure_line Final x = none
 flaky_failure_line Intermediate x = choice (is_flaky_failure x) flaky_note none
 
--- the line of a finished test, as it is shown at once or in the summary
+-- the line of a finished test, during the run or in the summary
 unfoldable pub status_line : StatusLineKind → CountedInstance → StatusSummary → Parts false Line
 status_line kind test x =
     status_prefix kind x

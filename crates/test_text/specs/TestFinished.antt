@@ -8,8 +8,8 @@ use Rattle.test_text.specs.StatusLine.{status_line}
 use Rattle.test_text.specs.declared.status_line.StatusLineKind.TheVariants.{Intermediate}
 use Rattle.test_text.specs.declared.test_finished.FinishedTest.{FinishedTest}
 
--- a finished test under a reason: as its line names it, when its output is shown, what becomes of it, what its attempts came
--- to, and the last of them
+-- a finished test under a reason: as its line names it, when its output is shown, its row, its outcome,
+-- and its last attempt
 pub record FinishReport : Type 0 where
   pub test : CountedInstance
   pub display : TestOutputDisplay
@@ -26,7 +26,7 @@ test_finish s reason stress instance success failure statuses stats = record {
   last = statuses.last;
 }
 
--- what the code hands on of it
+-- as the code has it
 abbrev pub finish_of : FinishedTest → FinishReport
 finish_of f = record {
   test = f.test;
@@ -36,15 +36,15 @@ finish_of f = record {
   last = described_last f.describe;
 }
 
--- the output of its last attempt is there, if it is shown, at once or at the end of the run
+-- the output of its last attempt is loaded, if it is shown, immediately or at the end of the run
 abbrev pub HasShownOutput : FinishReport → Type 0
 HasShownOutput f = is_ever_shown f.display ≡ true → has_loaded_output f.last.output ≡ true
 
--- the line of a finished test, where the status level is at least the test's
+-- the line of a finished test, if the status level is at least the test's
 unfoldable pub line_at_once : Settings → FinishReport → Parts false Lines
 line_at_once s f = choice (is_line_shown s f.summary) (status_line Intermediate f.test f.summary) none
 
--- the output of its last attempt, where that is shown at once, whatever the status level
+-- the output of its last attempt, if that is shown immediately, whatever the status level is
 unfoldable pub output_at_once : Settings → FinishReport → Parts false Lines
 output_at_once s f = choice (timed_at_once f.row f.display) (attempt_output s false f.last.result f.last.output) none
 

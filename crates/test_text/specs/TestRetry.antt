@@ -1,4 +1,4 @@
--- An attempt that failed where another one follows.
+-- A failed attempt that is retried.
 use Rattle.std.specs.Prelude.{◌≡◌, ℕ, ◌+◌, Bool, true, false, Option, ◌++◌, ◌==◌, codes, unwrap_or}
 use Rattle.styled_text.specs.Names.{decimal, Text, HasNoEscape}
 use Rattle.run_model.specs.Names.{Attempt, is_immediate, has_loaded_output, TestOutputDisplay, TestInstanceId, RetryData, StressIndex}
@@ -17,15 +17,15 @@ attempt_failed_line test x =
     ⧺ bracketed x.time_taken.0
     ⧺ instance_end test
 
--- its output is shown at once: by the setting of failures, also where the test could not be started
+-- its output is shown immediately: by the setting for failures, also if the test could not be started
 unfoldable pub is_failed_output_shown : Settings → TestOutputDisplay → Bool
 is_failed_output_shown s failure = is_immediate (unwrap_or s.unit_output.overrides.force_failure_output failure)
 
--- its output is there, if it is shown at once
+-- its output is loaded, if it is shown immediately
 abbrev pub HasFailedAttemptOutput : Settings → Attempt → TestOutputDisplay → Type 0
 HasFailedAttemptOutput s x failure = is_failed_output_shown s failure ≡ true → has_loaded_output x.output ≡ true
 
--- its output, where that is shown at once
+-- its output, if that is shown immediately
 unfoldable pub failed_output : Settings → Attempt → TestOutputDisplay → Parts false Lines
 failed_output s x failure = choice (is_failed_output_shown s failure) (attempt_output s true x.result x.output) none
 
@@ -36,12 +36,12 @@ delay_words r = codes "DELAY " ++ (decimal (r.attempt + 1) ++ (codes "/" ++ deci
 pub free-delay_words : (r : RetryData) → HasNoEscape (delay_words r)
 free-delay_words r = free_both (decimal (r.attempt + 1)) (codes "/" ++ decimal r.total_attempts) (decimal_free (r.attempt + 1)) (decimal_free r.total_attempts)
 
--- how long the next attempt waits, where it does
+-- how long the next attempt waits, if it does
 unfoldable pub delay_line : CountedInstance → RetryData → ℕ → Parts false Lines
 delay_line test r delay =
     choice (delay == 0) none (Right 12 Retry (delay_words r) (free-delay_words r) ⧺ words (codes " ") ⧺ by_delay delay ⧺ instance_end test)
 
--- an attempt has failed, and another one follows: nothing where such attempts are not shown
+-- an attempt has failed and is retried: nothing if such attempts are not shown
 unfoldable pub attempt_failed_text : Settings → Option StressIndex → TestInstanceId → Attempt → ℕ → TestOutputDisplay → Parts false Lines
 attempt_failed_text s stress instance x delay failure =
     choice (is_level_shown s status.Retry)

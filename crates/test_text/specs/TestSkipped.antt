@@ -1,4 +1,4 @@
--- A test that is not run.
+-- A skipped test.
 use Rattle.std.specs.Prelude.{false, Option, codes}
 use Rattle.run_names.specs.declared.level.StatusLevel.TheVariants as status
 use Rattle.run_model.specs.Names.{TestInstanceId, StressIndex}
@@ -9,6 +9,6 @@ use Rattle.text_parts.specs.Names.{padded_instance, untimed_end, is_level_shown,
 unfoldable pub skip_line : CountedInstance → Parts false Line
 skip_line test = right 12 Skip (codes "SKIP") ⧺ untimed_end test
 
--- the line, where skipped tests are shown
+-- the line, if skipped tests are shown
 unfoldable pub test_skipped_text : Settings → Option StressIndex → TestInstanceId → Parts false Lines
 test_skipped_text s stress instance = choice (is_level_shown s status.Skip) (skip_line (padded_instance s stress instance)) none

@@ -20,7 +20,7 @@ pub free-slow_word : (attempt : ℕ) → HasNoEscape (slow_word attempt)
 unfolding slow_word
 free-slow_word attempt = free-if (nat_lt 1 attempt) _ _ (free-attempt_words attempt (codes "SLOW") refl) refl
 
--- an attempt is slow: the line, where slow tests are shown
+-- an attempt is slow: the line, if slow tests are shown
 unfoldable pub slow_text : Settings → CountedInstance → ℕ → ℕ → Parts false Lines
 slow_text s test attempt elapsed =
     choice (is_level_shown s status.Slow) (Right 12 Skip (slow_word attempt) (free-slow_word attempt) ⧺ slow_end test elapsed) none
@@ -29,22 +29,22 @@ slow_text s test attempt elapsed =
 unfoldable pub is_last_attempt : RetryData → Bool
 is_last_attempt r = nat_le r.total_attempts r.attempt
 
--- an attempt that is ended counts as a failure, unless another one follows
+-- a terminated attempt counts as a failure, unless it is retried
 abbrev pub terminating_level : RetryData → StatusLevel
 terminating_level r = if is_last_attempt r then status.Fail else status.Retry
 
 abbrev pub terminating_tone : RetryData → Tone
 terminating_tone r = if is_last_attempt r then Fail else Retry
 
--- more is shown at once than what has this level
+-- the run shows more than this level
 unfoldable pub is_level_exceeded : Settings → StatusLevel → Bool
 is_level_exceeded s level = nat_lt (status_rank level) (status_rank s.status_levels.status_level)
 
--- its number is said: there are other attempts, and more is shown than the lines of its level
+-- its number is shown: there are other attempts, and more is shown than the lines of its level
 unfoldable pub has_number : Settings → RetryData → Bool
 has_number s r = nat_lt 1 r.total_attempts && is_level_exceeded s (terminating_level r)
 
--- the word of an attempt that is ended; beside a number there is room for a short one only
+-- the word of a terminated attempt; beside a number there is room for a short one only
 unfoldable pub terminating_word : Settings → RetryData → Text
 terminating_word s r = if has_number s r then attempt_words r.attempt (codes "TRMNTG") else codes "TERMINATING"
 
@@ -52,14 +52,14 @@ pub free-terminating_word : (s : Settings) (r : RetryData) → HasNoEscape (term
 unfolding terminating_word
 free-terminating_word s r = free-if (has_number s r) _ _ (free-attempt_words r.attempt (codes "TRMNTG") refl) refl
 
--- an attempt is ended since it is slow: the line, where its level is shown
+-- a slow attempt is terminated: the line, if its level is shown
 unfoldable pub terminating_text : Settings → CountedInstance → RetryData → ℕ → Parts false Lines
 terminating_text s test r elapsed =
     choice (is_level_shown s (terminating_level r))
     (Right 12 (terminating_tone r) (terminating_word s r) (free-terminating_word s r) ⧺ slow_end test elapsed)
     none
 
--- a test is slow, and goes on or is ended for that
+-- a test is slow, and goes on or is terminated
 abbrev pub slow_or_terminating : Settings → CountedInstance → RetryData → ℕ → Bool → Parts false Lines
 slow_or_terminating s test r elapsed true = terminating_text s test r elapsed
 slow_or_terminating s test r elapsed false = slow_text s test r.attempt elapsed

@@ -1,4 +1,4 @@
--- A test that starts, and another attempt of one.
+-- A test that starts, and a retry.
 use Rattle.std.specs.Prelude.{ℕ, false, List, Option, codes, refl}
 use Rattle.run_model.specs.Names.{TestInstanceId, RunStats, RetryData, StressIndex}
 use Rattle.text_parts.specs.Names.{shell_words, padded_instance, untimed_end, shows_starts, started_counter, CountedInstance, Settings}
@@ -10,18 +10,18 @@ use Rattle.test_text.specs.StatusLine.{attempt_words, free-attempt_words}
 abbrev pub started_instance : Settings → Option StressIndex → TestInstanceId → RunStats → CountedInstance
 started_instance s stress instance x = record { stress_index = stress; counter = started_counter s x; instance = instance }
 
--- its line, where starts are shown
+-- its line, if starts are shown
 unfoldable pub start_line : Settings → CountedInstance → Parts false Lines
 start_line s test = choice (shows_starts s) (right 12 Pass (codes "START") ⧺ untimed_end test) none
 
--- the same of another attempt
+-- for a retry
 unfoldable pub retry_start_line : Settings → ℕ → CountedInstance → Parts false Lines
 retry_start_line s attempt test =
     choice (shows_starts s)
     (Right 12 Retry (attempt_words attempt (codes "START")) (free-attempt_words attempt (codes "START") refl) ⧺ untimed_end test)
     none
 
--- the command that runs a test, where commands are shown
+-- the command that runs a test, if commands are shown
 unfoldable pub command_text : Settings → List Text → Parts false Lines
 command_text s command =
     choice s.verbose (right 20 Count (codes "command") ⧺ words (codes ": ") ⧺ drawn_given (λ s. shell_words command) ⧺ words (codes "\n")) none

@@ -1,4 +1,4 @@
-//! The line of a finished test, as it is shown at once and in the summary.
+//! The line of a finished test, as it is shown during the run and in the summary.
 
 ghost use Rattle.std.specs.Prelude.{◌≡◌, ◌++◌, IfOk, IsOk, codes, false};
 ghost use Rattle.styled_text.specs.Names.{OnTrue, Puts, plain, styled, right_in};
@@ -26,7 +26,7 @@ use unit_report::formatters::DisplayBracketedDuration;
 use writers::text::WriteText;
 use writers::write_str::{WriteFault, WriteStr};
 
-/// Where the line of a finished test stands.
+/// Where the line of a finished test is shown.
 #[derive(Clone, Copy, Debug, PartialEq, Eq)]
 pub enum StatusLineKind {
     /// It is shown at once.
@@ -36,7 +36,7 @@ pub enum StatusLineKind {
 }
 
 impl StatusLineKind {
-    /// Whether it stands in the summary.
+    /// Whether it is a line of the summary.
     pub fn is_final_line(self) -> bool
         ensures { result ≡ is_final_line self }
     {
@@ -47,7 +47,7 @@ impl StatusLineKind {
     }
 }
 
-/// What the line of a finished test says of its attempts.
+/// What the line of a finished test shows of its attempts.
 #[derive(Clone, Copy)]
 pub struct StatusLine<'b> {
     /// What the attempts came to.
@@ -138,7 +138,6 @@ fn write_line<W: WriteStr>(
     write_flaky_failure_line(w, styles, kind, line.case)
 }
 
-// Writes the word that begins the line, and a space.
 #[tactic(auto, unfolding(crate::specs::StatusLine::status_prefix))]
 fn write_status_prefix<W: WriteStr>(
     w: &mut W,
@@ -162,7 +161,6 @@ fn write_status_prefix<W: WriteStr>(
     }
 }
 
-// Writes the word of a success, right in twelve columns, and a space.
 fn write_success_word<W: WriteStr>(
     w: &mut W,
     styles: &Styles,
@@ -172,7 +170,7 @@ fn write_success_word<W: WriteStr>(
     ensures { Puts W.meaning w.old (paint styles.now (success_text is_slow outcome.now) ++ plain (codes " ")) result w.new }
 {
     match outcome {
-        // Most tests pass: their word is there in its columns.
+        // Most tests pass: their word is a constant, with its padding.
         ExecutionResultDescription::Pass if !is_slow => {
             write_word(w, styles.pass, "        PASS", "        PASS ")
         }
@@ -188,7 +186,7 @@ fn write_success_word<W: WriteStr>(
     }
 }
 
-// Writes a word that stands in its columns, and a space. Without colour they are one text.
+// Writes a constant word with its padding, and a space. Without colour they are one text.
 #[inline(always)]
 #[tactic(auto, unfolding(styled_text::specs::Style::styled, styled_text::specs::Style::plain))]
 fn write_word<W: WriteStr>(
@@ -207,7 +205,6 @@ fn write_word<W: WriteStr>(
     write_plain(w, " ")
 }
 
-// Writes the words of a success after earlier attempts, right in twelve columns.
 fn write_flaky_word<W: WriteStr>(
     w: &mut W,
     styles: &Styles,
@@ -239,7 +236,6 @@ fn write_flaky_word<W: WriteStr>(
     }
 }
 
-// Writes the words of a failure, right in twelve columns, and a space.
 fn write_failure_word<W: WriteStr>(
     w: &mut W,
     styles: &Styles,
@@ -255,7 +251,7 @@ fn write_failure_word<W: WriteStr>(
     write_plain(w, " ")
 }
 
-// Whether the word is plain `FAIL`, which is written as a constant.
+// Whether the word is plain `FAIL`, which is a constant.
 fn is_plain_failure(attempt: u32, failed: &ExecutionResultDescription) -> bool
     ensures { OnTrue result (failure_words attempt failed.now ≡ codes "FAIL") }
 {
@@ -281,7 +277,6 @@ fn is_plain_exit(failure: &FailureDescription, leaked: bool) -> bool
     }
 }
 
-// Writes the words of any failure, right in twelve columns.
 fn write_other_failure<W: WriteStr>(
     w: &mut W,
     styles: &Styles,
@@ -302,7 +297,6 @@ fn write_other_failure<W: WriteStr>(
     styles.fail.write_right_joined(w, 12, "TRY ", number.format(attempt), word.front, word.back)
 }
 
-// Writes that a success counts as a failure, where it does and the line is shown at once.
 #[tactic(auto, unfolding(crate::specs::StatusLine::flaky_failure_line))]
 #[inline(always)]
 fn write_flaky_failure_line<W: WriteStr>(
@@ -325,7 +319,6 @@ fn write_flaky_failure_line<W: WriteStr>(
     }
 }
 
-// Writes that a success counts as a failure.
 #[tactic(auto, unfolding(crate::specs::StatusLine::flaky_note))]
 fn write_flaky_note<W: WriteStr>(w: &mut W, styles: &Styles) -> Result<(), WriteFault>
     ensures { Puts W.meaning w.old (paint styles.now flaky_note) result w.new }
@@ -335,7 +328,7 @@ fn write_flaky_note<W: WriteStr>(w: &mut W, styles: &Styles) -> Result<(), Write
     write_plain(w, " if flaky\n")
 }
 
-// Whether a success counts as a failure since it came after earlier attempts.
+// Whether a success counts as a failure because it came after earlier attempts.
 #[inline(always)]
 fn is_flaky_failure(case: StatusCase) -> bool
     ensures { result ≡ is_flaky_failure case }

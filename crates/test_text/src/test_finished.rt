@@ -1,4 +1,4 @@
-//! A finished test, and its text as it is shown at once.
+//! A finished test, and its text during the run.
 
 ghost use Rattle.std.specs.Prelude.{◌≡◌};
 ghost use Rattle.run_names.specs.Levels.{reason_rank};
@@ -20,7 +20,7 @@ use text_parts::instance::CountedInstance;
 use text_parts::settings::Settings;
 use writers::write_str::{WriteFault, WriteStr};
 
-/// A finished test, as its line, its output and its entry are made of it.
+/// A finished test, for its line, its output and its entry.
 #[derive(Clone, Copy)]
 pub struct FinishedTest<'e, 'a> {
     /// The test.
@@ -62,8 +62,8 @@ impl<'e, 'a> FinishedTest<'e, 'a> {
     }
 }
 
-/// Writes the line of a finished test where its level is shown, and the output of its last attempt where that is
-/// shown at once. That output must not have been left unread.
+/// Writes the line of a finished test if its level is shown, and the output of its last attempt if that is
+/// shown immediately. That output must be loaded.
 #[inline(always)]
 #[tactic(auto, unfolding(crate::specs::TestFinished::test_finished_text))]
 pub fn write_test_finished<W: WriteStr>(
@@ -78,7 +78,6 @@ pub fn write_test_finished<W: WriteStr>(
     write_output_at_once(w, settings, finished)
 }
 
-// Writes the line of a finished test, where its level is shown.
 #[tactic(auto, unfolding(crate::specs::TestFinished::line_at_once))]
 fn write_line_at_once<W: WriteStr>(
     w: &mut W,
@@ -101,7 +100,7 @@ fn write_line_at_once<W: WriteStr>(
     }
 }
 
-// Writes the output of the last attempt where that is shown at once, whatever the status level.
+// Whatever the status level is.
 #[tactic(auto, unfolding(crate::specs::TestFinished::output_at_once))]
 fn write_output_at_once<W: WriteStr>(
     w: &mut W,

@@ -1,4 +1,4 @@
-//! An attempt that failed where another one follows.
+//! A failed attempt that is retried.
 
 ghost use Rattle.std.specs.Prelude.{◌≡◌, true};
 ghost use Rattle.styled_text.specs.Names.{styled, right_in, Puts};
@@ -25,8 +25,8 @@ use unit_report::formatters::{DisplayBracketedDuration, DisplayDurationBy};
 use writers::text::{Unless, WriteText};
 use writers::write_str::{WriteFault, WriteStr};
 
-/// Writes that an attempt has failed and another one follows, where such attempts are shown: its line, its output where
-/// that is shown at once, and how long the next attempt waits. Output that is shown must not have been left unread.
+/// Writes that an attempt has failed and is retried, if such attempts are shown: its line, its output if
+/// that is shown immediately, and how long the next attempt waits. Output that is shown must be loaded.
 ///
 /// ```
 /// let attempt = ExecuteStatus::failed(1, Nanos::from_millis(500)).with_retry_data(RetryData { attempt: 1, total_attempts: 3 });
@@ -87,7 +87,6 @@ impl WriteText for AttemptWord<'_> {
     }
 }
 
-// Writes the output of an attempt that failed, where that is shown at once.
 #[tactic(auto, unfolding(crate::specs::TestRetry::failed_output))]
 fn write_failed_output<W: WriteStr>(
     w: &mut W,
@@ -104,7 +103,7 @@ fn write_failed_output<W: WriteStr>(
     write_test_execute_status(w, settings, true, &run_status.result, &run_status.output)
 }
 
-// Whether the output of an attempt that failed is shown at once: by the setting of failures, also where the test could
+// Whether the output of a failed attempt is shown immediately: by the setting for failures, also if the test could
 // not be started.
 #[tactic(auto, unfolding(crate::specs::TestRetry::is_failed_output_shown))]
 fn shows_failed_output(settings: &Settings, failure_output: TestOutputDisplay) -> bool

@@ -1,4 +1,4 @@
-//! A test that is not run.
+//! A skipped test.
 
 ghost use Rattle.writers.specs.Writer.{Puts};
 ghost use Rattle.report_words.specs.Parts.{paint};
@@ -12,7 +12,7 @@ use text_parts::settings::Settings;
 use writers::text::WriteText;
 use writers::write_str::{WriteFault, WriteStr};
 
-/// Writes that a test is not run, where skipped tests are shown.
+/// Writes that a test is skipped, if skipped tests are shown.
 #[tactic(auto, unfolding(crate::specs::TestSkipped::test_skipped_text))]
 pub fn write_test_skipped<W: WriteStr>(
     w: &mut W,
@@ -29,7 +29,7 @@ pub fn write_test_skipped<W: WriteStr>(
     write_skip_line(w, settings, test)
 }
 
-/// Writes the line of a test that is not run, which the summary repeats.
+/// Writes the line of a skipped test, which the summary repeats.
 ///
 /// ```
 /// write_skip_line(&mut out, &settings, settings.padded_instance(None, test.as_ref()))?;

@@ -18,7 +18,7 @@ use unit_report::formatters::DisplaySlowDuration;
 use writers::text::{When, WriteText};
 use writers::write_str::{WriteFault, WriteStr};
 
-/// Writes that an attempt of a test is slow, or that it is ended for that, where its level is shown.
+/// Writes that an attempt of a test is slow, or that it is terminated for that, if its level is shown.
 ///
 /// ```
 /// write_test_slow(&mut out, &settings, None, test.as_ref(), RetryData::only(), Nanos::from_secs(60), false)?;
@@ -70,7 +70,7 @@ impl WriteText for SlowWord {
     }
 }
 
-// The word of an attempt that is ended, with its number where more is shown than such lines.
+// The word of a terminated attempt, with its number if more is shown than such lines.
 #[derive(Clone, Copy)]
 struct TerminatingWord<'a>(&'a Settings, RetryData);
 
@@ -89,7 +89,7 @@ impl WriteText for TerminatingWord<'_> {
     }
 }
 
-// The level of an attempt that is ended: it is a failure, unless another attempt follows.
+// The level of a terminated attempt: it is a failure, unless it is retried.
 #[tactic(auto, unfolding(crate::specs::TestSlow::is_last_attempt))]
 fn terminating_level(retry_data: RetryData) -> StatusLevel
     ensures { result ≡ terminating_level retry_data }
@@ -101,7 +101,7 @@ fn terminating_level(retry_data: RetryData) -> StatusLevel
     }
 }
 
-// The style of the same.
+// Its style.
 #[tactic(auto, unfolding(crate::specs::TestSlow::is_last_attempt))]
 fn terminating_style(styles: &Styles, retry_data: RetryData) -> Style
     ensures { result ≡ style_of styles.now (terminating_tone retry_data) }
@@ -113,7 +113,7 @@ fn terminating_style(styles: &Styles, retry_data: RetryData) -> Style
     }
 }
 
-// Whether its number is given: there are other attempts, and more is shown than the lines of its level.
+// Whether its number is shown: there are other attempts, and more is shown than the lines of its level.
 #[tactic(auto, unfolding(crate::specs::TestSlow::has_number))]
 fn has_number(settings: &Settings, retry_data: RetryData) -> bool
     ensures { result ≡ has_number settings.now retry_data }
@@ -121,7 +121,7 @@ fn has_number(settings: &Settings, retry_data: RetryData) -> bool
     retry_data.total_attempts > 1 && shows_more_than(settings, terminating_level(retry_data))
 }
 
-// Whether more is shown at once than what has this level.
+// Whether the run shows more than this level.
 #[tactic(auto, unfolding(crate::specs::TestSlow::is_level_exceeded))]
 fn shows_more_than(settings: &Settings, level: StatusLevel) -> bool
     ensures { result ≡ is_level_exceeded settings.now level }

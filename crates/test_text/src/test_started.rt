@@ -1,4 +1,4 @@
-//! A test that starts, and another attempt of one: shown where output is not captured, or with commands.
+//! A test that starts, and a retry: shown if output is not captured, or with commands.
 
 ghost use Rattle.writers.specs.Writer.{Puts};
 ghost use Rattle.text_parts.specs.Instance.{padded_instance};
@@ -66,7 +66,6 @@ pub fn write_test_retry_started<W: WriteStr>(
     write_command_line(w, settings, command_line)
 }
 
-// Writes the command that runs a test, where commands are shown.
 #[tactic(auto, unfolding(crate::specs::TestStarted::command_text))]
 fn write_command_line<W: WriteStr>(
     w: &mut W,

@@ -1,4 +1,4 @@
--- What is handed in for the answers of units (for the texts of their events).
+-- The responses of units, without escape characters (for the texts of their events).
 use Rattle.std.proofs.Common.{ℕ, Bool, true, false, refl, Option, None, Some}
 use Rattle.styled_text.specs.Names.{is_some, without_end_spaces, styles_of}
 use Rattle.run_model.specs.Names.{Written, InfoResponse, UnitState, ExecutionResultDescription, NextestRunMode, UnitKind}

@@ -1,4 +1,4 @@
--- What is handed in for the texts of a run: its id and profile, its setup scripts, and the tests that were not seen.
+-- The texts of a run without escape characters: its id and profile, its setup scripts, and the tests that were not seen.
 use Rattle.std.proofs.Common.{ℕ, Bool, false, List, [], ◌∷◌, Option, None, Some}
 use Rattle.styled_text.specs.Names.{AllByRecursion, HasNoEscape, Text}
 use Rattle.jiff_core.specs.declared.civil.datetime.DateTime.{DateTime}
@@ -38,7 +38,7 @@ pub free-run_started_text : (k : Bool) (s : Settings) (prefix : Option UniquePre
 unfolding run_started_text run_id_line profile_text
 free-run_started_text k s prefix c id profile h p q = (tt, ((tt, (tt, (free-id_text k prefix id p, (tt, (q, tt))))), free-starting_line k s c h))
 
--- what a replay says before it
+-- the header of a replay
 free-started_text : (d : DateTime) → HasNoEscape (started_text d)
 unfolding started_text date_text time_text
 free-started_text d = search (frees, free-last_digits) depth 12
@@ -70,7 +70,7 @@ unfolding setup_script_finished_text failed_script_output
 free-setup_script_finished_text k s x status h p =
     (free-setup_script_line k x status.result status.time_taken.0 h p.0, (tt, free-unit_output k s unit.Script false status.result status.output p.0 p.1))
 
--- the tests that a rerun was to see and has not
+-- the outstanding tests that a rerun has not seen
 free-not_seen_line : (k : Bool) (i : OwnedTestInstanceId) → IsPlainOwned i → AreFree k (not_seen_line i)
 unfolding not_seen_line
 free-not_seen_line k i h = (tt, (colour_pair-test_text k None None i.binary_id i.test_name tt h.0 h.1, tt))

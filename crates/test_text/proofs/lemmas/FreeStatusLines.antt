@@ -1,4 +1,4 @@
--- What is handed in for the line of a finished test and its output (for the text of a finished test, and for the entries of a summary).
+-- The line of a finished test and its output, without escape characters (for the text of a finished test, and for the entries of a summary).
 use Rattle.std.proofs.Common.{Bool, false}
 use Rattle.run_names.specs.declared.unit.UnitKind.TheVariants as unit
 use Rattle.run_model.specs.Names.{StatusCase, StatusSummary}
@@ -28,7 +28,7 @@ pub free-status_line : (k : Bool) (kind : StatusLineKind) (test : CountedInstanc
 unfolding status_line
 free-status_line k kind test x h j = (free-status_prefix k kind x j, (tt, (colour_pair-instance_text k test.stress_index test.counter test.instance h.0 h.1, (tt, (free-abort_line k x.result j, tt)))))
 
--- what is shown of a finished test holds no escape character, but for its output where it need not
+-- a finished test holds no escape character, except in an output that may
 pub record IsPlainFinish (k : Bool) (f : FinishReport) : Type 0 where
   pub test : IsPlainTest f.test
   pub summary : IsPlainResult f.summary.result

@@ -1,4 +1,4 @@
--- What is handed in for the lines of tests that have not finished (for the texts of their events).
+-- The lines of tests that have not finished, without escape characters (for the texts of their events).
 use Rattle.std.proofs.Common.{ℕ, Bool, true, false, List, Option}
 use Rattle.styled_text.specs.Names.{AllByRecursion, HasNoEscape, Text}
 use Rattle.run_model.specs.Names.{TestOutputDisplay, TestInstanceId, StressIndex, Attempt, RunStats, RetryData}
@@ -52,7 +52,7 @@ unfolding test_slow_text slow_text terminating_text
 free-test_slow_text k s stress i r elapsed true h = ((tt, free-slow_end k _ elapsed (plain-padded s stress i h)), tt)
 free-test_slow_text k s stress i r elapsed false h = ((tt, free-slow_end k _ elapsed (plain-padded s stress i h)), tt)
 
--- an attempt that failed where another one follows
+-- a failed attempt that is retried
 free-attempt_failed_line : (k : Bool) (test : CountedInstance) (x : Attempt) → IsPlainTest test → IsPlainResult x.result → AreFree k (attempt_failed_line test x)
 unfolding attempt_failed_line
 free-attempt_failed_line k test x h j = let word = free-short_word x.result j in (search frees depth 12, (tt, (tt, free-instance_end k test h)))

@@ -1,4 +1,4 @@
--- The words of most tests, in their columns (for `write_success_word`, `write_failure_word`).
+-- The words of most tests, with their padding (for `write_success_word`, `write_failure_word`).
 use Rattle.std.proofs.Common.{ℕ, ◌≡◌, ◌<◌, [], ◌∷◌, false, codes, lit<, refl}
 use Rattle.styled_text.specs.Names.{chars, right_in}
 use Rattle.std.proofs.lemmas.Str.{chars-IsAscii}
@@ -6,7 +6,7 @@ use Rattle.run_model.specs.declared.status.ExecutionResultDescription.TheVariant
 use Rattle.styled_text.proofs.lemmas.Decimals.{IsAscii-cons, IsAscii-none}
 use Rattle.text_parts.specs.ResultWords.{success_word}
 
--- four characters of ASCII in twelve columns
+-- four characters of ASCII, right in twelve columns
 four_columns : (a b c d : ℕ) → a < 128 → b < 128 → c < 128 → d < 128
     → right_in 12 (a ∷ b ∷ c ∷ d ∷ []) ≡ 32 ∷ 32 ∷ 32 ∷ 32 ∷ 32 ∷ 32 ∷ 32 ∷ 32 ∷ a ∷ b ∷ c ∷ d ∷ []
 unfolding right_in
