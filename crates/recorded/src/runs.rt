@@ -8,6 +8,7 @@ ghost use Rattle.scenes.specs.Names.{StopsBy, OfLines, OfText, Begins, Prints, P
 use super::lines::{next_line, read_line};
 use super::outputs::RecordedOutputs;
 use super::read_at::ReadAt;
+use memchr::memchr;
 use run_model::memory::OutOfMemory;
 use scene_text::reader::LinesRead;
 use scenes::args::Options;
@@ -41,6 +42,8 @@ pub struct RecordedRun<'a, R, O: ReadAt> {
     reader: BufReader<R>,
     line: Vec<u8>,
     outputs: RecordedOutputs<O>,
+    // Whether the last line has an output that was read.
+    has_loaded: bool,
 }
 
 impl<'a, R: Read + Drop, O: ReadAt + Drop> RecordedRun<'a, R, O> {
@@ -67,6 +70,7 @@ impl<'a, R: Read + Drop, O: ReadAt + Drop> RecordedRun<'a, R, O> {
             reader,
             line: Vec::new(alloc),
             outputs,
+            has_loaded: false,
         })
     }
 
@@ -123,10 +127,19 @@ impl<'o, R: Read, O: ReadAt + Drop> RunSource for RecordedRun<'o, R, O> {
             Ok(false) => return Ok(false),
             Err(fault) => return Err(fault),
         }
+        let bytes_read = self.outputs.bytes_read();
         let (options, line) = (&self.options, self.line.as_slice());
         match read_line(alloc, file, options, line, &mut self.outputs, read) {
-            Ok(()) => Ok(true),
+            Ok(()) => {
+                self.has_loaded = self.outputs.bytes_read() != bytes_read;
+                Ok(true)
+            }
             Err(fault) => Err(fault),
         }
+    }
+
+    // It does where the next line is at hand. Of the outputs that were read, no more than those of one line are held.
+    fn reads_on(&self) -> bool {
+        !self.has_loaded && memchr(b'\n', self.reader.buffer()).is_some()
     }
 }

@@ -145,7 +145,7 @@ fn follow_lines<'a, L: RunSource, W: WriteStr, S: WriteStr>(
             Err(fault) => return Err(fault),
         }
         match more {
-            Ok(true) => more = source.read_next(alloc, options.file, read),
+            Ok(true) => more = read_lines(alloc, options.file, source, read, true),
             Ok(false) => return Ok(reporter.outcome),
             Err(fault) => return Err(fault),
         }

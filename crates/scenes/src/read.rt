@@ -32,6 +32,9 @@ pub trait RunSource {
         ensures read { (total : ℕ) (all front : List RunLine) (before : ParsedLines) → HasReadLines file.now all front before read.old (Ok true) (left total self.old)
             → HasReadLines file.now all front before read.new result (left total self.new) }
         ensures fault { IfErr result (IsJudgeFault file.now) };
+
+    /// Whether the next line is read before the events of those that were read are reported.
+    fn reads_on(&self) -> bool;
 }
 
 /// The text of a scene. It is read piece by piece, and the lines of a piece at once.
@@ -76,6 +79,10 @@ impl<R: Read> RunSource for SceneSource<R> {
             Err(fault) => Err(Fault::from(fault)),
         }
     }
+
+    fn reads_on(&self) -> bool {
+        false
+    }
 }
 
 // Reads the lines of a piece. A large one is a line by itself, which gives up its memory to the output that it holds.
@@ -108,7 +115,7 @@ pub(crate) fn read_lines<'a, L: RunSource>(
             Ok(false) => return Ok(false),
             Err(fault) => return Err(fault),
         }
-        if to_event && !read.run.events.is_empty() {
+        if to_event && !read.run.events.is_empty() && !source.reads_on() {
             return Ok(true);
         }
     }

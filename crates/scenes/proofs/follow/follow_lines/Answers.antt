@@ -41,7 +41,7 @@ loop-turn-preserved g c = record {
       let read = forgotten g.met.W.WriteStr.laws g.met.S.WriteStr.laws c.args.options.now all c.args.reporter.now c.loop-turn.reporter c.loop-turn.read c.loop-turn.more _ k
       c.forget_events.new.self c.forget_events.ensures.config c.forget_events.ensures.events c.forget_events.ensures.lines c.forget_events.ensures.begun c.forget_events.ensures.next (rw (c.in-Ok-true.is, c.in-Ok-true.field-0-test) refl) in
       reads_on g.met.W.WriteStr.laws g.met.S.WriteStr.laws c.args.options.now all c.args.reporter.now c.loop-turn.reporter c.loop-turn.read c.loop-turn.more _ k c.report_events.new.self
-      (rw c.as_slice-events.ensures.value at c.in-Ok.ensures.reported c.loop-turn.read.run.config c.args.reporter.now k.before.events k.follows) (rw (c.in-Ok-true.is, c.in-Ok-true.field-0-test) refl) c.read_next-more.new.read c.read_next-more.result _ (c.read_next-more.ensures.read total all _ _ read);
+      (rw c.as_slice-events.ensures.value at c.in-Ok.ensures.reported c.loop-turn.read.run.config c.args.reporter.now k.before.events k.follows) (rw (c.in-Ok-true.is, c.in-Ok-true.field-0-test) refl) c.read_lines-more.new.read c.read_lines-more.result _ (c.read_lines-more.ensures.read total all _ _ read);
 }
 
 pub returns-clause-ends : goal.returns-clause-ends

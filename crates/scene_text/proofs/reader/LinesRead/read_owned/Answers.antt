@@ -6,12 +6,12 @@ use Rattle.scene_text.proofs.reader.LinesRead.read_owned.Goals as goal
 
 pub returns-in-Ok-clause-read : goal.returns-in-Ok-clause-read
 returns-in-Ok-clause-read c =
-    let one = ap (map plain_line) (split_on-missed 10 _ c.args.text.items _ c.as_slice.ensures.value (sym c.is_some.ensures ∙ c.if-is_some.false) c.memchr.ensures) in
+    let one = ap (map plain_line) (split_on-missed 10 _ c.args.text.items _ c.as_slice-bytes.ensures.value (sym c.is_some.ensures ∙ c.if-is_some.false) c.memchr.ensures) in
     let h = c.in-Ok.ensures.read in
     subst (ReadsLines _ _) (sym one) (reads_more _ _ _ h.0 c.in-Ok.ensures.noted h.1 refl _ [] (reads_none _))
 
 pub returns-in-Err-clause-left : goal.returns-in-Err-clause-left
 returns-in-Err-clause-left c =
-    let one = ap (map plain_line) (split_on-missed 10 _ c.args.text.items _ c.as_slice.ensures.value (sym c.is_some.ensures ∙ c.if-is_some.false) c.memchr.ensures) in
+    let one = ap (map plain_line) (split_on-missed 10 _ c.args.text.items _ c.as_slice-bytes.ensures.value (sym c.is_some.ensures ∙ c.if-is_some.false) c.memchr.ensures) in
     let h = c.in-Err.ensures.read in
     rw (c.fault_at.ensures, one) (leaves_here _ _ h.1 h.2 h.3 h.4 _ [] c.in-Err.error h.0)
