@@ -1,5 +1,4 @@
 pub mod FinalOrders
-pub mod Fronts
 pub mod Inserts
 pub mod KeptTests
 pub mod Keys

@@ -1,6 +1,5 @@
 pub mod Effects
 pub mod Entries
-pub mod Fronts
 pub mod KeptOutputs
 pub mod KeptTests
 pub mod Keys

@@ -2,7 +2,6 @@
 pub use Rattle.reporter_state.specs.Effects.{IsFinishOf, TestEnd, effect_of, entry_of, final_output, finish_by, finished_entry, is_kept, is_skip_kept, kept_entry, may_grow_for, skipped_entry}
 pub use Rattle.reporter_state.specs.Effects.TestEnd.{Finished}
 pub use Rattle.reporter_state.specs.Entries.{IsFinalOrder, cancel, counter_key, entries_text, entry_cmp, entry_key, final_level_of_output, final_order, final_text, hiding_rank, instance_key, is_before, iteration_key, kept, level_key, prefix, shown_entries, shown_entry, test_key}
-pub use Rattle.reporter_state.specs.Fronts.{IsFront, eight, word_of}
 pub use Rattle.reporter_state.specs.KeptOutputs.{final_output_of}
 pub use Rattle.reporter_state.specs.KeptTests.{borrowed_test, kept_test, lent}
 pub use Rattle.reporter_state.specs.Keys.{ArePlaced, Held, IsPlaced, Placed, entries_of, entry_held, held_cmp, key_at, placed_cmp, placed_key, placed_total, shown_of}
@@ -11,7 +10,6 @@ pub use Rattle.reporter_state.specs.Metadata.{HasMetadata, loads_by_metadata, lo
 pub use Rattle.reporter_state.specs.Order.{key_cmp, ordered_by, put_in}
 pub use Rattle.reporter_state.specs.Refusals.{AreAcceptedBy, IsAcceptedBy, decider_by, event_refusal, first_refused, is_retried_success, refusal_at_by, refusal_by, refusal_in}
 pub use Rattle.reporter_state.specs.Unread.{is_skip, is_skipped, unread, unread_call}
-pub use Rattle.reporter_state.specs.declared.binary_ids.Front.{Front}
 pub use Rattle.reporter_state.specs.declared.decider.OutputLoadDecider.{OutputLoadDecider}
 pub use Rattle.reporter_state.specs.declared.decider.OutputMetadata.{OutputMetadata}
 pub use Rattle.reporter_state.specs.declared.faults.RunFault.{RunFault}

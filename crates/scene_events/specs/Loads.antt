@@ -6,13 +6,13 @@ use Rattle.scene_events.specs.declared.scene.event.SceneEvent.{SceneEvent}
 use Rattle.scene_events.specs.declared.scene.event.SceneEvent.TheVariants as scene
 use Rattle.scene_events.specs.declared.scene.unit_events.UnitAnswer.{UnitAnswer}
 
--- attempts of which the one at this place captured this. The first stands at 0, and a place behind the last changes nothing
+-- attempts of which the one at this index captured this. A later index than the last changes nothing
 abbrev pub attempts_with : ℕ → ChildOutputDescription → Attempts LiveSpec ChildOutputDescription → Attempts LiveSpec ChildOutputDescription
 attempts_with place captured a =
     if place == length a.earlier then record a { last = attempt_with_output a.last captured }
     else record a { earlier = with_output_at place captured a.earlier }
 
--- an answer of a unit that captured this so far
+-- a response of a unit that captured this so far
 abbrev pub answer_with : ChildOutputDescription → UnitAnswer → UnitAnswer
 answer_with captured answer = record answer { output = execution_with_output answer.output captured }
 
@@ -24,8 +24,8 @@ event_with_only captured (scene.ScriptAnswered e) = scene.ScriptAnswered (record
 event_with_only captured (scene.TestAnswered e) = scene.TestAnswered (record e { answer = answer_with captured e.answer })
 event_with_only captured other = other
 
--- an event whose output at this place was captured so: that of an attempt of a finished test, and of other events their only one, at 0.
--- An event that has none there stays as it is
+-- an event whose output at this index was captured: that of an attempt of a finished test, and of other events their only one, at 0.
+-- An event that has none there does not change
 abbrev pub event_with : ℕ → ChildOutputDescription → SceneEvent → SceneEvent
 event_with place captured (scene.TestFinished e) = scene.TestFinished (record e { attempts = attempts_with place captured e.attempts })
 event_with place captured other = if place == 0 then event_with_only captured other else other

@@ -1,11 +1,11 @@
--- The statistics that a short form stands for.
+-- The statistics of a short form.
 use Rattle.std.specs.Prelude.{◌<◌, ◌^◌}
 use Rattle.run_model.specs.declared.stats.RunStats.{RunStats}
 use Rattle.scene_events.specs.declared.scene.packed_stats.PackedCounts.{PackedCounts}
 use Rattle.scene_events.specs.declared.scene.packed_stats.PackedCounts.TheVariants.{Short, Whole}
 use Rattle.scene_events.specs.declared.scene.packed_stats.ShortCounts.{ShortCounts}
 
--- each count is what its short form says
+-- each count is that of its short form
 abbrev pub short_stats : ShortCounts → RunStats
 short_stats c = record {
   initial_run_count = c.initial_run_count;

@@ -1,4 +1,4 @@
--- What the short form of attempts stands for, and the attempt of a setup script.
+-- The short form of attempts, and the attempt of a setup script.
 use Rattle.std.specs.Prelude.{[], Bool, Some}
 use Rattle.run_model.specs.Names.{Attempt, ChildOutputDescription, LiveSpec, SetupScriptExecuteStatus}
 use Rattle.scene_events.specs.SceneOutputs.{BeforeLast, no_output, written}
@@ -10,7 +10,7 @@ use Rattle.scene_events.specs.declared.scene.attempts.Written.{Written}
 use Rattle.scene_events.specs.declared.scene.attempts.Written.TheVariants as wrote
 use Rattle.scene_events.specs.declared.scene.outputs.SceneOutput.{SceneOutput}
 
--- an attempt that ended so, was slow or not, and wrote this
+-- an attempt with this result and output, which was slow or not
 abbrev pub attempt_of : EndedAttempt → Bool → SceneOutput → Attempt
 attempt_of e is_slow output = record { time_taken = e.time_taken; retry_data = e.retry_data; result = e.result; output = written (Some e.result) output; is_slow = is_slow }
 
@@ -26,7 +26,7 @@ marks_of (more.Nothing marks) = marks
 marks_of (more.Output marks output) = marks
 marks_of (more.Earlier marks earlier) = marks
 
--- whether an attempt was slow, and what it wrote
+-- whether an attempt was slow, and its output
 abbrev pub was_slow : Written → Bool
 was_slow (wrote.Nothing is_slow) = is_slow
 was_slow (wrote.Output is_slow output) = is_slow

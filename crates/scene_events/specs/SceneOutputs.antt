@@ -1,4 +1,4 @@
--- What a unit wrote, as a scene holds it and as an event says it, and what the attempts of a test wrote that stand before the last one.
+-- The output of a unit, as a scene holds it and as an event has it, and the outputs of a test's attempts before the last one.
 use Rattle.std.specs.Prelude.{ℕ, List, [], length, slice_get, slice_set, Bool, ◌==◌, if◌then◌else◌, Option, None, Some}
 use Rattle.std.specs.Option.{option_map_or}
 use Rattle.run_model.specs.Names.{Attempt, Written, attempt_with_output, has_loaded_output, ChildOutputDescription, ExecutionResultDescription}
@@ -11,7 +11,7 @@ use Rattle.scene_events.specs.declared.scene.outputs.SceneOutput.TheVariants.{Ou
 abbrev pub no_output : SceneOutput
 no_output = Output (Split (Some []) (Some [])) None None
 
--- what a unit that ended so wrote, where it has
+-- the output of a unit with this result, if it has one
 abbrev pub written : Option ExecutionResultDescription → SceneOutput → Written
 written result (Output output errors highlight) = described.Output result output errors highlight
 written result (StartError error) = described.StartError error
@@ -20,12 +20,12 @@ written result (StartError error) = described.StartError error
 abbrev pub is_output_there : SceneOutput → Bool
 is_output_there output = has_loaded_output (written None output)
 
--- the same where this was captured; a unit that could not be started captured nothing
+-- with this captured output; a unit that could not be started captured nothing
 abbrev pub loaded : SceneOutput → ChildOutputDescription → SceneOutput
 loaded (Output output errors highlight) captured = Output captured errors highlight
 loaded (StartError error) captured = StartError error
 
--- attempts of which the one at this place captured this, from 0; a place behind them changes nothing
+-- attempts of which the one at this index captured this, from 0; an index after them changes nothing
 abbrev pub with_output_at : ℕ → ChildOutputDescription → List Attempt → List Attempt
 with_output_at place captured attempts =
     option_map_or (λ attempt. slice_set attempts place (attempt_with_output attempt captured)) (slice_get attempts place) attempts
@@ -35,7 +35,7 @@ pub record BeforeLast : Type 0 where
   pub attempts : List Attempt
   pub last_output : SceneOutput
 
--- the same where the attempt at this place captured this; the last one stands behind the others
+-- attempts before the last one, of which the one at this index captured this; the last one follows them
 abbrev pub before_last_with : ℕ → ChildOutputDescription → BeforeLast → BeforeLast
 before_last_with place captured b =
     if place == length b.attempts then record b { last_output = loaded b.last_output captured }

@@ -88,8 +88,8 @@ IsCallOf (scene.Prefix prefix) (call.Prefix p) = p ≡ prefix
 IsCallOf (scene.Header header) (call.Header h) = SaysSameRun header h
 IsCallOf event other = ⊥
 
--- a reporter may refuse a call of the event: what a unit wrote was left unread, or an attempt that succeeded stands as one that is
--- tried again. A header counts among them, though none is refused
+-- a reporter may refuse a call of the event: the output of a unit is not loaded, or a successful attempt is followed by
+-- another one. A header counts as well, though none is refused
 abbrev pub may_be_refused : SceneEvent → Bool
 may_be_refused (scene.TestFinished e) = not (has_loaded_output e.attempts.last.output)
 may_be_refused (scene.TestAttemptFailedWillRetry e) = is_success e.attempt.result || not (has_loaded_output e.attempt.output)
@@ -110,7 +110,7 @@ abbrev pub PushesCallOf : {T E : Type 0} → SceneEvent → List ReportCall → 
 PushesCallOf event old (Ok x) new = AddsCallOf event old new
 PushesCallOf event old (Err e) new = new ≡ old
 
--- the same of a call that is known
+-- for a known call
 abbrev pub IsPushed : {T E : Type 0} → ReportCall → List ReportCall → Result T E → List ReportCall → Type 0
 IsPushed call old (Ok x) new = new ≡ old ++ call ∷ []
 IsPushed call old (Err e) new = new ≡ old

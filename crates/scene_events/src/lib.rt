@@ -1,4 +1,4 @@
-//! The events of a scene: what its lines tell, with names of its own, and the calls of a reporter that they are.
+//! The events of a scene, with their own names, and the calls of a reporter that they become.
 //!
 //! How a text spells them is not known here, and no text of a report.
 #![tactic(auto)]

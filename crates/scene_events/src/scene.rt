@@ -26,7 +26,7 @@ pub struct ParsedRun {
 }
 
 impl ParsedRun {
-    /// Pushes an event and its line. Where memory is refused, neither is there.
+    /// Pushes an event and its line. If memory is refused, neither is pushed.
     #[inline(always)]
     pub fn push(&mut self, event: SceneEvent, line: u64) -> Result<(), OutOfMemory>
         ensures config { self.new.config ≡ self.old.config }
@@ -61,7 +61,7 @@ pub struct SceneConfig {
     pub no_capture: bool,
     /// Whether a test that starts is shown by its command.
     pub verbose: bool,
-    /// Whether output stands without indentation.
+    /// Whether output has no margin.
     pub no_output_indent: bool,
     /// Whether the report has characters beyond ASCII.
     pub use_unicode: bool,

@@ -8,7 +8,7 @@ use Rattle.scene_fields.specs.Split.{cut, split_on}
 use Rattle.scene_fields.specs.Numbers.{number_in}
 use Rattle.scene_fields.specs.Values.{reason_in}
 
--- a key, and what its value says, if it is a good one
+-- a key, and the value of its text, if it is a good one
 abbrev pub Row : Type 0 → Type 0
 Row C = List ℕ × (List ℕ → Option C)
 
@@ -16,16 +16,16 @@ Row C = List ℕ × (List ℕ → Option C)
 abbrev pub with_number : {C : Type 0} → (ℕ → C) → List ℕ → Option C
 with_number counts t = option_map counts (number_in 64 t)
 
--- in which row a key stands, from a place on, and what its value says
+-- the row of a key, from an index on, and the value of its text
 abbrev pub row_in : {C : Type 0} → ℕ → List (Row C) → List ℕ → List ℕ → Option (ℕ × C)
 row_in place [] word value = None
 row_in place (row ∷ rows) word value = if bytes_eq word row.0 then option_map (λ counts. (place, counts)) (row.1 value) else row_in (place + 1) rows word value
 
--- counts by the pairs so far, and of which rows the keys were there
+-- counts from the pairs so far, and the rows whose keys occurred
 abbrev pub Counted : Type 0 → Type 0
 Counted C = C × List Bool
 
--- a key that no pair before had, and what it says
+-- a key that no pair before had, and its value
 abbrev pub new_pair : {C : Type 0} → List Bool → Option (ℕ × C) → Option (Counted C)
 new_pair has_key None = None
 new_pair has_key (Some x) = if get_or has_key x.0 false then None else Some (x.1, slice_set has_key x.0 true)
@@ -34,7 +34,7 @@ new_pair has_key (Some x) = if get_or has_key x.0 false then None else Some (x.1
 abbrev pub pair_in : {C : Type 0} → (C → List (Row C)) → Counted C → List ℕ → List ℕ → Option (Counted C)
 pair_in rows before word value = new_pair before.1 (row_in 0 (rows before.0) word value)
 
--- each pair in turn, by what its key and its value say, which the first `=` parts
+-- each pair in sequence, from its key and its value, which the first `=` separates
 unfoldable pub in_turn : {S : Type 0} → (S → List ℕ → List ℕ → Option S) → S → List (List ℕ) → Option S
 in_turn pair_in before [] = Some before
 in_turn pair_in before (t ∷ ts) = option_and_then (λ after. in_turn pair_in after ts) (option_and_then (λ x. pair_in before x.0 x.1) (cut 61 t))
@@ -95,7 +95,7 @@ no_skips = record {
   skipped_binaries_default_filter = 0;
 }
 
--- the statistics that pairs tell, and what they say that a run skips: what has no pair is 0
+-- the statistics of pairs, and what they say that a run skips: a count without a pair is 0
 unfoldable pub stats_in : List ℕ → Option RunStats
 stats_in t = counts_in stats_rows (planned_stats 0) t
 

@@ -24,7 +24,7 @@ pub record Place : Type 0 where
   pub left : List (List ℕ)
   pub noted : Option Noted
 
--- the value of the fields from some place on, and the place after them; or the first fault
+-- the value of the fields from some index on, and the index after them; or the first fault
 abbrev pub Line : Type 0 → Type 0
 Line X = Place → Result (X × Place) LineFault
 
@@ -58,7 +58,7 @@ field value_in = do
   t ← next
   valued (value_in t)
 
--- the value of exactly so many fields
+-- the value of exactly n fields
 abbrev pub exactly : {X : Type 0} → ℕ → Line X → Line X
 exactly n line p = if length p.left == n then line p else Err WrongNumberOfFields
 
@@ -66,7 +66,7 @@ exactly n line p = if length p.left == n then line p else Err WrongNumberOfField
 abbrev pub with_attempts : {X : Type 0} → Line X → Line X
 with_attempts line p = if nat_le 16 (length p.left) && (length p.left % 8 == 0) then line p else Err WrongNumberOfFields
 
--- what a function that takes no memory returned, and where it left the fields
+-- what a function that does not allocate returned, and where it left the fields
 abbrev pub answered : {X : Type 0} → Result X LineFault → Place → Result (X × Place) LineFault
 answered (Ok x) place = Ok (x, place)
 answered (Err f) place = Err f
@@ -76,7 +76,7 @@ abbrev pub taken_text : Result (Bor (List ℕ)) LineFault → Result (List ℕ) 
 taken_text (Ok t) = Ok t.now
 taken_text (Err f) = Err f
 
--- so many may be left, and else there is the fault of a wrong number
+-- the number of fields that are left is allowed, and else there is the fault of a wrong number
 abbrev pub IsRightNumber : {X : Type 0} → Bool → Result X LineFault → Type 0
 IsRightNumber right (Ok x) = right ≡ true
 IsRightNumber right (Err f) = (right ≡ false) × (f ≡ WrongNumberOfFields)
@@ -86,7 +86,7 @@ abbrev pub stored_first : List (List ℕ) → Option StoredOutput
 stored_first (form ∷ first ∷ second ∷ fields) = stored_output_in form first second
 stored_first fields = None
 
--- the same of the next fields, where an output may be stored
+-- for the next fields, if an output may be stored
 abbrev pub stored_among : List (List ℕ) → Option Noted → Option StoredOutput
 stored_among fields None = None
 stored_among fields (Some noted) = stored_first fields
@@ -118,16 +118,16 @@ abbrev pub Reads : {X Y : Type 0} → (X → Y) → Result X LineError → Resul
 Reads view (Ok x) read = read ≡ Ok (view x)
 Reads view (Err e) read = Fails e read
 
--- the same of the value of the fields from old on, and of where they were left
+-- the value of the fields from old on, and where they were left
 abbrev pub Gives : {X Y : Type 0} → (X → Y) → Place → Result X LineError → Place → Line Y → Type 0
 Gives view old result new line = Reads (λ x. (view x, new)) result (line old)
 
--- the next field was read by a call that may answer so
+-- the next field was read by a call with this result
 abbrev pub ReadsBy : {X : Type 0} → (Bor (List ℕ) → Option X → Type 0) → Place → Result X LineFault → Place → Type 0
 ReadsBy answers old (Ok x) new = (t : Bor (List ℕ)) × answers t (Some x) × (next old ≡ Ok (t.now, new))
 ReadsBy answers old (Err f) new = (next old ≡ Err f) ⊎ ((t : Bor (List ℕ)) × answers t None × (next old ≡ Ok (t.now, new)) × (f ≡ BadField new.number))
 
--- the same of a call that takes memory
+-- and by a call that allocates
 abbrev pub TriesBy : {X : Type 0} → (Bor (List ℕ) → Option X → Type 0) → Place → Result X LineError → Place → Type 0
 TriesBy answers old (Ok x) new = ReadsBy answers old (Ok x) new
 TriesBy answers old (Err error.OutOfMemory) new = ⊤

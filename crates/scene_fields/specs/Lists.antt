@@ -11,7 +11,7 @@ abbrev pub begins_with_comma : List ℕ → Bool
 begins_with_comma [] = false
 begins_with_comma (c ∷ t) = c == 44
 
--- bytes in front of the first word, behind which the others stand
+-- bytes in front of the first word, which the others follow
 abbrev pub in_first_word : List ℕ → List ℕ × Words → List ℕ × Words
 in_first_word t ws = (t ++ ws.0, ws.1)
 

@@ -1,12 +1,12 @@
--- The places of a byte as the bits of a mask.
+-- The positions of a byte as the bits of a mask.
 use Rattle.std.specs.Prelude.{ℕ, ◌-◌, List, map}
 use Rattle.std.specs.Simd.Lanes.{chunk, mask_l}
 use Rattle.memchr.specs.Find.{is_byte}
 
--- a bit for each of these bytes, which is set where it is the one that is looked for
+-- a bit for each of these bytes, which is set for the byte that is searched
 abbrev pub marks : ℕ → List ℕ → ℕ
 marks b t = mask_l (map (is_byte b) t)
 
--- the same of the part of a text from one place up to another
+-- for the part of a text from one position up to another
 abbrev pub marks_between : ℕ → List ℕ → ℕ → ℕ → ℕ
 marks_between b t at end = marks b (chunk at (end - at) t)

@@ -1,4 +1,4 @@
--- Numbers, which are decimal. Zeros may stand in front, and a plus never does.
+-- Numbers, which are decimal. They may have leading zeros, and never a plus.
 use Rattle.std.specs.Prelude.{◌≡◌, ◌⊎◌, ℕ, ◌≤◌, ◌^◌, List, [], ◌∷◌, ◌++◌, Bool, true, false, ◌&&◌, nat_lt, if◌then◌else◌, length, drop, cond, ℤ, pos, negsuc, Option, None, Some}
 use Rattle.std.specs.Char.{digit_value}
 use Rattle.std.specs.Int.{w32}
@@ -14,7 +14,7 @@ are_digits (c ∷ cs) = nat_lt (digit_value c) 10 && are_digits cs
 abbrev pub is_numeral : List ℕ → Bool
 is_numeral t = nat_lt 0 (length t) && are_digits t
 
--- a number of so many bits
+-- a number of n bits
 unfoldable pub number_in : ℕ → List ℕ → Option ℕ
 number_in bits t = if is_numeral t && nat_lt (digits_value 10 t) (2 ^ bits) then Some (digits_value 10 t) else None
 
@@ -22,7 +22,7 @@ abbrev pub starts_with_digit : List ℕ → Bool
 starts_with_digit [] = false
 starts_with_digit (c ∷ t) = nat_lt (digit_value c) 10
 
--- a text begins with digits that write a number, nineteen at most and else all that stand there, and this follows them
+-- a text begins with digits that write a number, at most nineteen and else all of them, and this follows them
 pub record IsLeadingNumber (t : List ℕ) (n : ℕ) (rest : List ℕ) : Type 0 where
   pub digits : List ℕ
   pub parts : t ≡ digits ++ rest
@@ -31,7 +31,7 @@ pub record IsLeadingNumber (t : List ℕ) (n : ℕ) (rest : List ℕ) : Type 0 w
   pub short : length digits ≤ 19
   pub longest : starts_with_digit rest ≡ true → length digits ≡ 19
 
--- the same of what follows a key at the front
+-- and this follows a key at the front
 pub record IsNumberAfter (key t : List ℕ) (n : ℕ) (rest : List ℕ) : Type 0 where
   pub behind : List ℕ
   pub front : t ≡ key ++ behind
@@ -41,7 +41,7 @@ pub record IsNumberAfter (key t : List ℕ) (n : ℕ) (rest : List ℕ) : Type 0
 abbrev pub HasNoNumberAfter : List ℕ → List ℕ → Type 0
 HasNoNumberAfter key t = (behind : List ℕ) → t ≡ key ++ behind → starts_with_digit behind ≡ false
 
--- a number after a key, or 0 and all of the text where there is none
+-- a number after a key, or 0 and all of the text if there is none
 abbrev pub IsNumberOrZero : List ℕ → List ℕ → ℕ → List ℕ → Type 0
 IsNumberOrZero key t n rest = IsNumberAfter key t n rest ⊎ (HasNoNumberAfter key t × (n ≡ 0) × (rest ≡ t))
 

@@ -1,4 +1,4 @@
--- Where a captured stream stands, as the scene of a recorded run says it.
+-- The position of a captured stream, as the scene of a recorded run has it.
 use Rattle.std.specs.Prelude.{ℕ, ◌+◌, List, codes, drop, nat_eq, if◌then◌else◌, Option, None, Some}
 use Rattle.std.specs.Char.{is_ascii_uppercase}
 use Rattle.std.specs.Hash.DefaultHasher as sip
@@ -11,7 +11,7 @@ use Rattle.scene_fields.specs.Numbers.{number_in}
 use Rattle.scene_fields.specs.Split.{cut}
 use Rattle.scene_fields.specs.declared.reference.Reference.{Reference}
 
--- the place behind the last byte that a reference names
+-- the position after the last byte of a reference
 abbrev pub end_of : Reference → ℕ
 end_of r = r.offset + r.len
 
@@ -27,11 +27,11 @@ after_mark t = if starts_with nat_eq t mark then Some (drop 2 t) else None
 unfoldable pub sum_of : List ℕ → List ℕ
 sum_of bytes = to_be_bytes w64 (sip.finish (sip.write sip.initial bytes))
 
--- 8 bytes as 16 hexadecimal digits, of which no letter is upper case
+-- 8 bytes as 16 hexadecimal digits, without upper case
 unfoldable pub sum_in : List ℕ → Option (List ℕ)
 sum_in t = if list_any is_ascii_uppercase t then None else result_ok (decode_sized t 8)
 
--- a reference of three parts, each of which must say something
+-- a reference of three parts, each of which must be valid
 abbrev pub with_parts : Option ℕ → Option ℕ → Option (List ℕ) → Option Reference
 with_parts (Some offset) (Some len) (Some sum) = Some (record { offset = offset; len = len; sum = sum })
 with_parts offset len sum = None

@@ -63,6 +63,6 @@ abbrev pub result_cut : List ℕ → Option (List ℕ × List ℕ) → Option Ex
 result_cut t None = plain_in t
 result_cut t (Some x) = result_with_details x.0 x.1
 
--- a result as a word, or as a word, a colon and what it tells of
+-- a result as a word, or as a word, a colon and details
 unfoldable pub result_in : List ℕ → Option ExecutionResultDescription
 result_in t = result_cut t (cut 58 t)

@@ -9,7 +9,7 @@ abbrev pub Lacks : ℕ → List ℕ → Type 0
 Lacks b [] = ⊤
 Lacks b (c ∷ t) = ((c == b) ≡ false) × Lacks b t
 
--- the pieces between these bytes, of which there is at least one
+-- the parts between these bytes, of which there is at least one
 unfoldable pub split_on : ℕ → List ℕ → List (List ℕ)
 split_on b t = slice_split (λ c. c == b) t
 
@@ -23,7 +23,7 @@ abbrev pub size_left : Option (Bor (List ℕ)) → ℕ
 size_left None = 0
 size_left (Some t) = length t.now + 1
 
--- what stands before the first such byte, and what follows it, if there is one
+-- the text before the first such byte, and the text after it, if there is one
 unfoldable pub cut : ℕ → List ℕ → Option (List ℕ × List ℕ)
 cut b [] = None
 cut b (c ∷ t) = if c == b then Some ([], t) else option_map (λ x. (c ∷ x.0, x.1)) (cut b t)

@@ -17,7 +17,7 @@ stored_stream_in t =
     else if bytes_eq t (codes "-") then Some NotCaptured
     else option_map (λ reference. At reference) (reference_in t)
 
--- its bytes stand among the outputs of the run
+-- its bytes are among the outputs of the run
 abbrev pub is_reference : StoredStream → Bool
 is_reference NotCaptured = false
 is_reference Empty = false
@@ -29,14 +29,14 @@ stored_split None stderr = None
 stored_split (Some stdout) None = None
 stored_split (Some stdout) (Some stderr) = if is_reference stdout || is_reference stderr then Some (Split stdout stderr) else None
 
--- what is stored of an output with this form and these two fields behind it: of split streams one or both, of combined ones their bytes
+-- what is stored of an output with this form and these two fields after it: of split streams one or both, of combined ones their bytes
 abbrev pub stored_output_in : List ℕ → List ℕ → List ℕ → Option StoredOutput
 stored_output_in form first second =
     if bytes_eq form (codes "split") then stored_split (stored_stream_in first) (stored_stream_in second)
     else if bytes_eq form (codes "comb") && bytes_eq second (codes "-") then option_map (λ reference. Combined reference) (reference_in first)
     else None
 
--- the stream in a field of an output; streams that were captured together stand in the first
+-- the stream in a field of an output; streams that were captured together are in the first
 abbrev pub stream_in_field : StreamField → StoredOutput → StoredStream
 stream_in_field First (Split stdout stderr) = stdout
 stream_in_field Second (Split stdout stderr) = stderr
@@ -48,7 +48,7 @@ abbrev pub field_of : PlacedOutput → StreamField → ℕ
 field_of output First = output.field
 field_of output Second = min (output.field + 1) (2 ^ 64 - 1)
 
--- an output at its place, if it is stored
+-- an output with its index, if it is stored
 abbrev pub placed : ℕ → ℕ → Option StoredOutput → List PlacedOutput
 placed place field None = []
 placed place field (Some output) = record { place = place; field = field; output = output } ∷ []

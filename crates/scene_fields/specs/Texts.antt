@@ -46,8 +46,8 @@ abbrev pub escape_len : List ℕ → ℕ
 escape_len [] = 0
 escape_len (c ∷ t) = if c == 120 then 3 else 1
 
--- what a text stands for once so many bytes are passed over. That is `end` where the text ends; else a plain byte stands in front of what the
--- rest stands for, and an escape says by itself what it makes of that
+-- what a text spells after n bytes. That is `end` at the end of the text; else a plain byte comes before what the
+-- rest spells, and an escape defines what it does with that
 unfoldable pub unescaped_after : {R : Type 0} → (List ℕ → R → R) → (List ℕ → Option (R → R)) → R → ℕ → List ℕ → Option R
 unescaped_after front escape end skip [] = Some end
 unescaped_after front escape end zero (c ∷ t) =
@@ -55,11 +55,11 @@ unescaped_after front escape end zero (c ∷ t) =
     else option_map (front (c ∷ [])) (unescaped_after front escape end 0 t)
 unescaped_after front escape end (suc skip) (c ∷ t) = unescaped_after front escape end skip t
 
--- an escape stands for its byte
+-- an escape spells its byte
 abbrev pub byte_in_front : ℕ → List ℕ → Option (List ℕ → List ℕ)
 byte_in_front most escape = option_map (λ b t. b ∷ t) (escape_byte most escape)
 
--- what a text stands for, if its escapes are good ones
+-- what a text spells, if its escapes are good ones
 abbrev pub unescaped : ℕ → List ℕ → Option (List ℕ)
 unescaped most t = unescaped_after (λ plain u. plain ++ u) (byte_in_front most) [] 0 t
 
@@ -77,7 +77,7 @@ pub record AddsStretch (old plain escape new : List ℕ) (after : Bor (List ℕ)
   pub grown : new ≡ (old ++ plain) ++ (byte ∷ [])
   pub follows : after.now ≡ drop (escape_len escape) escape
 
--- so many bytes from a place on, in which no escape begins, were moved down to another place, and what follows them is as it was
+-- n bytes from an index on, in which no escape begins, were moved down to another index, and what follows them did not change
 pub record MovesPlain (old new : List ℕ) (from to count : ℕ) : Type 0 where
   pub within : from + count ≤ length old
   pub long : length new ≡ length old

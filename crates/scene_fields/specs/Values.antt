@@ -19,11 +19,11 @@ abbrev pub named : {V : Type 0} → List (List ℕ × V) → List ℕ → Option
 named [] t = None
 named (row ∷ rows) t = if bytes_eq t row.0 then Some row.1 else named rows t
 
--- the same of values that have words
+-- of values that have words
 abbrev pub of_word : {V : Type 0} → (V → List ℕ) → List V → List ℕ → Option V
 of_word word vs t = named (map (λ v. (word v, v)) vs) t
 
--- `-`, where nothing may stand
+-- `-` for an absent value
 abbrev pub absent_in : List ℕ → Option (Unit {0})
 absent_in t = if bytes_eq t (codes "-") then Some tt else None
 

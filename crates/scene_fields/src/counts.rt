@@ -1,7 +1,7 @@
 //! Counts, which a scene writes as pairs of a key and a number.
 //!
-//! Single spaces part the pairs, as in `passed=2 failed=1`, and each key stands there once. What has no pair is 0, and `-`
-//! stands for no pair at all. Each function answers None for a bad field.
+//! Single spaces separate the pairs, as in `passed=2 failed=1`, and each key occurs once. A count without a pair is 0, and `-`
+//! means no pair at all. Each function returns None for a bad field.
 
 ghost use Rattle.std.specs.Prelude.{◌≡◌, ◌<◌, false, List, Option, IfSome};
 ghost use Rattle.std.specs.List.{list_any};
@@ -33,7 +33,7 @@ trait Counts: Copy {
     ghost no_space: { (before : Self) → list_any (λ row. has_space row.0) (rows before) ≡ false };
 }
 
-// Reads pairs after counts without any. A space is looked for only after an `=`: if one stands before it, that pair has no `=`, and the word
+// Reads pairs after counts without any. A space is searched only after an `=`: if one comes before it, that pair has no `=`, and the word
 // before the `=` is no key, since it has a space.
 #[inline(always)]
 fn read_pairs<C: Counts>(none: C, field: &str) -> Option<C>
@@ -69,7 +69,7 @@ fn read_pair<C: Counts>(
     Some(())
 }
 
-// Sets one count, whose key stands in this row.
+// Sets the count of this row.
 fn set_count(count: &mut usize, value: &str, place: usize) -> Option<usize>
     ensures set { option_map (λ _. count.new) result ≡ number_in 64 value.now }
     ensures place { IfSome result (λ row. row ≡ place) }

@@ -11,7 +11,7 @@ use std::error::Error;
 use std::fmt;
 use std::fmt::Formatter;
 
-/// What is wrong with a line of a scene. Of several faults the first of these is printed.
+/// What is wrong with a line of a scene. Of several faults the first of these is reported.
 #[derive(Clone, Copy, Debug, PartialEq, Eq)]
 pub enum LineFault {
     /// Its bytes are not UTF-8.
@@ -26,7 +26,7 @@ pub enum LineFault {
     RetriedSuccess,
     /// The report needs output that it says was left unread.
     OutputNotLoaded,
-    /// This field, from 1 for the event's name, is not what its event takes there. It is the first such field.
+    /// This field, counted from 1 for the event's name, is not valid for its event. It is the first such field.
     BadField(usize),
 }
 

@@ -16,10 +16,10 @@ use std::alloc::Global;
 use std::marker::Model;
 use std::mem;
 
-/// A line or an output of at least so many bytes keeps the memory that it was read into; a shorter one is copied.
+/// A line or an output of at least this many bytes keeps the memory that it was read into; a shorter one is copied.
 pub const LARGE: usize = 65_536;
 
-/// Splits a line into its fields, which tabs separate. They take the place of what the list held.
+/// Splits a line into its fields, which tabs separate. They replace the contents of the list.
 #[tactic(auto, using(crate::proofs::lemmas::Marks::all_left, crate::proofs::lemmas::Marks::none_left))]
 pub fn split_fields<'a>(line: &'a str, fields: &mut Vec<&'a str>) -> Result<(), OutOfMemory>
     ensures { OnOk result (field_texts fields.new.items ≡ split_on 9 line.now) }
@@ -64,7 +64,7 @@ impl NotedOutputs {
         ensures { OnOk result (Some self.new ≡ with_noted output field (Some self.old)) }
     {
         let place = self.outputs;
-        // no line has so many outputs
+        // no line has that many outputs
         self.outputs = place.checked_add(1).ok_or(OutOfMemory)?;
         if let Some(output) = output {
             self.stored.push(PlacedOutput {
@@ -89,7 +89,7 @@ impl NotedOutputs {
 #[derive(Drop)]
 pub struct Fields<'a> {
     left: &'a [&'a str],
-    // The fields of a large line. There are none behind fields that are borrowed.
+    // The fields of a large line. Borrowed fields are never followed by owned ones.
     owned: &'a mut [OwnedText],
     number: usize,
     // Where outputs may be stored. No field of such a line has its own memory.
@@ -117,8 +117,8 @@ impl<'a> Fields<'a> {
         }
     }
 
-    /// The fields of a line of a recorded run, none of them taken, of which outputs may be stored. Those are noted in this list, in place of
-    /// what it holds.
+    /// The fields of a line of a recorded run, none of them taken, whose outputs may be stored. Those are noted in this list, which replaces
+    /// its contents.
     pub fn recorded(fields: &'a [&'a str], stored: Vec<PlacedOutput>) -> Fields<'a>
         ensures { result ≡ record { number = 0; left = field_texts fields.now; noted = Some none_noted } }
     {
@@ -144,7 +144,7 @@ impl<'a> Fields<'a> {
         }
     }
 
-    /// Checks that so many fields are left to take.
+    /// Checks that this many fields are left.
     pub fn exactly(&self, count: usize) -> Result<(), LineFault>
         ensures { IsRightNumber (length self.now.left == count) result }
     {
@@ -284,7 +284,7 @@ impl<'a> Fields<'a> {
         LineFault::BadField(self.number)
     }
 
-    /// Takes a field, and reads it by a function that answers None where the field is a bad one.
+    /// Takes a field, and reads it with a function that returns None for a bad field.
     #[inline(always)]
     pub fn read<T: Drop, F: FnOnce(&'a str) -> Option<T>>(
         &mut self,

@@ -1,6 +1,6 @@
-//! A byte's places in a text, found 32 bytes at a time.
+//! The positions of a byte in a text, found 32 bytes at a time.
 //!
-//! Tabs stand close together in a line, and escapes in an output, so that a call of memchr for each of them would mostly be its start and
+//! Tabs are close together in a line, and escapes in an output, so a call of memchr for each of them would mostly be its start and
 //! its end.
 
 ghost use Rattle.std.specs.Prelude.{◌≡◌, ◌≢◌, ◌++◌, ◌+◌, ◌-◌, ◌/◌, ◌^◌, ◌<◌, ◌≤◌, drop, length, min, replicate, take};
@@ -10,7 +10,7 @@ ghost use Rattle.scene_fields.specs.Marks.{marks, marks_between};
 
 use std::simd::prelude::*;
 
-/// The places of a byte among the 32 bytes from a place on, or among those that are left, each as a bit.
+/// The positions of a byte among the next 32 bytes, or among those that are left, each as a bit.
 #[inline(always)]
 pub fn marks_from(byte: u8, bytes: &[u8], from: usize) -> u64
     requires within { from ≤ length bytes.now }
@@ -21,12 +21,12 @@ pub fn marks_from(byte: u8, bytes: &[u8], from: usize) -> u64
     if left >= 32 || bytes.len() < 32 {
         return match_mask(byte, load_block(bytes, from));
     }
-    // The last bytes of the text, without those that stand before the place: no byte is copied for them.
+    // The last bytes of the text, without those before the place: no byte is copied for them.
     let last = u8x32::from_slice(&bytes[bytes.len() - 32..]);
     match_mask(byte, last) >> (32 - left)
 }
 
-/// The 32 bytes from a place on, or those that are left and zeros after them.
+/// The next 32 bytes, or those that are left followed by zeros.
 #[inline(always)]
 pub fn load_block(bytes: &[u8], from: usize) -> u8x32
     requires { from ≤ length bytes.now }
@@ -41,8 +41,8 @@ pub fn load_block(bytes: &[u8], from: usize) -> u8x32
     u8x32::from_array(block)
 }
 
-/// Where the first of these bytes stands, in bytes from 0. It is for names, of which most have no such byte, and for the front of a text: it
-/// looks at 32 bytes at once, and a call of memchr costs more than that.
+/// The first position of the byte, from 0. It is for names, of which most have no such byte, and for the front of a text: it
+/// searches 32 bytes at once, and a call of memchr costs more than that.
 #[inline(always)]
 #[tactic(auto, using(crate::proofs::lemmas::Marks::all_left, crate::proofs::lemmas::Marks::none_left))]
 pub fn find_byte(byte: u8, bytes: &[u8]) -> Option<usize>
@@ -60,7 +60,7 @@ pub fn find_byte(byte: u8, bytes: &[u8]) -> Option<usize>
     None
 }
 
-/// The places of a byte in a block, which are counted in bytes from 0: the mask has the bit of each.
+/// The positions of a byte in a block, counted in bytes from 0: the mask has the bit of each.
 #[inline(always)]
 pub fn match_mask(byte: u8, block: u8x32) -> u64
     ensures { result ≡ marks byte block }
@@ -68,7 +68,7 @@ pub fn match_mask(byte: u8, block: u8x32) -> u64
     block.simd_eq(u8x32::splat(byte)).to_bitmask()
 }
 
-/// The first place whose bit is set.
+/// The first position whose bit is set.
 #[inline(always)]
 pub fn first_place(mask: u64) -> usize
     requires { mask ≢ 0 }

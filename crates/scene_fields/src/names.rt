@@ -1,4 +1,4 @@
-//! Names as a scene writes them, which are texts. Each function answers None for a bad field.
+//! Names as a scene writes them, which are texts. Each function returns None for a bad field.
 
 ghost use Rattle.std.specs.Prelude.{◌≡◌, IfOk};
 ghost use Rattle.scene_fields.specs.Texts.{text_in};

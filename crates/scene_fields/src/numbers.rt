@@ -1,6 +1,6 @@
 //! Numbers as a scene writes them.
 //!
-//! They are decimal, and zeros may stand in front. A plus never does, and a minus only where a number may be negative.
+//! They are decimal, and may have leading zeros. A plus is never allowed, and a minus only if a number may be negative.
 
 ghost use Rattle.std.specs.Prelude.{◌≡◌, ◌<◌, ◌≤◌, ◌^◌, length, false, MatchOption};
 ghost use Rattle.std.specs.Option.{SomeIff};

@@ -80,7 +80,7 @@ impl OwnedText {
         Ok(fields)
     }
 
-    // What stands before an ASCII character, and what follows it.
+    // The text before an ASCII character, and the text after it.
     fn cut(self, at: usize) -> Result<(OwnedText, OwnedText), OutOfMemory>
         requires within { at < length self }
         requires ascii { slice_index self at < 128 }

@@ -1,4 +1,4 @@
-//! Where a captured stream stands, as the scene of a recorded run says it.
+//! The position of a captured stream, as the scene of a recorded run has it.
 
 ghost use Rattle.std.specs.Prelude.{◌≡◌, ◌≤◌, ◌↔◌, IsTrue};
 ghost use Rattle.std.specs.Char.{is_ascii_uppercase};
@@ -11,10 +11,10 @@ use super::split::split_at_byte;
 use hex::FromHex;
 use std::hash::{DefaultHasher, Hasher};
 
-/// Where a captured stream stands in the file of the outputs, and the sum by which its bytes are known.
+/// The position of a captured stream in the file of outputs, and the sum that identifies its bytes.
 #[derive(Clone, Copy, Debug, PartialEq, Eq)]
 pub struct Reference {
-    /// How many bytes stand before it.
+    /// The number of bytes before it.
     pub offset: u64,
     /// How many bytes it has.
     pub len: usize,
@@ -23,7 +23,7 @@ pub struct Reference {
 }
 
 impl Reference {
-    /// Whether a file of so many bytes has all that this names. A stream of no bytes ends where it begins.
+    /// Whether a file of this length holds all that this names. A stream of no bytes ends where it begins.
     pub fn ends_within(&self, file_len: u64) -> bool
         ensures { IsTrue result ↔ (end_of self.now ≤ file_len) }
     {

@@ -1,7 +1,7 @@
 //! How an attempt ended, as a scene writes it.
 //!
-//! It is a word, as `pass`, or a word and its detail after a colon, as `fail:1`. A name or a message is a text, and
-//! goes on to the end of the field.
+//! It is a word, as `pass`, or a word and its detail after a colon, as `fail:1`. A name or a message is a text, which
+//! extends to the end of the field.
 
 ghost use Rattle.std.specs.Prelude.{◌≡◌, Some, IfOk};
 ghost use Rattle.std.specs.Option.{option_map};
@@ -64,7 +64,7 @@ fn read_plain(alloc: Global, field: &str) -> ReadResult
     })
 }
 
-// Reads a result whose word has something to tell of.
+// Reads a result whose word has details.
 fn read_with_details(alloc: Global, word: &str, rest: &str) -> ReadResult
     ensures { IfOk result (λ outcome. outcome ≡ result_with_details word.now rest.now) }
 {

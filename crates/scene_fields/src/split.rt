@@ -10,10 +10,10 @@ ghost use Rattle.scene_fields.specs.Split.{Lacks, cut, cut_texts, split_on, piec
 use super::marks::find_byte;
 use memchr::memchr;
 
-/// How many bytes at the front of a text are looked at at once: what is looked for stands mostly there.
+/// How many bytes at the front of a text are searched at once: most separators are there.
 const NEAR: usize = 16;
 
-// Where the first of these bytes stands.
+// The first position of the byte.
 #[inline(always)]
 fn first_place(byte: u8, text: &[u8]) -> Option<usize>
     ensures { IsFirstByte (is_byte byte) text.now result }
@@ -21,7 +21,7 @@ fn first_place(byte: u8, text: &[u8]) -> Option<usize>
     if text.len() < NEAR {
         return text.iter().position(|other| *other == byte);
     }
-    // zeros fill a block behind the text
+    // zeros fill a block after the text
     if byte != 0 {
         if let Some(place) = find_byte(byte, &text[..NEAR]) {
             return Some(place);
@@ -30,7 +30,7 @@ fn first_place(byte: u8, text: &[u8]) -> Option<usize>
     first_far_place(byte, text)
 }
 
-// The same by memchr, whose code is too long to stand in each caller.
+// With memchr, whose code is too long to be inlined in each caller.
 #[inline(never)]
 fn first_far_place(byte: u8, text: &[u8]) -> Option<usize>
     ensures { IsFirstByte (is_byte byte) text.now result }
@@ -38,7 +38,7 @@ fn first_far_place(byte: u8, text: &[u8]) -> Option<usize>
     memchr(byte, text)
 }
 
-/// What stands before the first of these bytes in a text, and what follows it. The byte is an ASCII one.
+/// The text before the first of these bytes, and the text after it. The byte is ASCII.
 ///
 /// ```
 /// assert_eq!(split_at_byte("a=b=c", b'='), Some(("a", "b=c")));
@@ -57,7 +57,7 @@ pub fn split_at_byte(text: &str, byte: u8) -> Option<(&str, &str)>
     Some((&text[..at], &text[at + 1..]))
 }
 
-/// What stands before the first of these bytes in a text, and what follows it, if it has one. The byte is an ASCII one.
+/// The text before the first of these bytes, and the text after it, if it has one. The byte is ASCII.
 #[inline(always)]
 pub(crate) fn first_piece(text: &str, byte: u8) -> (&str, Option<&str>)
     requires { byte < 128 }

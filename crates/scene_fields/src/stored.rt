@@ -1,4 +1,4 @@
-//! What a recorded run stores of an output, by the fields of a line, and where it stands in that line.
+//! What a recorded run stores of an output, from the fields of a line, and its position in that line.
 
 ghost use Rattle.std.specs.Prelude.{◌≡◌};
 ghost use Rattle.scene_fields.specs.Stored.{field_of, is_reference, stored_output_in, stored_stream_in, stream_in_field};
@@ -12,7 +12,7 @@ pub enum StoredStream {
     NotCaptured,
     /// It was captured, and holds nothing.
     Empty,
-    /// Its bytes stand among the outputs of the run.
+    /// Its bytes are among the outputs of the run.
     At(Reference),
 }
 
@@ -42,10 +42,10 @@ pub enum StreamField {
     Second,
 }
 
-/// A stored output, and where it stands in its line.
+/// A stored output, and its position in its line.
 #[derive(Clone, Copy)]
 pub struct PlacedOutput {
-    /// The place of its attempt, from 0. The only output of an event has the place 0.
+    /// The index of its attempt, from 0. The only output of an event has the index 0.
     pub place: usize,
     /// The number of the field of its first stream, from 1 for the event's name.
     pub field: usize,
@@ -65,7 +65,7 @@ impl StoredStream {
         }
     }
 
-    // Whether its bytes stand among the outputs of the run.
+    // Whether its bytes are among the outputs of the run.
     fn is_reference(&self) -> bool
         ensures { result ≡ is_reference self.now }
     {
@@ -102,7 +102,7 @@ impl StoredOutput {
         }
     }
 
-    /// The stream in one of its two fields. Streams that were captured together stand in the first.
+    /// The stream in one of its two fields. Streams that were captured together are in the first.
     ///
     /// ```
     /// let stored = StoredOutput::read("comb", "\\@7:7:ee2a98c236301c76", "-").ok_or("no output")?;
@@ -121,7 +121,7 @@ impl StoredOutput {
 }
 
 impl PlacedOutput {
-    /// The number of the field of one of its streams, from 1 for the event's name. It stays at `usize::MAX` where it would pass that.
+    /// The number of the field of one of its streams, counted from 1 for the event's name. It stops at `usize::MAX`.
     pub fn field_of(&self, stream: StreamField) -> usize
         ensures { result ≡ field_of self.now stream }
     {

@@ -18,7 +18,7 @@ use std::borrow::CowStr;
 /// The greatest byte that an escape may give in a text.
 const ASCII: u8 = 0x7f;
 
-/// Reads a text. It allocates only where there is an escape; `None` means a bad field.
+/// Reads a text. It allocates only if there is an escape; `None` means a bad field.
 ///
 /// ```
 /// let text = read_text(alloc, r"a\tb")?;
@@ -43,7 +43,7 @@ pub fn read_text(alloc: Global, field: &str) -> Result<Option<CowStr<'_, Global>
     Ok(Some(CowStr::Owned(text)))
 }
 
-/// Adds what stands before an escape, and what the escape gives. It answers what follows the escape; `None` means a bad one.
+/// Adds the text before an escape, and the byte that the escape gives. It returns the text after the escape; `None` means a bad one.
 pub(crate) fn push_stretch<'a>(
     text: &mut String,
     plain: &str,
@@ -71,8 +71,8 @@ pub fn read_bytes(alloc: Global, field: &str) -> Result<Option<Vec<u8>>, OutOfMe
     Ok(Some(bytes))
 }
 
-/// The byte that an escape gives, and how many bytes the escape has behind its backslash, with which `escape` does not begin. The digits of
-/// an `x` write `most` at most. None is a text that begins with no escape.
+/// The byte that an escape gives, and how many bytes the escape has after its backslash, which `escape` does not include. The digits of
+/// an `x` write at most `most`. None for a text that begins with no escape.
 #[inline(always)]
 pub(crate) fn escape_at(escape: &[u8], most: u8) -> Option<(u8, usize)>
     ensures byte { option_map (λ x. x.0) result ≡ escape_byte most escape.now }

@@ -33,7 +33,7 @@ pub(crate) fn read_usual_stats(field: &str) -> Option<RunStats>
     })
 }
 
-// The number that follows a key at the front, and what follows the number. The key is an array, so that its length is known where it is
+// The number after a key at the front, and the text after the number. The key is an array, so that its length is known where it is
 // compared: that takes a test or two.
 #[inline(always)]
 fn number_after<'a, const N: usize>(key: &[u8; N], text: &'a [u8]) -> Option<(usize, &'a [u8])>

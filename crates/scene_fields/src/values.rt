@@ -1,4 +1,4 @@
-//! What the fields of a scene may hold. Each function answers None for a bad field.
+//! What the fields of a scene may hold. Each function returns None for a bad field.
 
 ghost use Rattle.std.specs.Prelude.{◌≡◌};
 ghost use Rattle.scene_fields.specs.Values.{absent_in, config_key_in, display_in, final_level_in, flag_in, flaky_in, mode_in, reason_in, reason_or_none_in, stress_in, total_in};
@@ -31,7 +31,7 @@ pub enum ConfigKey {
     NoCapture,
     /// Whether a test that starts is shown by its command.
     Verbose,
-    /// Whether output stands without indentation.
+    /// Whether output has no margin.
     NoIndent,
     /// Whether the report has characters beyond ASCII.
     Unicode,

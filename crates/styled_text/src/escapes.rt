@@ -9,9 +9,9 @@
 //! A sequence that is not finished ends before the first character that does not fit. All else is text. A text is
 //! scanned once, and its pieces are slices of it.
 
-ghost use Rattle.std.specs.Prelude.{◌≡◌, ℕ, false, [], ◌∷◌, List, IfOk, MatchOption, string_bytes};
-ghost use Rattle.styled_text.specs.Names.{YieldsFirstBy, item_count, sequence_len, csi_len, csi_end_len, front_len, is_within, is_visible, is_parameter, pieces, visible, joined, stretches};
-ghost use Rattle.styled_text.specs.Names.{HasNoEscape, piece_text, rest_len, is_before_backslash, StepCounts, step_of, short_step_of, final_step_of, advanced, Puts};
+ghost use Rattle.std.specs.Prelude.{◌≡◌, ℕ, false, [], ◌∷◌, List, IfOk, IfSome, MatchOption, string_bytes};
+ghost use Rattle.styled_text.specs.Names.{YieldsFirstBy, item_count, sequence_len, csi_len, front_len, is_within, is_visible, is_parameter, pieces, visible, joined, stretches, HasNoEscape, piece_text};
+ghost use Rattle.styled_text.specs.Names.{rest_len, is_before_backslash, StepCounts, step_of, short_step_of, final_step_of, advanced, Puts};
 ghost use Rattle.styled_text.specs.declared.escapes.Mode.TheVariants.{Text};
 ghost use Rattle.styled_text.specs.declared.escapes.State.TheVariants.{Parameters, Intermediates, Command, Short};
 
@@ -138,6 +138,9 @@ fn split_piece(text: &str) -> Option<(Piece<'_>, &str)>
 pub(crate) fn stretch_len(bytes: &[u8]) -> usize
     ensures { result ≡ front_len is_visible bytes.now }
 {
+    if let Some(&ESCAPE) = bytes.first() {
+        return 0;
+    }
     if let Some(count) = stretch_in_block(bytes) {
         return count;
     }
@@ -154,7 +157,11 @@ pub(crate) fn sequence_len(after: &[u8]) -> usize
     ensures { result ≡ sequence_len after.now }
 {
     match after.split_first() {
-        Some((b'[', parameters)) => control_len(parameters) + 1,
+        Some((b'[', parameters)) => match colour_len(parameters) {
+            Some(len) => len + 1,
+            None if parameters.first() == Some(&ESCAPE) => 1,
+            None => stepwise_len(after),
+        },
         _ => stepwise_len(after),
     }
 }
@@ -179,17 +186,17 @@ fn stepwise_len(after: &[u8]) -> usize
     count
 }
 
-// How many bytes of what follows `ESC [` belong to its sequence. Most are colours, which have no intermediates.
+// How many bytes of what follows `ESC [` belong to its sequence, if no intermediates come before its final byte, as in a colour.
 #[inline(always)]
 #[tactic(auto, using(crate::proofs::lemmas::Pieces::len_laws))]
-fn control_len(after: &[u8]) -> usize
-    ensures { result ≡ csi_len after.now }
+fn colour_len(after: &[u8]) -> Option<usize>
+    ensures { IfSome result (λ len. len ≡ csi_len after.now) }
 {
     let parameters = parameters_len(after);
     let (_, rest) = after.split_at(parameters);
     match rest.first() {
-        Some(0x40..=0x7E) => parameters + 1,
-        _ => parameters + end_len(rest),
+        Some(0x40..=0x7E) => Some(parameters + 1),
+        _ => None,
     }
 }
 
@@ -201,20 +208,6 @@ fn parameters_len(bytes: &[u8]) -> usize
     match parameters_in_block(bytes) {
         Some(count) => count,
         None => run_len(bytes, 0x30, 0x3F),
-    }
-}
-
-// How many bytes of what follows its parameters belong to a control sequence.
-#[inline(never)]
-#[tactic(auto, using(crate::proofs::lemmas::Pieces::len_laws))]
-fn end_len(after: &[u8]) -> usize
-    ensures { result ≡ csi_end_len after.now }
-{
-    let intermediates = run_len(after, 0x20, 0x2F);
-    let (_, rest) = after.split_at(intermediates);
-    match rest.first() {
-        Some(0x40..=0x7E) => intermediates + 1,
-        _ => intermediates,
     }
 }
 

@@ -35,7 +35,7 @@ struct EndedAttempt {
     retry_data: RetryData,
 }
 
-// What there is beside how the last attempt ended. The marks stand first, where the tag leaves room.
+// What there is besides how the last attempt ended. The flags come first, where the tag leaves room.
 #[derive(Drop)]
 enum MoreAttempts {
     // Nothing: it is the only attempt, and wrote nothing, as most.
@@ -96,7 +96,7 @@ impl SceneAttempts {
     ghost use Rattle.scene_events.specs.Loads.{attempts_with};
 
     /// The attempts before the last one, in order, and the last; and what a success after earlier attempts counts as. It allocates
-    /// only where there are earlier ones.
+    /// only if there are earlier ones.
     #[inline(always)]
     pub fn with_last(
         alloc: Global,
@@ -138,7 +138,7 @@ impl SceneAttempts {
         &self.last.result
     }
 
-    /// The place of the last attempt, where the first stands at 0.
+    /// The index of the last attempt, from 0.
     pub fn last_place(&self) -> usize
         ensures { result ≡ length self.now.earlier }
     {
@@ -155,9 +155,9 @@ impl SceneAttempts {
         self.more.last_output().is_none_or(SceneOutput::is_loaded)
     }
 
-    /// Puts this in place of what the attempt at this place captured, where the first stands at 0; errors and highlight stay. An attempt that
-    /// could not be started stays as it is, and a place behind the last attempt changes nothing. It allocates for an attempt that held
-    /// nothing, and where memory is refused, nothing is changed.
+    /// Replaces the captured output of the attempt at this index, from 0; errors and highlight do not change. An attempt that
+    /// could not be started does not change, and an index after the last attempt changes nothing. It allocates for an attempt that held
+    /// nothing, and if memory is refused, nothing changes.
     pub fn load(
         &mut self,
         alloc: Global,
@@ -306,7 +306,7 @@ impl EndedAttempt {
 impl EarlierAttempts {
     ghost use Rattle.scene_events.specs.SceneOutputs.{before_last_with};
 
-    // `SceneAttempts::load`, where there are earlier attempts; the last one comes after them.
+    // `SceneAttempts::load`, if there are earlier attempts; the last one comes after them.
     fn load(
         &mut self,
         alloc: Global,
@@ -380,7 +380,7 @@ impl SceneAttempt {
     ghost use Rattle.scene_events.specs.SceneOutputs.{written};
     ghost use Rattle.std.specs.Prelude.{Some};
 
-    /// An attempt that ended so, took so long and wrote this.
+    /// An attempt with this result, duration and output.
     pub fn new(
         outcome: ExecutionResultDescription,
         time_taken: Nanos,
@@ -420,15 +420,15 @@ impl SceneAttempt {
         self.ended.result.is_success()
     }
 
-    /// Whether what it wrote is there, and not left unread.
+    /// Whether its output is loaded.
     pub fn has_loaded_output(&self) -> bool
         ensures { result ≡ has_loaded_output self.now.output }
     {
         self.written.output().is_none_or(SceneOutput::is_loaded)
     }
 
-    /// Puts this in place of what it captured; errors and highlight stay. An attempt that could not be started stays as it is. It
-    /// allocates where the attempt held nothing, and where memory is refused, nothing is changed.
+    /// Replaces its captured output; errors and highlight do not change. An attempt that could not be started does not change. It
+    /// allocates if the attempt held nothing, and if memory is refused, nothing changes.
     pub fn load(
         &mut self,
         alloc: Global,

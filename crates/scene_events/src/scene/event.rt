@@ -58,15 +58,15 @@ pub enum SceneEvent {
     RunBeginKill(Boxed<RunCancel>),
     /// The run was stopped for a while, by a signal.
     RunPaused(Boxed<RunPause>),
-    /// The run goes on after it was stopped.
+    /// The run continues after it was paused.
     RunContinued(Boxed<RunPause>),
     /// All units are asked what they are doing.
     InfoStarted(Boxed<StateRequest>),
-    /// A setup script says what it is doing.
+    /// A setup script reports its state.
     ScriptAnswered(Boxed<ScriptAnswer>),
-    /// A test says what it is doing.
+    /// A test reports its state.
     TestAnswered(Boxed<TestAnswer>),
-    /// No further answers are waited for. So many units have not answered.
+    /// No further responses are waited for. This many units have not responded.
     InfoFinished(usize),
     /// The state of the run was asked for, by a key.
     InputEnter(Boxed<StateRequest>),
@@ -83,9 +83,9 @@ impl SceneEvent {
     ghost use Rattle.scene_events.specs.Loads.{event_with, event_with_only};
     ghost use Rattle.scene_events.specs.Scenes.{may_be_refused};
 
-    /// Whether its call has to be looked at to know whether a reporter refuses it: output of it was left unread, or an attempt that
-    /// succeeded stands as one that is tried again. No reporter refuses any other event; a header, of which a run has one, counts
-    /// among those that are looked at.
+    /// Whether a reporter may refuse its call: some of its output is not loaded, or a successful attempt
+    /// is followed by another one. No reporter refuses any other event; a header, of which a run has one, counts
+    /// as one that may be refused.
     ///
     /// ```
     /// assert!(!SceneEvent::InfoFinished(0).may_be_refused());
@@ -107,10 +107,10 @@ impl SceneEvent {
         }
     }
 
-    /// Puts this in place of the captured output at this place: that of an attempt of a test that has finished, where the first stands at
-    /// 0, or the only output of another event, which stands at 0. Errors and highlight stay. Where the event has no output there, or the
-    /// unit could not be started, it stays as it is. It allocates for an attempt that held nothing, and where memory is refused, nothing is
-    /// changed.
+    /// Replaces the captured output at this index: that of an attempt of a finished test, from
+    /// 0, or the only output of another event, at 0. Errors and highlight do not change. If the event has no output there, or the
+    /// unit could not be started, nothing changes. It allocates for an attempt that held nothing, and if memory is refused, nothing
+    /// changes.
     ///
     /// ```
     /// use run_model::output::ChildOutputDescription;
@@ -250,7 +250,7 @@ impl SceneEvent {
     }
 }
 
-/// Pushes an event that a scene does not say the time of. Where memory is refused, the calls stay as they were.
+/// Pushes an event whose time a scene does not have. If memory is refused, the calls do not change.
 #[inline(always)]
 pub(super) fn push_event<'a>(
     calls: &mut Calls<'a>,
@@ -262,7 +262,7 @@ pub(super) fn push_event<'a>(
     push(calls, ReportCall::Event(TestEvent { elapsed, kind }))
 }
 
-/// Pushes a call, which is built in place: it is large. Where memory is refused, the calls stay as they were.
+/// Pushes a call, which is built in place: it is large. If memory is refused, the calls do not change.
 #[inline(always)]
 pub(super) fn push<'a>(calls: &mut Calls<'a>, call: ReportCall<'a>) -> Result<(), OutOfMemory>
     ensures { IsPushed call.entry calls.old.items result calls.new.items }

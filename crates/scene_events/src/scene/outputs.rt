@@ -1,4 +1,4 @@
-//! What an attempt wrote, as a scene holds it: how the attempt ended stands beside it, and is not held once more.
+//! The output of an attempt, as a scene holds it: how the attempt ended is beside it, and is not held twice.
 
 ghost use Rattle.scene_events.specs.SceneOutputs.{is_output_there, loaded, no_output, written};
 ghost use Rattle.std.specs.Option.{option_copied, unwrap_or};
@@ -30,7 +30,7 @@ pub enum SceneOutput {
 }
 
 impl SceneOutput {
-    /// What an attempt captured of which nothing else is known.
+    /// The captured output of an attempt of which nothing else is known.
     pub(super) fn of(captured: ChildOutputDescription) -> Self
         ensures { result ≡ loaded no_output captured }
     {
@@ -51,8 +51,8 @@ impl SceneOutput {
         }
     }
 
-    /// Puts this in place of what was captured; errors and highlight stay. A unit that could not be started captured nothing, and stays
-    /// as it is.
+    /// Replaces the captured output; errors and highlight do not change. A unit that could not be started captured nothing, and does
+    /// not change.
     pub fn load(&mut self, captured: ChildOutputDescription)
         ensures { self.new ≡ loaded self.old captured }
     {
@@ -61,7 +61,7 @@ impl SceneOutput {
         }
     }
 
-    /// The output of a unit that ended so, where it has, as an event has it. Copies the texts and shares the bytes.
+    /// The output of a unit with this result, if it has one, as an event has it. Copies the texts and shares the bytes.
     pub fn description(
         &self,
         alloc: Global,
@@ -133,7 +133,7 @@ impl AttemptOutput {
         self.output.as_ref().map(Boxed::get)
     }
 
-    /// Puts this in place of what was captured. It allocates for an attempt that held nothing.
+    /// Replaces the captured output. It allocates for an attempt that held nothing.
     pub(super) fn load(
         &mut self,
         alloc: Global,

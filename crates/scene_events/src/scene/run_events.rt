@@ -44,7 +44,7 @@ pub struct RunCancel {
     pub reason: Option<CancelReason>,
 }
 
-/// A run that is stopped for a while, or goes on.
+/// A run that is paused, or continues.
 #[derive(Clone, Copy)]
 pub struct RunPause {
     /// How many setup scripts run.
@@ -80,9 +80,9 @@ pub struct SubRunFinish {
 pub struct RunFinish {
     /// How long it took.
     pub elapsed: Nanos,
-    /// What it came to.
+    /// Its outcome.
     pub run_stats: RunFinishedStats,
-    /// The tests that a rerun was to see and has not.
+    /// The outstanding tests that a rerun has not seen.
     pub outstanding_not_seen: Option<NotSeen>,
 }
 
@@ -113,7 +113,7 @@ impl RunCancel {
         push_event(calls, kind)
     }
 
-    /// Pushes the begin of a kill in the same way.
+    /// Pushes the begin of a kill.
     pub fn push_kill_call(&self, calls: &mut Calls<'_>) -> Result<(), OutOfMemory>
         ensures { PushesCallOf (SceneEvent.RunBeginKill self.now) calls.old.items result calls.new.items }
     {
@@ -205,7 +205,7 @@ impl RunFinish {
     }
 }
 
-// Takes memory for the names of the same tests.
+// Allocates the names of these tests.
 fn copy_not_seen(alloc: Global, outstanding: &NotSeen) -> Result<NotSeen, OutOfMemory>
     ensures { IfOk result (λ copy. copy ≡ outstanding.now) }
 {

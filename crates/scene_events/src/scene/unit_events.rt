@@ -1,4 +1,4 @@
-//! The events of units, which are tests and setup scripts, and what both answer when they are asked what they are doing.
+//! The events of units, which are tests and setup scripts, and their responses when they are asked for their state.
 
 ghost use Rattle.scene_events.specs.Scenes.{IsCallOf, PushesCallOf};
 ghost use Rattle.run_model.specs.declared.call.ReportCall.{ReportCall};
@@ -70,7 +70,7 @@ pub struct SlowTest {
     pub will_terminate: bool,
 }
 
-/// An attempt of a test that failed, after which another one follows. The delay stands first, since a `u128` is aligned to 16 bytes.
+/// A failed attempt of a test that is retried. The delay comes first, since a `u128` is aligned to 16 bytes.
 #[derive(Drop)]
 pub struct FailedAttempt {
     /// How long the next attempt waits.
@@ -79,11 +79,11 @@ pub struct FailedAttempt {
     pub attempt: SceneAttempt,
     /// The test.
     pub test: SceneTest,
-    /// When its output is to be shown.
+    /// When its output should be shown.
     pub failure_output: TestOutputDisplay,
 }
 
-/// A test that has finished. Its largest fields stand first, so that no room is lost between them.
+/// A test that has finished. Its largest fields come first, so that no padding is lost between them.
 #[derive(Drop)]
 pub struct TestFinish {
     /// Its attempts.
@@ -92,9 +92,9 @@ pub struct TestFinish {
     pub current_stats: PackedStats,
     /// The test.
     pub test: SceneTest,
-    /// When its output is to be shown if it succeeded.
+    /// When its output should be shown if it succeeded.
     pub success_output: TestOutputDisplay,
-    /// When its output is to be shown if it failed.
+    /// When its output should be shown if it failed.
     pub failure_output: TestOutputDisplay,
 }
 
@@ -237,7 +237,7 @@ impl FailedAttempt {
 }
 
 impl TestFinish {
-    /// Makes this call that of the event, as `SceneEvent::replace_call` does.
+    /// Makes this call that of the event, like `SceneEvent::replace_call`.
     pub fn replace_call<'a>(&'a self, call: &mut ReportCall<'a>) -> Result<bool, TooManyOwners>
         ensures { IfOk result (λ is_replaced. IsTrue is_replaced → IsCallOf (SceneEvent.TestFinished self.now) call.new) }
     {
@@ -311,7 +311,7 @@ pub struct SceneScript {
 pub struct SetupStart {
     /// Which iteration of a stress run it belongs to.
     pub stress_index: Option<StressIndex>,
-    /// Its place among the setup scripts, from 0.
+    /// Its index among the setup scripts, from 0.
     pub index: usize,
     /// How many setup scripts there are.
     pub total: usize,
@@ -409,10 +409,10 @@ impl SetupFinish {
     }
 }
 
-/// A setup script says what it is doing.
+/// A setup script reports its state.
 #[derive(Drop)]
 pub struct ScriptAnswer {
-    /// The place of its answer, from 0.
+    /// The index of its response, from 0.
     pub index: usize,
     /// How many units were asked.
     pub total: usize,
@@ -420,14 +420,14 @@ pub struct ScriptAnswer {
     pub stress_index: Option<StressIndex>,
     /// The script.
     pub script: SceneScript,
-    /// What it says.
+    /// Its response.
     pub answer: UnitAnswer,
 }
 
-/// A test says what it is doing.
+/// A test reports its state.
 #[derive(Drop)]
 pub struct TestAnswer {
-    /// The place of its answer, from 0.
+    /// The index of its response, from 0.
     pub index: usize,
     /// How many units were asked.
     pub total: usize,
@@ -435,7 +435,7 @@ pub struct TestAnswer {
     pub test: SceneTest,
     /// Which attempt it is.
     pub retry_data: RetryData,
-    /// What it says.
+    /// Its response.
     pub answer: UnitAnswer,
 }
 
@@ -495,8 +495,8 @@ impl TestAnswer {
 impl UnitAnswer {
     ghost use Rattle.scene_events.specs.Loads.{answer_with};
 
-    /// Puts this in place of what it has captured so far; errors and highlight stay. A unit that could not be started captured nothing, and
-    /// stays as it is.
+    /// Replaces the captured output; errors and highlight do not change. A unit that could not be started captured nothing, and
+    /// does not change.
     pub fn load(&mut self, captured: ChildOutputDescription)
         ensures { self.new ≡ answer_with captured self.old }
     {

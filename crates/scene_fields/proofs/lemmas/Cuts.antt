@@ -1,4 +1,4 @@
--- Where a text is cut at a byte (for `first_line`, `split_at_byte`, `split_fields`, `read_owned`).
+-- The cut of a text at a byte (for `first_line`, `split_at_byte`, `split_fields`, `read_owned`).
 use Rattle.std.proofs.Common.{◌≡◌, ℕ, zero, suc, ◌+◌, ◌-◌, ◌<◌, ◌≤◌, List, [], ◌∷◌, ◌++◌, true, false, length, length-drop, get_or, take, drop, refl, ap, sym, ◌∙◌, ◌==◌, Option, None, Some, subst, arith, add-one}
 use Rattle.std.proofs.Math.Seq.{drop-cons, take-length}
 use Rattle.std.proofs.lemmas.List.{take-append-drop}
@@ -12,7 +12,7 @@ use Rattle.scene_fields.specs.Split.{Lacks, split_on, cut}
 pub rest_is : {X : Type 0} (t : List X) (from : ℕ) → take (length t - from) (drop from t) ≡ drop from t
 rest_is t from = ap (λ n. take n (drop from t)) (sym (length-drop from t)) ∙ take-length (drop from t)
 
--- no place up to one has the byte
+-- no index up to n has the byte
 pub Lacks-take : (b : ℕ) (t : List ℕ) (n : ℕ) → n ≤ length t → Nowhere (Passes (is_byte b) t) 0 n → Lacks b (take n t)
 Lacks-take b t zero l h = tt
 Lacks-take b [] (suc n) l h = tt
@@ -21,11 +21,11 @@ Lacks-take b (c ∷ t) (suc n) l h = (false_from_ne_true (c == b) (h 0 (omega ar
 pub byte_at : (b : ℕ) (t : List ℕ) (k : ℕ) → Passes (is_byte b) t k → get_or t k 0 ≡ b
 byte_at b t k here = grind (arith, nat_tests, here)
 
--- no place has it
+-- no index has it
 pub Lacks-from_each : (b : ℕ) (t : List ℕ) → Nowhere (Passes (is_byte b) t) 0 (length t) → Lacks b t
 Lacks-from_each b t h = subst (Lacks b) (take-length t) (Lacks-take b t (length t) (omega arith) h)
 
--- the parts before and after the first place
+-- the parts before and after the first index
 pub cut_at : (b : ℕ) (t : List ℕ) (k : ℕ) → NoneBefore (Passes (is_byte b) t) 0 (length t) k → Passes (is_byte b) t k → Lacks b (take k t) × (t ≡ take k t ++ (b ∷ drop (k + 1) t))
 cut_at b t k first here =
     let within : k < length t = first.high in
@@ -49,7 +49,7 @@ split_on-missed b hay t (Some k) same none found = cc
 is_itself : (b : ℕ) → (b == b) ≡ true
 is_itself b = grind (arith, nat_tests)
 
--- and one that has it begins with what stands before the first one
+-- and one that has it begins with the text before the first one
 pub split_on-parts : (b : ℕ) (x y : List ℕ) → Lacks b x → split_on b (x ++ (b ∷ y)) ≡ x ∷ split_on b y
 unfolding split_on
 split_on-parts b [] y h = rw (is_itself b) refl

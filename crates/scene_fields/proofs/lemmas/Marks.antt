@@ -1,4 +1,4 @@
--- The places of a byte as the bits of a mask (for `load_block`, `find_byte`, `marks_from`, `plain_len`, `split_fields`).
+-- The positions of a byte as the bits of a mask (for `load_block`, `find_byte`, `marks_from`, `plain_len`, `split_fields`).
 use Rattle.std.proofs.Common.{◌≡◌, ◌≢◌, ℕ, zero, suc, ◌+◌, ◌-◌, ◌*◌, ◌/◌, ◌^◌, ◌<◌, ◌≤◌, ◌==◌, ◌++◌, ◌∙◌, List, [], ◌∷◌, Bool, false, not, cond, length, get_or, drop, take, min, map, replicate, refl, ap, sym, arith, inl, inr, w64}
 use native.Mathlib.Nat.{div-one, div-div-eq-div-mul, mul_comm, pow-suc, zero-div}
 use Rattle.std.specs.Int.{trailing_zeros}
@@ -14,7 +14,7 @@ use Rattle.scene_fields.specs.Marks.{marks, marks_between}
 use Rattle.scene_fields.specs.Split.{Lacks}
 use Rattle.scene_fields.proofs.lemmas.Cuts.{Lacks-take, rest_is}
 
--- zeros behind a text have no bit
+-- zeros after a text have no bit
 pub marks-padded : (b n : ℕ) (t : List ℕ) → b ≢ 0 → marks b (t ++ replicate n 0) ≡ marks b t
 marks-padded b zero [] some = refl
 marks-padded b (suc n) [] some =
@@ -67,7 +67,7 @@ stops p (c ∷ t) some = elim (cases_Bool (p c)) [
   | inr e ↦ (let h = stops p t (λ z. some (rw (e, z) refl)) in rw e (omega (arith, h)))
 ]
 
--- none of these bytes stands before the first one
+-- none of these bytes comes before the first one
 pub marks-before : (b n : ℕ) (t : List ℕ) → n ≤ prefix_len (λ c. not (is_byte b c)) t → Lacks b (take n t)
 marks-before b n t few =
     Lacks-take b t n (omega (arith, few, prefix_len-le-length (λ c. not (is_byte b c)) t))
@@ -77,7 +77,7 @@ pub some_before : (b : ℕ) (t : List ℕ) → 0 < length t → get_or t 0 0 ≢
 some_before b [] some other = absurd (omega arith)
 some_before b (c ∷ t) some other = let e : (c == b) ≡ false = grind (arith, nat_tests, other) in rw e (omega arith)
 
--- from at up to end, the mask has a bit for each place at which the byte stands, and it stands nowhere from start up to at
+-- from at up to end, the mask has a bit for each position of the byte, and there is none from start up to at
 pub record AreLeft (b : ℕ) (t : List ℕ) (start at end mask : ℕ) : Type 0 where
   pub low : at ≤ length t
   pub few : end ≤ at + 32
@@ -85,7 +85,7 @@ pub record AreLeft (b : ℕ) (t : List ℕ) (start at end mask : ℕ) : Type 0 w
   pub before : Nowhere (Passes (is_byte b) t) start at
   pub bits : mask ≡ marks_between b t at end
 
--- all places of a block
+-- all positions of a block
 pub all_left : (b : ℕ) (t : List ℕ) (start from mask : ℕ) → from < length t → Nowhere (Passes (is_byte b) t) start (min from (length t)) → mask ≡ marks_between b t from (min (from + 32) (length t)) → AreLeft b t start from (min (from + 32) (length t)) mask
 all_left b t start from mask within none bits = record {
   low = omega (arith, within);
@@ -118,11 +118,11 @@ module _ (b : ℕ) (t : List ℕ) (start at end mask : ℕ) (left : AreLeft b t 
     pub inside : place < end - at
     inside = omega (arith, counted, length-chunk at (end - at) t room, stops (is_byte b) (chunk at (end - at) t) (λ z. some (left.bits ∙ z)))
 
-    -- the first of them is the next place
+    -- the first of them is the next position
     pub next_left : start ≤ at → NoneBefore (Passes (is_byte b) t) start (length t) (at + place) × Passes (is_byte b) t (at + place)
     next_left low = (record { low = omega arith; high = omega (arith, inside, room); before = none_up_to place counted }, run_in_chunk_stops (is_byte b) t at (end - at) place 0 room counted inside)
 
-    -- and the others are left behind it
+    -- and the others remain after it
     pub fewer_left : (count rest : ℕ) → at + place + count ≤ length t → rest ≡ mask / 2 ^ (place + count) → AreLeft b t (at + place + count) (at + place + count) end rest
     fewer_left count rest within behind =
         let next : at + (place + count) ≡ at + place + count = omega arith in

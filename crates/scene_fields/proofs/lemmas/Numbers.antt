@@ -10,7 +10,7 @@ use Rattle.std.proofs.lemmas.Bool.Decides.{Decides-and, Decides-ltb, nat_tests}
 use mir.Val.{SFits as FitsSigned}
 use Rattle.scene_fields.specs.Numbers.{are_digits, is_numeral, number_in, IsSigned, fits_code, code_in}
 
--- a value is read where its test passes
+-- a value is read if its test passes
 by_test : {V : Type 0} (P : Type 0) (b : Bool) (v : V) → Decides b P → (r : Option V) → SomeIff r P v → r ≡ (if b then Some v else None)
 by_test P b v test (Some x) h = let e = test.1 h.0 in rw e (ap (λ y. Some y) h.1)
 by_test P b v test None h = elim (cases_Bool b) [ inl p ↦ absurd (h (test.0 p)) | inr p ↦ rw p refl ]
@@ -31,7 +31,7 @@ fits : (z : ℤ) → Decides (fits_code z) (FitsSigned w32 z)
 fits (pos n) = ((λ e. grind (arith, nat_tests, e)), (λ h. grind (arith, nat_tests, h)))
 fits (negsuc n) = ((λ e. grind (arith, nat_tests, e)), (λ h. grind (arith, nat_tests, h)))
 
--- the same of a number that may have a minus
+-- a number that may have a minus
 pub code_by : (t : List ℕ) (r : Option ℤ) → SomeIff r (IsSigned t) (signed_digits_value 10 t) → r ≡ code_in t
 unfolding code_in
 code_by t r h = by_test _ _ _ (Decides-and _ _ (numeral (cond (starts_with_minus t) (drop 1 t) t)) (fits (signed_digits_value 10 t))) r h

@@ -37,7 +37,7 @@ row_reference : reference_in (codes "\\@70:007:" ++ sum_text) ≡ Some (record {
 unfolding reference_in after_mark sum_in cut number_in hex_on_literals
 row_reference = refl
 
--- text, a number that has a plus, one that is empty, one that is too large, no sum, and text behind the sum
+-- text, a number with a plus, an empty one, one that is too large, no sum, and text after the sum
 row_text : reference_in (codes "passed") ≡ None
 unfolding reference_in after_mark sum_in cut number_in hex_on_literals
 row_text = refl

@@ -51,7 +51,7 @@ module _ (t : List ℕ) (i n : ℕ) (so_far : IsNumberSoFar t i n) where
         longest = λ e. size ∙ longest (ap starts_with_digit (sym is) ∙ e);
       }
 
--- a digit stands where the rest begins with one
+-- the rest begins with a digit
 pub digit_in : (t : List ℕ) (i : ℕ) → starts_with_digit (drop i t) ≡ true → (i < length t) × IsInRange 48 57 (get_or t i 0)
 digit_in [] zero h = cc
 digit_in [] (suc i) h = cc

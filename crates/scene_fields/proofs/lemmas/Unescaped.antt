@@ -1,4 +1,4 @@
--- What a text stands for, step by step (for `read_text`, `read_words`, `unescape_in_place`).
+-- What a text spells, step by step (for `read_text`, `read_words`, `unescape_in_place`).
 use Rattle.std.proofs.Common.{◌≡◌, ℕ, zero, suc, List, [], ◌∷◌, ◌++◌, drop, refl, ap, sym, ◌∙◌, append_assoc, append-nil, Option, Some, None}
 use Rattle.std.proofs.lemmas.Iterator.Adapters.{option_map_id}
 use Rattle.std.specs.Borrow.{Bor}
@@ -50,7 +50,7 @@ module _ {R : Type 0} (front : List ℕ → R → R) (escape : List ℕ → Opti
       pub escape_read : (f : R → R) (next : List ℕ) → escape after ≡ Some f → next ≡ drop (escape_len after) after → whole ≡ option_map (λ r. made (front plain (f r))) (read next)
       escape_read f next gives follows = at_escape ∙ rw (gives, sym follows) (map_twice (λ r. made (front plain r)) f (read next))
 
--- the same of a text and of the bytes of a stream
+-- for a text and for the bytes of a stream
 module _ (most : ℕ) (whole : Option (List ℕ)) (text rest : List ℕ) (so_far : whole ≡ option_map (λ t. text ++ t) (unescaped most rest)) where
   pub read_plain_next : (plain after : List ℕ) → rest ≡ plain ++ after → LacksEscapes plain → whole ≡ option_map (λ t. (text ++ plain) ++ t) (unescaped most after)
   read_plain_next plain after r h = plain_read _ _ _ (λ t. refl) (λ c p t. refl) whole _ rest so_far plain after r h ∙ alike _ _ (λ t. sym (append_assoc text plain t)) (unescaped most after)
@@ -67,7 +67,7 @@ module _ (most : ℕ) (whole : Option (List ℕ)) (text rest : List ℕ) (so_far
         escape_read _ _ _ (λ t. refl) (λ c p t. refl) whole _ rest so_far plain escape r h (λ t. b ∷ t) after (ap (option_map (λ b t. b ∷ t)) gives) follows
         ∙ alike _ _ (λ t. sym (append_assoc (text ++ plain) (b ∷ []) t ∙ append_assoc text plain (b ∷ t))) (unescaped most after)
 
--- the same of a stretch of a text
+-- for a stretch of a text
 pub read_stretch : (whole : Option (List ℕ)) (text rest : List ℕ) → whole ≡ option_map (λ t. text ++ t) (unescaped 127 rest) → (plain escape new : List ℕ) (after : Bor (List ℕ)) → rest ≡ plain ++ (92 ∷ escape) → LacksEscapes plain → AddsStretch text plain escape new after → whole ≡ option_map (λ t. new ++ t) (unescaped 127 after.now)
 read_stretch whole text rest so_far plain escape new after r h f =
     read_escape_next 127 whole text rest so_far plain escape r h f.byte after.now f.gives f.follows

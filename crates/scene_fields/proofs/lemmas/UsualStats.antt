@@ -15,7 +15,7 @@ use Rattle.scene_fields.specs.Split.{Lacks, split_on}
 use Rattle.scene_fields.proofs.lemmas.Cuts.{cut-parts, split_on-lacks, split_on-parts}
 use Rattle.scene_fields.proofs.lemmas.Numbers.{number_by}
 
--- what follows a key of so many bytes
+-- the text after a key of n bytes
 pub behind_key : (key t front behind : List ℕ) (n : ℕ) → front ≡ take n t → behind ≡ drop n t → front ≡ key → t ≡ key ++ behind
 behind_key key t front behind n is rest same = let parts = sym (take-append-drop n t) in cc
 
@@ -23,7 +23,7 @@ differs : {P : Type 0} (is_same : Bool) → Decides is_same P → true ≡ not i
 differs true same e h = cc
 differs false same e h = let equal = same.1 h in cc
 
--- and nothing where other bytes stand in its place
+-- and nothing if other bytes are in its place
 pub has_no_key : (key t front : List ℕ) (n : ℕ) (is_same : Bool) → length key ≡ n → front ≡ take n t → Decides is_same (front ≡ key) → true ≡ not is_same → (behind : List ℕ) → t ≡ key ++ behind → ⊥
 has_no_key key t front n is_same size is same other behind e =
     let first : front ≡ key = is ∙ ap (λ u. take n u) e ∙ take-append-le n key behind (omega arith) ∙ take_all n key (omega arith) in
@@ -33,7 +33,7 @@ has_no_key key t front n is_same size is same other behind e =
 said : RunStats → List Bool → List ℕ → Option RunStats
 said s keys t = option_map (λ read. read.0) (in_turn (pair_in stats_rows) (s, keys) (split_on 32 t))
 
--- the pairs before the rest said so, and none of them had the key of a row from this one on
+-- the pairs before the rest gave this, and none of them had the key of a row from this one on
 pub record SaidBefore (all : Option RunStats) (place : ℕ) (s : RunStats) (rest : List ℕ) : Type 0 where
   keys : List Bool
   free : (k : ℕ) → place ≤ k → get_or keys k false ≡ false
@@ -65,7 +65,7 @@ count_by t n rest r =
     let fits : digits_value 10 r.digits < 2 ^ 64 = omega (arith, below, most) in
     sym (number_by 64 (2 ^ 64) r.digits (Some n) ((r.numeral, fits), r.value) refl)
 
--- a key of which each number counts something in a row of its own
+-- a key each of whose numbers counts something in its own row
 record IsCounted (s : RunStats) (key : List ℕ) (place : ℕ) (counted : ℕ → RunStats) : Type 0 where
   no_space : Lacks 32 key
   no_equals : Lacks 61 key
@@ -99,7 +99,7 @@ module _ (all : Option RunStats) (s : RunStats) (key : List ℕ) (place : ℕ) (
         }
 
   module _ (bound : ℕ) (low : bound ≤ place) (left : List ℕ) (before : SaidBefore all bound s left) where
-    -- the next pair, behind a space
+    -- the next pair, after a space
     next_pair : (n : ℕ) (rest : List ℕ) → IsNumberAfter (32 ∷ (key ++ (61 ∷ []))) left n rest → SaidBefore all (place + 1) (counted n) rest
     next_pair n rest r =
         let front : left ≡ 32 ∷ (key ++ (61 ∷ r.behind)) = r.front ∙ ap (λ u. 32 ∷ u) (append_assoc key (61 ∷ []) r.behind) in

@@ -12,7 +12,7 @@ module _ (b : ℕ) (t : List ℕ) (start : ℕ) (within : start ≤ length t) wh
   abbrev rest : List ℕ
   rest = drop start t
 
-  -- places in the rest are places in the text
+  -- positions in the rest are positions in the text
   back : (k : ℕ) → Passes (is_byte b) rest k → Passes (is_byte b) t (start + k)
   back k p = subst (λ c. (c == b) ≡ true) (get_or-drop start t k 0) p
 

@@ -36,7 +36,7 @@ no-comma : (t : List ℕ) → ((rest : List ℕ) → t ≢ 44 ∷ rest) → begi
 no-comma [] h = refl
 no-comma (c ∷ t) h = false_from_ne_true (c == 44) (λ p. h t (ap (λ b. b ∷ t) (grind (arith, nat_tests, p))))
 
--- a word was pushed behind others
+-- a word was pushed after others
 pushed : (words more : List (String Global)) (word : String Global) (t : List ℕ) → more ≡ words ++ (word ∷ []) → string_bytes word ≡ t → map string_bytes more ≡ map string_bytes words ++ t ∷ []
 pushed words more word t all is = ap (map string_bytes) all ∙ map-append string_bytes words (word ∷ []) ∙ ap (λ u. map string_bytes words ++ u ∷ []) is
 

@@ -2,7 +2,7 @@ use Rattle.std.proofs.Common.{◌-◌, length, min}
 use Rattle.memchr.specs.Find.{is_byte, Nowhere, Passes}
 use Rattle.scene_fields.proofs.marks.find_byte.Given as goal
 
--- the byte stands nowhere so far
+-- there is no such byte so far
 abbrev pub invariant-loop-from : goal.invariant-loop-from
 invariant-loop-from l = Nowhere (Passes (is_byte l.byte) l.bytes) 0 (min l.from (length l.bytes))
 

@@ -6,7 +6,7 @@ use Rattle.scene_fields.specs.Texts.{LacksEscapes, MovesPlain}
 use lib.Seq.{paste, length_paste_head, take-append-add}
 use Rattle.scene_fields.proofs.unescape.move_plain.Goals as goal
 
--- lists that agree from a place on agree from any later one
+-- lists that agree from an index on agree from any later one
 later_alike : (m k : ℕ) (s t : List ℕ) → m ≤ k → drop m s ≡ drop m t → drop k s ≡ drop k t
 later_alike m k s t le same =
     let at : k ≡ m + (k - m) = omega arith in
@@ -18,14 +18,14 @@ take_fewer (suc n) zero t le = absurd (omega arith)
 take_fewer (suc n) (suc m) [] le = refl
 take_fewer (suc n) (suc m) (c ∷ t) le = ap (λ u. c ∷ u) (take_fewer n m t (omega arith))
 
--- of a block that was read from a place on, the first bytes are those of the text
+-- the first bytes of a block that was read from an index on are those of the text
 block_front : (t block : List ℕ) (from n : ℕ) → block ≡ take 32 (drop from t) ++ replicate (32 - (length t - from)) 0 → n ≤ 32 → n ≤ length t - from → take n block ≡ take n (drop from t)
 block_front t block from n is few most =
     ap (take n) is
     ∙ take-append-le n (take 32 (drop from t)) _ (omega (arith, few, most, length-take 32 (drop from t), length-drop from t))
     ∙ take_fewer n 32 (drop from t) few
 
--- bytes were written over a text, of which the first are those from a place on, and the others stay before what follows these
+-- bytes were written over a text: the first ones are those from an index on, and the others come before what follows these
 moved : (t s new : List ℕ) (from to n m : ℕ) → n ≤ m → m ≤ length s → to + m ≤ from + n → from + n ≤ length t → take n s ≡ take n (drop from t) → new ≡ paste t to s m → LacksEscapes (take n s) → MovesPlain t new from to n
 moved t s new from to n m few room low within same pasted plain =
     let before : length (take to t) ≡ to = length-take-le to t (omega arith) in

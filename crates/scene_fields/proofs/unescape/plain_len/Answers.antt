@@ -8,7 +8,7 @@ use Rattle.scene_fields.proofs.lemmas.Marks.{marks-before, some_before}
 use Rattle.scene_fields.proofs.unescape.plain_len.Goals.{then-marks-eq0, else-marks-eq0}
 use Rattle.scene_fields.proofs.unescape.plain_len.Goals as goal
 
--- what is counted stands before the first escape
+-- what is counted comes before the first escape
 counted : (c : goal.After-min) → c.if-marks-eq0.count ≡ prefix_len (λ b. not (is_byte 92 b)) c.args.block
 counted c = elim c.if-marks-eq0.branch [
   | then-marks-eq0 w ↦ omega (arith, w.count-is, c.fits-block.0, leading_from_mask_l (is_byte 92) c.args.block (omega (arith, w.if-marks-eq0, c.match_mask-marks.ensures)))

@@ -3,7 +3,7 @@ use Rattle.std.specs.Option.{option_map}
 use Rattle.scene_fields.specs.Texts.{unescaped}
 use Rattle.scene_fields.proofs.unescape.unescape_in_place.Given as goal
 
--- what was decoded, and then what is left, is what the text stands for
+-- what was decoded, and then what is left, is what the text spells
 abbrev pub invariant-loop-from : goal.invariant-loop-from
 invariant-loop-from l = record {
   long : length l.bytes ≡ length l.initial.bytes;

@@ -6,7 +6,7 @@ use Rattle.scene_fields.specs.Fields.{Place}
 use Rattle.scene_fields.proofs.lemmas.Cuts.{rest_is}
 use Rattle.scene_fields.proofs.fields.Fields.pass.Goals as goal
 
--- so many items of both lists are dropped, of which these are in the first
+-- n items of both lists are dropped, of which these are in the first
 both : (n here : ℕ) (xs ys : List (List ℕ)) → here ≡ min n (length xs) → drop here xs ++ drop (n - here) ys ≡ drop n (xs ++ ys)
 both n zero [] ys e = let all : n - 0 ≡ n = omega arith in ap (λ k. drop k ys) all
 both n (suc here) [] ys e = absurd (omega (arith, e))
