@@ -54,7 +54,6 @@ fn write_line_of_abort<W: WriteStr>(
 ) -> Result<(), WriteFault>
     ensures { Puts W.meaning w.old (paint styles.now (line_of_abort abort.now)) result w.new }
 {
-    let margin = "           - ";
     match abort {
         AbortDescription::UnixSignal { .. } => Ok(()),
         AbortDescription::WindowsNtStatus { code, message } => {
@@ -66,12 +65,12 @@ fn write_line_of_abort<W: WriteStr>(
                 NtMessage(message),
                 "\n",
             );
-            (margin, code).write_to(w)
+            ("           - ", code).write_to(w)
         }
         AbortDescription::WindowsJobObject => {
             let terminated = Toned(styles.fail, "terminated");
             (
-                margin,
+                "           - ",
                 terminated,
                 " via ",
                 Toned(styles.count, "job object"),
