@@ -11,8 +11,8 @@ abbrev pub IsNextPiece : List ℕ → Bool → List ℕ → Option (List ℕ) �
 IsNextPiece text false piece rest = (text ≡ []) × (rest ≡ Some [])
 IsNextPiece text true piece rest = (more : List ℕ) × (rest ≡ Some more) × ((text ≡ piece ++ 10 ∷ more) ⊎ ((text ≡ piece) × (more ≡ []) × (0 < length piece)))
 
--- what was taken of a text whose first bytes are at hand, behind what was taken before: lines and the line feed that ends them, a part
--- of one, or nothing, where none are at hand; and what is left of it
+-- what was taken of a text whose first bytes are buffered, after what was taken before: lines and the line feed that ends them, a part
+-- of one, or nothing, if none are buffered; and what is left of it
 abbrev pub IsBehind : Chunk → List ℕ → List ℕ → List ℕ → List ℕ → Option (List ℕ) → Type 0
 IsBehind taken.Lines at_hand text old new rest = (more : List ℕ) × (rest ≡ Some more) × (old ++ text ≡ new ++ 10 ∷ more)
 IsBehind taken.Part at_hand text old new rest = (more : List ℕ) × (rest ≡ Some more) × (old ++ text ≡ new ++ more)

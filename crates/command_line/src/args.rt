@@ -1,6 +1,6 @@
 //! The words of a command line.
 //!
-//! Options stand before the file, which is the last word whatever it looks like.
+//! Options come before the file, which is the last word whatever it looks like.
 
 ghost use Rattle.std.specs.Prelude.{◌≡◌, true, if◌then◌else◌, Some, None, IfOk};
 ghost use Rattle.std.specs.Option.{option_map};
@@ -41,9 +41,9 @@ pub struct StoreOptions<'a> {
     pub config: StoreConfig,
 }
 
-/// Reads the words that follow the program's name, and answers None where they are used wrongly: without a file, with an
-/// option that the program does not know or that is there twice, with no status level after `--level`, which is
-/// `pass` where that option is left out, or with an output to keep and no `--store`.
+/// Parses the words after the program's name, or returns None if they are wrong: without a file, with an
+/// option that the program does not know or that occurs twice, with no status level after `--level`, which is
+/// `pass` if that option is left out, or with an output to keep and no `--store`.
 ///
 /// ```
 /// let given = CommandLine::from_words(alloc, &["--level", "fail", "first.scene"])?;
@@ -91,7 +91,7 @@ struct ArgsSoFar {
 }
 
 impl ArgsSoFar {
-    // What they ask for with records that go there, and these words after them. No option stands twice, so few calls nest.
+    // The options with these records, and with the words after them. No option occurs twice, so few calls nest.
     #[tactic(auto, unfolding(crate::specs::Args::options_after))]
     fn followed_by<'a>(self, store: Option<&'a str>, words: &'a [String]) -> Option<Options<'a>>
         ensures { asked result ≡ options_after self (option_map (λ path. path.now) store.entry) (texts words.now) }

@@ -9,8 +9,8 @@ use memchr::memrchr;
 use run_model::memory::OutOfMemory;
 use std::io::{BufRead, BufReader, ErrorKind, Read};
 
-/// Reads the next lines into the buffer: all whole ones that the reader has at hand, or one that is longer, without the line feed that
-/// ends them. It answers whether there was a line.
+/// Reads the next lines into the buffer: all whole ones that the reader has buffered, or one that is longer, without the line feed that
+/// ends them. It returns whether there was a line.
 pub fn next_piece<'a, R: Read>(
     file: &'a str,
     reader: &mut BufReader<R>,
@@ -36,7 +36,7 @@ pub fn next_piece<'a, R: Read>(
     Err(Fault::CannotRead { file })
 }
 
-// What was taken of the bytes that a reader has at hand.
+// What was taken of the bytes that a reader has buffered.
 #[derive(Clone, Copy)]
 enum Chunk {
     // Whole lines, and the line feed that ends the last.
@@ -47,7 +47,7 @@ enum Chunk {
     Nothing,
 }
 
-// Takes the whole lines that the reader has at hand, or all that it has of a longer one.
+// Takes the whole lines that the reader has buffered, or all that it has of a longer one.
 fn take_at_hand<R: Read>(
     reader: &mut BufReader<R>,
     piece: &mut Vec<u8>,

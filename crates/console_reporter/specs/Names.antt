@@ -11,7 +11,8 @@ pub use Rattle.console_reporter.specs.Outcomes.{HasFront, IsOfConsole, Side, Sto
 pub use Rattle.console_reporter.specs.Outcomes.Side.{Records, Report}
 pub use Rattle.console_reporter.specs.PlainCalls.{ArePlain, IsPlainCall, IsPlainConfiguration, IsPlainKind}
 pub use Rattle.console_reporter.specs.PlainLaw.{IsPlainReport, PlainLaw}
-pub use Rattle.console_reporter.specs.Report.{Known, end_of_run_text, event_parts, event_text, known_after, listed_text, past_at, report, report_texts, script_by, text, text_at}
+pub use Rattle.console_reporter.specs.Report.{Known, end_of_run_text, event_parts, known_after, past_at, report, script_by, text, text_at}
+unfoldable pub use Rattle.console_reporter.specs.Report.{event_text, listed_text, report_texts}
 pub use Rattle.console_reporter.specs.ReportErrors.{error_of_io, error_of_run, error_of_write}
 pub use Rattle.console_reporter.specs.Runs.{Runs, absent}
 pub use Rattle.console_reporter.specs.Statistics.{IsStatsIndependent, with_stats}
@@ -23,11 +24,11 @@ pub use Rattle.console_reporter.specs.declared.imp.builder.DisplayReporterBuilde
 pub use Rattle.console_reporter.specs.declared.imp.builder.Surroundings.{Surroundings}
 pub use Rattle.console_reporter.specs.declared.imp.reporter.DisplayReporter.{DisplayReporter}
 pub use Rattle.console_reporter.specs.declared.imp.store.Store.{Store}
-pub use Rattle.info_text.specs.Response.{info_response_text, script_answer, test_answer, unit_answer, valid_output}
-pub use Rattle.run_text.specs.Header.{replay_header_text}
+unfoldable pub use Rattle.info_text.specs.Response.{info_response_text, script_answer, test_answer, unit_answer, valid_output}
+unfoldable pub use Rattle.run_text.specs.Header.{replay_header_text}
 pub use Rattle.run_text.specs.NotSeen.{not_seen_text}
 pub use Rattle.run_text.specs.PlainRuns.{IsPlainPrefix}
-pub use Rattle.run_text.specs.RunId.{id_text, run_id_text}
-pub use Rattle.run_text.specs.SetupScript.{failed_script_output, setup_script_finished_text, setup_script_line, setup_script_slow_text}
-pub use Rattle.run_text.specs.Start.{profile_text, run_id_line, run_started_text, starting_line, test_counts_text}
-pub use Rattle.run_text.specs.Summary.{initial_count_text, run_counts_text, run_finished_text, summary_line}
+unfoldable pub use Rattle.run_text.specs.RunId.{id_text, run_id_text}
+unfoldable pub use Rattle.run_text.specs.SetupScript.{failed_script_output, setup_script_finished_text, setup_script_line, setup_script_slow_text}
+unfoldable pub use Rattle.run_text.specs.Start.{profile_text, run_id_line, run_started_text, starting_line, test_counts_text}
+unfoldable pub use Rattle.run_text.specs.Summary.{initial_count_text, run_counts_text, run_finished_text, summary_line}

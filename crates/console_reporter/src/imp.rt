@@ -1,9 +1,9 @@
 //! The reporter: what it is built from, its calls, and the run of a list of calls.
 //!
-//! One module a concern: `builder` says what a reporter is built from (what it is asked is `run_model::call`), `unload` which outputs a
-//! replay may leave unread, `store` where records go, `reporter` the calls, `event_text` what text an event has, and `run` the run of a
-//! list of them. What is known of the calls before, and what is decided of the next one, stands in the crate `reporter_state`; the texts
-//! themselves in the crates `test_text`, `run_text` and `info_text`, and the records in `store_text`.
+//! One module a concern: `builder` has the configuration (a call is `run_model::call`), `unload` the outputs that a
+//! replay may skip, `store` where records go, `reporter` the calls, `event_text` the text of an event, and `run` the run of a
+//! list of calls. What is known of the calls before, and what is decided about the next one, is in the crate `reporter_state`; the texts
+//! are in the crates `test_text`, `run_text` and `info_text`, and the records in `store_text`.
 
 mod builder;
 mod event_text;

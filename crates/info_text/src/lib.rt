@@ -1,7 +1,7 @@
-//! The texts of answers to the question what the units of a run are doing.
+//! The texts of the responses of units that are asked for their state.
 //!
-//! `start` says that they are asked and that no further answers are waited for; `response` is the answer of a unit, and `state`
-//! in it what the unit is doing. The other texts of a run stand in `run_text`, those of tests in `test_text`.
+//! `start` says that they are asked and that no further responses are waited for; `response` is the response of a unit, and `state`
+//! the state in it. The other texts of a run are in `run_text`, those of tests in `test_text`.
 #![tactic(auto)]
 
 pub mod response;

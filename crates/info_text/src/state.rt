@@ -22,7 +22,7 @@ use writers::write_str::{WriteFault, WriteStr};
 pub struct InfoUnit {
     /// Whether it is a test or a setup script.
     pub kind: UnitKind,
-    /// Which attempt it is, where that is told.
+    /// Which attempt it is, if that is shown.
     pub attempt: Option<RetryData>,
     /// Whether its output has errors.
     pub has_errors: bool,

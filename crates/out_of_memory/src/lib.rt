@@ -1,5 +1,5 @@
-//! Want of memory: the one answer of whatever had to grow and could not. It stands below all else, so that texts and values that know nothing
-//! of one another answer the same.
+//! Refused memory: the one error of whatever had to grow and could not. It is the lowest crate, so that texts and values that do not know
+//! each other return the same error.
 #![tactic(auto)]
 
 ghost use Rattle.std.specs.Prelude.{◌≡◌};

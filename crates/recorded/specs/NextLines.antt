@@ -11,13 +11,13 @@ use Rattle.recorded.specs.declared.lines.Taken.TheVariants as taken
 use Rattle.scene_text.specs.Names.{SceneEvent, Lacks, ReadFault, IsNextFault, LeavesLines, ReadsLines, RunLine, before_next, is_begun, lines_after, parsed_lines, recorded_line, LinesRead}
 use Rattle.scene_fields.specs.declared.fault.LineFault.TheVariants as line
 
--- what was read of a text: its first line, which a line feed parts from what is left; or what stands behind the last line feed
+-- what was read of a text: its first line, before a line feed and what is left; or the rest after the last line feed
 abbrev pub IsNextLine : List ℕ → Bool → List ℕ → Option (List ℕ) → Type 0
 IsNextLine text true line rest = (more : List ℕ) × (rest ≡ Some more) × (text ≡ line ++ 10 ∷ more) × Lacks 10 line
 IsNextLine text false line rest = (ended_lines text ≡ []) × ((more : List ℕ) × (rest ≡ Some more) × (ended_lines more ≡ []))
 
--- what was taken of a text whose first bytes are at hand, after what was taken before: the end of a line and its line feed, a part of a line, or
--- nothing, where none are at hand; and what is left of it
+-- what was taken of a text whose first bytes are buffered, after what was taken before: the end of a line and its line feed, a part of a line, or
+-- nothing, if none are buffered; and what is left of it
 abbrev pub TakesOf : Taken → List ℕ → List ℕ → List ℕ → List ℕ → Option (List ℕ) → Type 0
 TakesOf taken.Line at_hand text old new rest = (part : List ℕ) × (more : List ℕ) × (rest ≡ Some more) × (new ≡ old ++ part) × (text ≡ part ++ 10 ∷ more) × Lacks 10 part
 TakesOf taken.Part at_hand text old new rest = (part : List ℕ) × (more : List ℕ) × (rest ≡ Some more) × (new ≡ old ++ part) × (text ≡ part ++ more) × Lacks 10 part
@@ -32,7 +32,7 @@ IsLineFault file read line fault =
 abbrev pub LeavesLine : List ℕ → LinesRead → LinesRead → RunLine → Fault → Type 0
 LeavesLine file old new line fault = (IsUnread file fault × ReadsLines old new []) ⊎ ((f : ReadFault) × (fault ≡ fault_of_read f) × LeavesLines old new (line ∷ []) f)
 
--- what was read before still stands in front of what was added
+-- what was read before is still in front of what was added
 pub record KeepsRead (old new : LinesRead) : Type 0 where
   pub events : take (length old.run.events.items) new.run.events.items ≡ old.run.events.items
   pub lines : take (length old.run.lines.items) new.run.lines.items ≡ old.run.lines.items

@@ -24,7 +24,7 @@ IsLoaded all r (Err OutOfMemory) = end_of r ≤ length all
 abbrev pub HasSum : Reference → List ℕ → Type 0
 HasSum r bytes = (length bytes ≡ r.len) × (sum_of bytes ≡ r.sum)
 
--- a count with so many more, which stays at its greatest value
+-- a count with n more, which stops at its greatest value
 abbrev pub counted : ℕ → ℕ → ℕ
 counted count more = min (count + more) (2 ^ 64 - 1)
 

@@ -8,7 +8,7 @@ use Rattle.scene_text.specs.Names.{split_on, LineFault, PlacedOutput, ConfigLine
 abbrev pub replayed : Options → Options
 replayed options = record options { is_replay = true }
 
--- the lines of a text, each of which ends in a line feed: what stands behind the last one is none
+-- the lines of a text, each of which ends in a line feed: what follows the last one is none
 abbrev pub without_last : {X : Type 0} → List X → List X
 without_last [] = []
 without_last (x ∷ []) = []
@@ -24,14 +24,14 @@ line_replayed options all t = RecordedLine t (λ before stored e. event_replayed
 abbrev pub lines_replayed : Options → List ℕ → List ℕ → List RunLine
 lines_replayed options all text = map (line_replayed options all) (ended_lines text)
 
--- a line of the scene in which every output stands in its place
+-- a line of the scene with every output in its place
 abbrev pub line_inline : List ℕ → List ℕ → RunLine
 line_inline all t = RecordedLine t (λ before stored e. Ok (event_inline all stored e))
 
 abbrev pub lines_inline : List ℕ → List ℕ → List RunLine
 lines_inline all text = map (line_inline all) (ended_lines text)
 
--- what stands before the line behind one of this value
+-- what is before the line after one of this value
 abbrev pub before_behind : LinesBefore → ParsedLine → LinesBefore
 before_behind before NoEvent = before
 before_behind before (ConfigLine config) = record before { config = config }

@@ -5,7 +5,7 @@ use Rattle.reporter_state.specs.Names.{loads_attempt, loads_finish, loads_script
 use Rattle.scene_events.specs.declared.scene.event.SceneEvent.{SceneEvent}
 use Rattle.scene_events.specs.declared.scene.event.SceneEvent.TheVariants as scene
 
--- the decider skips the output of the event; of others, as of a unit's answer, it is not asked
+-- the decider skips the output of the event; it is not asked about others, such as the response of a unit
 abbrev pub skips : OutputLoadDecider → SceneEvent → Bool
 skips d (scene.SetupScriptFinished e) = not (loads_script e.attempt.result)
 skips d (scene.TestAttemptFailedWillRetry e) = not (loads_attempt d e.failure_output)

@@ -5,7 +5,7 @@ use Rattle.recorded.specs.Outputs.{counted}
 use Rattle.recorded.specs.Runs.{lines_replayed, needed, ended_lines}
 use Rattle.scene_text.specs.SceneTexts.{ParsedLines, RunLine, lines_before}
 
--- These lines are left behind those before. So many bytes of outputs were read, and once these lines are read, so many in all.
+-- These lines are left after those before. `total` bytes of outputs are read once these lines are read.
 pub record IsLeft (total : ℕ) (options : Options) (recorded remaining : Option (List ℕ)) (bytes_read : ℕ) (before : ParsedLines) (lines : List RunLine) : Type 0 where
   pub all : List ℕ
   pub text : List ℕ

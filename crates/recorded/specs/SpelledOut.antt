@@ -20,7 +20,7 @@ abbrev pub bytes_spelled : List ℕ → List ℕ
 bytes_spelled [] = []
 bytes_spelled (b ∷ bs) = byte_spelled b ++ bytes_spelled bs
 
--- a field; in place of a reference stand the bytes at its place among all outputs
+-- a field; a reference is replaced by the bytes at its position among all outputs
 abbrev pub field_spelled : List ℕ → List ℕ → List ℕ
 field_spelled all t = option_map_or (λ reference. bytes_spelled (bytes_at all reference)) (reference_in t) t
 

@@ -70,7 +70,7 @@ fn only_place(event: &SceneEvent) -> Option<usize>
     }
 }
 
-// Whether the decider skips the outputs of an event, by what the event says beside them. Of others, as of a unit's answer, it is not asked.
+// Whether the decider skips the outputs of an event, from its metadata. It is not asked about others, such as the response of a unit.
 #[tactic(auto, using(crate::proofs::lemmas::Skips::loads_by_last))]
 fn skips(decider: &OutputLoadDecider, event: &SceneEvent) -> bool
     ensures { result ≡ skips decider.now event.now }
@@ -112,7 +112,7 @@ fn check_all_there<O: ReadAt + Drop>(
     Ok(())
 }
 
-// The same of one output. Standard output comes first.
+// For one output. Standard output comes first.
 fn check_output_there<O: ReadAt + Drop>(
     placed: &PlacedOutput,
     outputs: &mut RecordedOutputs<O>,
@@ -125,7 +125,7 @@ fn check_output_there<O: ReadAt + Drop>(
     check_stream_there(placed, StreamField::Second, outputs)
 }
 
-// The same of one of its streams.
+// For one of its streams.
 fn check_stream_there<O: ReadAt + Drop>(
     placed: &PlacedOutput,
     stream: StreamField,

@@ -45,7 +45,7 @@ pub(crate) fn next_line<'a, R: Read>(
     Err(Fault::CannotRead { file })
 }
 
-// What was taken of the bytes that a reader has at hand.
+// What was taken of the bytes that a reader has buffered.
 #[derive(Clone, Copy)]
 enum Taken {
     // The end of a line, and its line feed.
@@ -56,7 +56,7 @@ enum Taken {
     Nothing,
 }
 
-// Takes what the reader has at hand up to the first line feed, or all of it.
+// Takes what the reader has buffered up to the first line feed, or all of it.
 fn take_at_hand<R: Read>(
     reader: &mut BufReader<R>,
     line: &mut Vec<u8>,

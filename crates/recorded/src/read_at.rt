@@ -1,7 +1,7 @@
-//! Bytes that are read at their place, and a meter that counts them.
+//! Bytes that are read at their position, and a meter that counts them.
 //!
-//! The kit's `Read` and `Seek` do not say that what is read after a seek stands at the place that was sought; [`Source`] says so. What is read
-//! through [`ReadAt`] is counted as well: [`Metered`] is the meter, and stands in front of any source.
+//! The kit's `Read` and `Seek` do not say that what is read after a seek is at the position that was sought; [`Source`] says so. What is read
+//! through [`ReadAt`] is counted as well: [`Metered`] is the meter, and wraps any source.
 
 ghost use Rattle.std.specs.Prelude.{◌≡◌, ℕ, List, Option, None, Some, IfOk, IfSome, OnOk, ⊤, if◌then◌else◌, is_ok, length};
 ghost use Rattle.std.specs.Io.Cursor.{cursor_inner};
@@ -20,7 +20,7 @@ pub trait Source {
     ghost recorded: { Self → Option (List ℕ) } = { λ _. None };
     // It was asked once how many bytes there are.
     ghost asked: { Self → Self → Type 0 } = { λ _ _. ⊤ };
-    // Once, from this place on, so many bytes were read, or could not be read.
+    // Once, from this position on, this many bytes were read, or could not be read.
     ghost read_once: { ℕ → ℕ → Self → Self → Type 0 } = { λ _ _ _ _. ⊤ };
 
     /// How many bytes there are now. A file may grow between two calls.
@@ -59,7 +59,7 @@ impl Source for &[u8] {
     }
 }
 
-/// The bytes under a cursor, wherever it stands. Both calls move it.
+/// The bytes under a cursor, wherever it is. Both calls move it.
 impl<T: AsBytes> Source for Cursor<T> {
     ghost recorded = { λ c. T.bytes (cursor_inner c) };
 
@@ -70,7 +70,7 @@ impl<T: AsBytes> Source for Cursor<T> {
     fn read_at(&mut self, offset: u64, buffer: &mut [u8]) -> io::Result<()> {
         self.seek(SeekFrom::Start(offset))?;
         let len = buffer.len();
-        // All the bytes are at hand, so one read gives what there is.
+        // All the bytes are in memory, so one read gives what there is.
         if self.read(buffer)? < len {
             return Err(ErrorKind::UnexpectedEof.into());
         }
@@ -78,10 +78,10 @@ impl<T: AsBytes> Source for Cursor<T> {
     }
 }
 
-/// The bytes of a file, wherever it stands. No call moves it.
+/// The bytes of a file, wherever it is. No call moves it.
 impl Source for File {
     fn len(&mut self) -> io::Result<u64> {
-        // A seek to the end of a folder would answer a number that no file has.
+        // A seek to the end of a folder would return a number that no file has.
         Ok(self.metadata()?.len())
     }
 
@@ -90,20 +90,20 @@ impl Source for File {
     }
 }
 
-/// Bytes that are read at their place, of which each read is counted.
+/// Bytes that are read at their position, where each read is counted.
 ///
-/// What a contract says of [`bytes_read`](ReadAt::bytes_read) it says of every read, wherever it stands: there is no other way to the bytes.
+/// What a contract says of [`bytes_read`](ReadAt::bytes_read) holds for every read, wherever it is: there is no other way to the bytes.
 pub trait ReadAt {
     // All the bytes, where they are known.
     ghost recorded: { Self → Option (List ℕ) } = { λ _. None };
     // How many bytes were read.
     ghost count: { Self → ℕ };
-    // What was counted was read once of what stands behind it, and nothing else.
+    // What was counted was read once from what follows, and nothing else.
     ghost asked: { Self → Self → Type 0 } = { λ _ _. ⊤ };
 
     ghost read_once: { ℕ → ℕ → Self → Self → Type 0 } = { λ _ _ _ _. ⊤ };
 
-    /// How many bytes there are now, as [`Source::len`] answers it. None is read.
+    /// How many bytes there are now, as [`Source::len`] returns it. None is read.
     fn len(&mut self) -> io::Result<u64>
         ensures once { asked self.old self.new }
         ensures kept { recorded self.new ≡ recorded self.old }

@@ -81,13 +81,13 @@ impl<'a, R: Read + Drop, O: ReadAt + Drop> RecordedRun<'a, R, O> {
         self.outputs.bytes_read()
     }
 
-    /// Prints the report of the run, each line of it once it was read, and its records to a second device, if the options ask for them. Both
-    /// devices are given back.
+    /// Prints the report of the run, each line of it as soon as it was read, and its records to a second device, if the options ask for them. Both
+    /// devices are returned.
     ///
     /// On `Ok` the first device has what `follow` prints of the scene that the run is once each reference is spelled out, as the bytes at its
-    /// place (`spelled`), or of the events with every output put in (`ok`); and the outputs that the report does not show were not read
-    /// (`reads`, which speaks of the count of the outputs' source). The error is that of the first line that is wrong; the report of the lines
-    /// before it stands.
+    /// position (`spelled`), or of the events with every output put in (`ok`); and the outputs that the report does not show were not read
+    /// (`reads`, which is about the count of the outputs' source). The error is that of the first line that is wrong; the report of the lines
+    /// before it remains.
     pub fn replay<W: Write, S: Write>(
         &mut self,
         alloc: Global,

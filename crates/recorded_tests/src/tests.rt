@@ -97,7 +97,7 @@ fn refuses_what_is_no_reference(rt: HostRuntime) {
     }
 }
 
-// What a load of each of these references answers over the outputs, and that it counts what it read.
+// The results of loading each of these references from the outputs, and that the reads are counted.
 fn check_loads<O: ReadAt + Drop>(
     rt: &impl Abort,
     alloc: Global,

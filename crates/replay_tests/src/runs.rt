@@ -14,7 +14,7 @@ use store_text::config::StoreConfig;
 // Two streams.
 const OUTPUTS: &[u8] = b"passed\nfailed\n";
 
-// In a line below, PASSED stands for a reference to the first of them, and FAILED for one to the second.
+// In a line below, PASSED is a reference to the first of them, and FAILED one to the second.
 const PASSED: &str = "\\@0:7:62cd0a585dc2fe91";
 
 const FAILED: &str = "\\@7:7:ee2a98c236301c76";

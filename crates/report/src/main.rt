@@ -1,7 +1,7 @@
 //! The program `report`: it reads a scene, which is a run written as text, and prints nextest's console report of it.
 //!
 //! With `--store PATH` it writes a record of each finished test to that file. What goes wrong is one line on standard error and the
-//! status, and nothing stands on standard output unless the whole scene was accepted and PATH was made or emptied.
+//! status, and standard output stays empty unless the whole scene was accepted and PATH was created or emptied.
 #![tactic(auto)]
 
 use scenes::args::{Options, words};

@@ -1,4 +1,4 @@
--- What the program tells of a text, as a line that is wrong or as memory that was refused (for `report_of`).
+-- The fault that the program reports for a text, a line that is wrong or refused memory (for `report_of`).
 use Rattle.std.proofs.Common.{ℕ, List, Option, ◌⊎◌, inl, inr}
 use Rattle.report_c.specs.Reported.{IsUnreported, read_fault_of}
 use Rattle.scene_fields.specs.declared.fault.LineFault.{LineFault}

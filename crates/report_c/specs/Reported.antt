@@ -52,7 +52,7 @@ pub record IsTooLong (options : NorigullyOptions) (text old : List ℕ) (n : ℕ
   pub beyond : length old < length report
   pub count : n ≡ length report
 
--- The program tells a fault of this line.
+-- The program reports a fault of this line.
 pub record IsFaultOfLine (options : NorigullyOptions) (text : List ℕ) (line : ℕ) : Type 0 where
   pub program : Options
   pub asked : AsksFor options program
@@ -64,7 +64,7 @@ abbrev pub read_fault_of : Fault → ReadFault
 read_fault_of (fault.Line n f) = read.Line n f
 read_fault_of _ = read.OutOfMemory
 
--- There is no report, since the program tells a fault of this line, or since memory was refused.
+-- There is no report, since the program reports a fault of this line, or since memory was refused.
 abbrev pub IsUnreported : Options → List ℕ → ReadFault → Type 0
 IsUnreported options text (read.Line n f) = IsJudged options (Err (fault.Line n f)) text
 IsUnreported options text read.OutOfMemory = ⊤

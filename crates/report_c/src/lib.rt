@@ -74,7 +74,7 @@ pub extern "C" fn norigully_report(
     ensures too_long { result.status ≡ 1 → IsTooLong options.now scene.now out.old result.length }
     // That line is the first of the text that is wrong, or that of the first event that a reporter refuses.
     ensures line { result.status ≡ 2 → IsFaultOfLine options.now scene.now result.line }
-    // A status level that is none is told, and is told of no other.
+    // This status means that there is no such status level, and no other does.
     ensures level { (result.status ≡ 4) ↔ (level_numbered options.now.status_level ≡ None) }
     ensures fault { result.status ≤ 4 }
     ensures untouched { result.status ≢ 0 → out.new ≡ out.old }

@@ -29,7 +29,7 @@ fn start_after_refused(alloc: Global, refused: &TestEvent<'_>) -> Result<(), Fai
     tried
 }
 
-// Tests have no lines, so that no text stands in the way of the refusal.
+// Tests have no lines, so that no text comes before the refusal.
 fn write_both(alloc: Global, refused: &TestEvent<'_>, next: &TestEvent<'_>) -> Result<(), Fail> {
     let builder = line_builder(alloc, StatusLevel::None)?;
     let mut report = String::new(alloc);

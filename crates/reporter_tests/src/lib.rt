@@ -1,6 +1,6 @@
 //! The tests of the crate `console_reporter` that no scene reaches: devices that fail under a reporter, memory that is refused, a refused
-//! event between others, the recorded forms of events, and what the decider answers of these. What a reporter prints are cases of
-//! `cases/printed`, `cases/program` and `cases/fields`. The tests stand in a crate of their own because a crate with tests is proved twice.
+//! event between others, the recorded forms of events, and what the decider returns for these. What a reporter prints are cases of
+//! `cases/printed`, `cases/program` and `cases/fields`. The tests have their own crate because a crate with tests is proved twice.
 #![tactic(auto)]
 
 #[cfg(test)]

@@ -1,5 +1,5 @@
-//! Which outputs a replay loads: what the decider answers of recorded events, and of the events of a run that is going on, which a
-//! reporter refuses where it needs an output that was left unread.
+//! Which outputs a replay loads: what the decider returns for recorded events, and for live events, which a
+//! reporter refuses if it needs an output that is not loaded.
 
 use crate::testing::{finished, line_builder, retried, retried_success, script_finished};
 use console_reporter::imp::{
@@ -73,7 +73,7 @@ fn leaky_script<'a>(alloc: Global, leak: LeakTimeoutResult) -> Result<TestEvent<
     script_finished(alloc, outcome, output)
 }
 
-// What is answered of an event's recorded form, and why a reporter refuses the event, as it is and with its output left unread.
+// The decision for an event's recorded form, and why a reporter refuses the event, as it is and without its output.
 type Answer = (LoadOutput, [Option<WriteEventError>; 2]);
 
 // None of events that have no output.
@@ -96,7 +96,7 @@ fn answer_of(
     Ok(Some((answer, [as_it_is, unread])))
 }
 
-// The answer that a live event has as well: where its output is loaded, it is refused without.
+// The same decision for a live event: if its output is loaded, it is refused without.
 fn both(answer: LoadOutput) -> Option<Answer> {
     match answer {
         LoadOutput::Load => Some((LOAD, [None, Some(WriteEventError::OutputNotLoaded)])),
@@ -104,7 +104,7 @@ fn both(answer: LoadOutput) -> Option<Answer> {
     }
 }
 
-// Whether a reporter of this level and store has that answer.
+// Whether a reporter of this level and store decides so.
 fn is_answered(
     alloc: Global,
     status_level: StatusLevel,

@@ -26,7 +26,7 @@ fn errors(alloc: Global) -> Result<ErrorChain, OutOfMemory> {
     ErrorChain::new(alloc, DescriptionText::new(alloc, "cannot spawn")?, causes)
 }
 
-// An attempt that a signal ended, and beside whose output an error is told.
+// An attempt that a signal ended, with an error beside its output.
 fn aborted(alloc: Global) -> Result<ExecuteStatus<LiveSpec>, OutOfMemory> {
     let abort = AbortDescription::UnixSignal {
         signal: 11,

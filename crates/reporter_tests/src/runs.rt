@@ -1,5 +1,5 @@
-//! Three runs, and what each of their calls tells the report and the store: two tests from their start to their summary, a run that is
-//! cancelled twice, and a test that answers what it is doing. The tests run them over devices that fail and over memory that is refused.
+//! Three runs, and what each of their calls adds to the report and the store: two tests from their start to their summary, a run that is
+//! cancelled twice, and a test that responds. The tests run them over devices that fail and over memory that is refused.
 //! A function here holds little over a `?`, and lends the rest: what is held there makes its proof long.
 
 #[cfg(test)]
@@ -221,7 +221,7 @@ fn cancelled<'a>(
     ]
 }
 
-// What a test that has written this answers when it is asked what it is doing.
+// The response of a test with this output when it is asked for its state.
 fn answer<'a>(
     alloc: Global,
     test: TestInstanceId<'a>,
@@ -318,7 +318,7 @@ pub fn run_with_store<W: WriteStr, S: WriteStr>(
     ))
 }
 
-/// How many bytes the first so many of these texts have.
+/// The length of the first n of these texts, in bytes.
 pub fn front_len(texts: &[&str], number: usize) -> usize {
     let mut len = 0usize;
     for text in texts.iter().take(number) {

@@ -135,17 +135,17 @@ pub fn make_call<W: WriteStr, S: WriteStr>(
     }
 }
 
-/// What calls of a reporter answered.
+/// The results of a reporter's calls.
 #[derive(Clone, Copy)]
 pub struct Answers {
     /// Where the first of them failed, if one did.
     pub outcome: Result<(), RunFault>,
-    /// Whether all after that one answered that the report has failed.
+    /// Whether all after that one returned that the report has failed.
     pub are_silent: bool,
 }
 
 impl Answers {
-    /// What a run answered, which stops at the first fault.
+    /// The result of a run, which stops at the first fault.
     pub fn to_run(outcome: Result<(), RunFault>) -> Answers {
         Answers {
             outcome,
@@ -153,7 +153,7 @@ impl Answers {
         }
     }
 
-    // One more: what the call at this place answered.
+    // With the result of the call at this index.
     fn and(self, position: usize, answer: Result<(), WriteEventError>) -> Answers {
         match (self.outcome, answer) {
             (Ok(()), Err(fault)) => Answers {

@@ -1,6 +1,6 @@
 -- The names that the crates above import in one line. A new one is added to the line of its module.
 pub use Rattle.run_model.specs.Attempts.{Attempt, Attempts, Written, attempt_with_output, attempt_with_retry_data, code_failure, execution_with_output, only_attempt, silent_attempt, silent_execution, silent_output}
-pub use Rattle.run_model.specs.Decoded.{decoded_text}
+unfoldable pub use Rattle.run_model.specs.Decoded.{decoded_text}
 pub use Rattle.run_model.specs.Events.{run_finished, run_started, test_attempt_failed_will_retry, test_finished, test_skipped}
 pub use Rattle.run_model.specs.Infos.{has_valid_output, terminate_reason_text}
 pub use Rattle.run_model.specs.Outputs.{Part, combined_part, has_errors, has_loaded_output, is_loaded, stderr_part, stdout_part, subslice_value}

@@ -25,7 +25,7 @@ pub enum AbortDescription {
         /// Its name without the `SIG` in front, if it is known.
         name: Option<DescriptionText>,
     },
-    /// By an NT status that tells of a fault, on Windows.
+    /// By an NT status that is a fault, on Windows.
     WindowsNtStatus {
         /// The status.
         code: i32,

@@ -1,4 +1,4 @@
-//! The prefix that tells a run's id from those of other runs.
+//! The prefix that distinguishes a run's id from those of other runs.
 
 ghost use Rattle.std.specs.Prelude.{◌≡◌, IfOk};
 ghost use Rattle.run_names.specs.UniquePrefixes.{UniquePrefix};

@@ -5,7 +5,7 @@ use Rattle.report_words.specs.Names.{setup_scripts_word, tests_word, Fixed, Open
 use Rattle.report_words.proofs.lemmas.FreeWords.{free-setup_scripts_word, free-tests_word_if}
 use Rattle.run_text.specs.declared.running.Running.{Running}
 
--- so many setup scripts, and so many tests
+-- n setup scripts, and m tests
 abbrev pub running_of : ℕ → ℕ → Running
 running_of scripts tests = record { setup_scripts = scripts; tests = tests }
 

@@ -8,7 +8,7 @@ use Rattle.run_model.specs.declared.status.LeakTimeoutResult.TheVariants as leak
 use Rattle.report_words.specs.Parts.{Parts, Fixed, Open, Line, Lines, Tone, Pass, Fail, Skip, none, words, right, given_right, ◌⧺◌, choice, drawn_given}
 use Rattle.text_parts.specs.Names.{bracketed, exceeded, script_output, short_word, Script, shown_script, is_level_shown, Settings}
 
--- which of so many scripts it is, from 1
+-- which script of how many it is, from 1
 unfoldable pub script_counter : ℕ → ℕ → Text
 script_counter index total =
     plain (codes "[") ++ (right_in 9 (decimal (index + 1) ++ (codes "/" ++ decimal total)) ++ plain (codes "] "))
@@ -22,7 +22,7 @@ setup_script_started_text index total script =
     ⧺ shown_script script
     ⧺ words (codes "\n")
 
--- a script that runs for long: the flag says that it is ended for it, and the level from which on that is told
+-- a script that runs for long: the flag says that it is terminated for it, and the level from which that is shown
 abbrev pub slow_script_level : Bool → StatusLevel
 slow_script_level false = level.Slow
 slow_script_level true = level.Fail

@@ -1,9 +1,9 @@
 //! What one field of a scene's line spells, and what can be wrong with it.
 //!
-//! `fields` takes a line apart from left to right, and `owned_text` is a text that has its own memory, as the fields of a large line
-//! have. A field is read by `values`, `numbers`, `names`, `counts` (of several), `results` (how an attempt ended), `lists` (of words) or
-//! `texts`; `stored` is an output of which a recorded run says by each `reference` where its bytes stand. `marks` is where a byte stands,
-//! `split` a text cut at a byte, `usual_stats` the counts of most lines, `unescape` a text decoded in its own memory, and `fault` what can
+//! `fields` takes a line apart from left to right, and `owned_text` is a text that has its own memory, like the fields of a large line.
+//! A field is read by `values`, `numbers`, `names`, `counts` (of several), `results` (how an attempt ended), `lists` (of words) or
+//! `texts`; `stored` is an output of a recorded run, whose bytes each `reference` locates. `marks` finds a byte,
+//! `split` cuts a text at a byte, `usual_stats` reads the counts of most lines, `unescape` decodes a text in its own memory, and `fault` is what can
 //! be wrong. Which fields the line of an event has is not known here.
 #![tactic(auto)]
 

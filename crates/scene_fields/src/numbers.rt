@@ -9,7 +9,7 @@ ghost use Rattle.scene_fields.specs.Numbers.{IsLeadingNumber, IsSigned, code_in,
 
 use run_model::time::Nanos;
 
-// So many digits fit 64 bits whatever they are.
+// This many digits fit 64 bits whatever they are.
 const MOST_DIGITS: usize = 19;
 
 /// Reads a count, which is anything that a `usize` holds.
@@ -78,7 +78,7 @@ pub fn read_small_count(text: &str) -> Option<u32>
     parse_small_count(text)
 }
 
-// The same of 32 bits.
+// For 32 bits.
 fn parse_small_count(text: &str) -> Option<u32>
     ensures { SomeIff result (IsNumeral 10 text.now × (digits_value 10 text.now < 2 ^ 32)) (digits_value 10 text.now) }
 {

@@ -1,7 +1,7 @@
 //! Statistics as most lines have them: some of the keys, in their usual order.
 //!
-//! Nearly every line of a run has them so, and they are the longest field of most. Here each byte is looked at once: a key is compared as a
-//! whole and its digits are read where they stand, while `counts` looks for the `=` and the space of each pair and then for its key.
+//! Nearly every line of a run has them, and they are the longest field of most. Here each byte is read once: a key is compared as a
+//! whole and its digits are read in place, while `counts` searches the `=` and the space of each pair and then its key.
 
 ghost use Rattle.std.specs.Prelude.{◌≡◌, Some, IfSome, MatchOption};
 ghost use Rattle.scene_fields.specs.Numbers.{HasNoNumberAfter, IsNumberAfter, IsNumberOrZero};

@@ -122,7 +122,7 @@ fn report_and_store<R: Read + Drop, W: Write, S: Write>(
     report_scene(alloc, options, reader, writer, store_writer)
 }
 
-// What writing a scene's report and its records to these devices answers, once it is read and judged: the scene is not dropped, since
+// The result of writing a scene's report and its records to these devices, once it is read and judged: the scene is not dropped, since
 // what drops one is proved in each crate that does.
 fn judge_and_write(
     alloc: Global,
@@ -222,10 +222,10 @@ fn follow<R: Read + Drop, W: Write>(
     (outcome, writer)
 }
 
-// So many turns of a loop: more than 16 bits count.
+// The turns of a loop: more than 16 bits count.
 const MANY: usize = 70_000;
 
-// Two tests, behind a line of so many bytes, and behind so many lines before the first event and after it. No report shows these.
+// Two tests, after a line of this many bytes, and with this many lines before the first event and after it. No report shows these.
 fn behind_many_lines(alloc: Global) -> Result<String, AllocError> {
     let (config, run) = TWO_TESTS.split_at("config\tfinal\tfail\n".len());
     let mut text = String::from_str(alloc, config)?;

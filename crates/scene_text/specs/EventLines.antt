@@ -141,7 +141,7 @@ attempt_fields retry_data = do
   output ← output_fields
   says (record { retry_data = retry_data; output = written (Some result) output; result = result; time_taken = time_taken; is_slow = is_slow })
 
--- the attempt of this number, of so many that there can be
+-- the attempt of this number, of n possible ones
 abbrev pub retry_numbered : ℕ → ℕ → RetryData
 retry_numbered total number = record { attempt = number; total_attempts = total }
 
@@ -149,7 +149,7 @@ retry_numbered total number = record { attempt = number; total_attempts = total 
 abbrev pub attempt_number : ℕ → Line ℕ
 attempt_number n = λ p. if nat_lt n (2 ^ 32) then says n p else Err WrongNumberOfFields
 
--- so many attempts more behind these, the first of which has this number
+-- n more attempts after these, the first of which has this number
 unfoldable pub attempts_from : FlakyResult → ℕ → ℕ → ℕ → List Attempt → Attempt → Line (Attempts LiveSpec ChildOutputDescription)
 attempts_from flaky total number zero earlier last = says (record { earlier = earlier; last = last; flaky_result = flaky })
 attempts_from flaky total number (suc more) earlier last = do
@@ -272,7 +272,7 @@ answer_fields = do
   output ← output_fields
   says (record { state = read.0; output = written read.1 output })
 
--- `answer-script`: which answer of how many, the iteration, the script, and its answer
+-- `answer-script`: which response of how many, the iteration, the script, and its response
 abbrev pub answer_script_line_fields : Line SceneEvent
 answer_script_line_fields = do
   index ← field (number_in 64)
@@ -282,7 +282,7 @@ answer_script_line_fields = do
   answer ← answer_fields
   says (event.ScriptAnswered (record { index = index; total = total; stress_index = stress_index; script = script; answer = answer }))
 
--- `answer-test`: which answer of how many, the test, the attempt, and its answer
+-- `answer-test`: which response of how many, the test, the attempt, and its response
 abbrev pub answer_test_line_fields : Line SceneEvent
 answer_test_line_fields = do
   index ← field (number_in 64)

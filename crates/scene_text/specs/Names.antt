@@ -12,15 +12,19 @@ pub use Rattle.scene_events.specs.declared.scene.unit_events.SceneTest.{SceneTes
 pub use Rattle.scene_events.specs.declared.scene.unit_events.SetupFinish.{SetupFinish}
 pub use Rattle.scene_events.specs.declared.scene.unit_events.TestFinish.{TestFinish}
 pub use Rattle.scene_events.specs.declared.scene.unit_events.UnitAnswer.{UnitAnswer}
-pub use Rattle.scene_fields.specs.Counts.{in_turn, skips_in, stats_in}
+unfoldable pub use Rattle.scene_fields.specs.Counts.{in_turn, skips_in, stats_in}
 pub use Rattle.scene_fields.specs.Fields.{Fails, Gives, Line, Noted, Place, answered, exactly, field, goes_on, next, next_stored, none_noted, noted_outputs, noting, says, stored_among, taken, valued, with_attempts, with_noted, ◌>>=◌}
 pub use Rattle.scene_fields.specs.Lists.{errors_in}
-pub use Rattle.scene_fields.specs.Numbers.{code_in, nanos_in, number_in}
-pub use Rattle.scene_fields.specs.References.{after_mark, end_of, mark, reference_in, sum_in, sum_of}
-pub use Rattle.scene_fields.specs.Results.{result_in}
-pub use Rattle.scene_fields.specs.Split.{Lacks, cut, field_texts, pieces_left, split_on}
+pub use Rattle.scene_fields.specs.Numbers.{nanos_in}
+unfoldable pub use Rattle.scene_fields.specs.Numbers.{code_in, number_in}
+pub use Rattle.scene_fields.specs.References.{end_of, mark}
+unfoldable pub use Rattle.scene_fields.specs.References.{after_mark, reference_in, sum_in, sum_of}
+unfoldable pub use Rattle.scene_fields.specs.Results.{result_in}
+pub use Rattle.scene_fields.specs.Split.{Lacks, field_texts, pieces_left}
+unfoldable pub use Rattle.scene_fields.specs.Split.{cut, split_on}
 pub use Rattle.scene_fields.specs.Stored.{field_of, is_reference, placed, stored_output_in, stored_split, stored_stream_in, stream_in_field}
-pub use Rattle.scene_fields.specs.Texts.{bytes_in, hex_escape, text_in, unescaped_after}
+pub use Rattle.scene_fields.specs.Texts.{bytes_in, hex_escape, text_in}
+unfoldable pub use Rattle.scene_fields.specs.Texts.{unescaped_after}
 pub use Rattle.scene_fields.specs.Values.{stress_in}
 pub use Rattle.scene_fields.specs.declared.fault.LineError.{LineError}
 pub use Rattle.scene_fields.specs.declared.fault.LineFault.{LineFault}
@@ -31,7 +35,10 @@ pub use Rattle.scene_fields.specs.declared.stored.StoredOutput.{StoredOutput}
 pub use Rattle.scene_fields.specs.declared.stored.StoredStream.{StoredStream}
 pub use Rattle.scene_fields.specs.declared.stored.StreamField.{StreamField}
 pub use Rattle.scene_fields.specs.declared.values.ConfigKey.{ConfigKey}
-pub use Rattle.scene_text.specs.EventLines.{TakesEmptyOutput, TakesStoredOutput, after_streams, all_attempts, answer_fields, answer_script_line_fields, answer_test_line_fields, attempt_fields, attempt_number, attempts_behind, attempts_from, by_row, cancel_line_fields, combined_fields, config_line_fields, done_line_fields, empty_output_fields, end_line_fields, end_stress_line_fields, event_line_fields, event_rows, header_line_fields, info_line_fields, input_line_fields, made, not_seen_fields, other_event_rows, output_fields, output_fields_of, pause_line_fields, prefix_line_fields, retry_fields, retry_line_fields, retry_numbered, retry_start_line_fields, run_event_rows, run_line_fields, script_fields, set_field, setup_done_line_fields, setup_line_fields, setup_slow_line_fields, slow_line_fields, some_text_in, spelled_output_fields, split_fields, start_error_fields, start_line_fields, state_fields, stored_output_fields, stream_in, sub_end_line_fields, test_fields, unique_prefix_fields, unknown, unloaded_fields}
-pub use Rattle.scene_text.specs.Parts.{checked_clock, checked_day, delay_in, exited_in, exiting_in, highlight_in, highlight_stream_in, is_day, moment_in, progress_in, result_or_none_in, running_in, slow_after_in, state_in, state_with, stress_count_in, terminate_reason_in, terminating_in, timing_in, wait_in}
-pub use Rattle.scene_text.specs.SceneTexts.{AllRead, ConfigLine, EventLine, IsFirstFault, IsNextFault, LeavesLines, LinesBefore, NoEvent, NotesLine, ParsedLine, ParsedLines, PlainLine, ReadsLines, RecordedLine, RunLine, before_next, config_words, event_line, event_lines, fault_at, is_begun, is_begun_behind, is_passed_over, line_from, line_here, line_place, line_read, line_value, line_words, lines_after, lines_before, lines_read, lines_with, no_lines, parsed_line, parsed_lines, plain_line, recorded_line, text_lines, text_read, unread_line, value_of, with_line, with_made, words_behind}
+pub use Rattle.scene_text.specs.EventLines.{TakesEmptyOutput, TakesStoredOutput, answer_script_line_fields, answer_test_line_fields, attempt_number, attempts_behind, by_row, cancel_line_fields, combined_fields, done_line_fields, empty_output_fields, end_line_fields, end_stress_line_fields, event_line_fields, header_line_fields, info_line_fields, input_line_fields, made, not_seen_fields, output_fields_of, pause_line_fields, prefix_line_fields, retry_line_fields, retry_numbered, retry_start_line_fields, run_line_fields, set_field, setup_done_line_fields, setup_line_fields, setup_slow_line_fields, slow_line_fields, some_text_in, split_fields, start_error_fields, start_line_fields, stream_in, sub_end_line_fields, unique_prefix_fields, unknown, unloaded_fields}
+unfoldable pub use Rattle.scene_text.specs.EventLines.{after_streams, all_attempts, answer_fields, attempt_fields, attempts_from, config_line_fields, event_rows, other_event_rows, output_fields, retry_fields, run_event_rows, script_fields, spelled_output_fields, state_fields, stored_output_fields, test_fields}
+pub use Rattle.scene_text.specs.Parts.{checked_clock, checked_day, exited_in, highlight_in, highlight_stream_in, is_day, moment_in, progress_in, result_or_none_in, slow_after_in, state_with, stress_count_in, terminate_reason_in}
+unfoldable pub use Rattle.scene_text.specs.Parts.{delay_in, exiting_in, running_in, state_in, terminating_in, timing_in, wait_in}
+pub use Rattle.scene_text.specs.SceneTexts.{AllRead, ConfigLine, EventLine, IsFirstFault, IsNextFault, LeavesLines, LinesBefore, NoEvent, NotesLine, ParsedLine, ParsedLines, PlainLine, ReadsLines, RecordedLine, RunLine, before_next, config_words, event_line, fault_at, is_begun, is_begun_behind, is_passed_over, line_here, line_place, line_value, line_words, lines_after, lines_before, lines_with, no_lines, parsed_line, parsed_lines, plain_line, recorded_line, text_lines, text_read, unread_line, value_of, with_line, with_made, words_behind}
+unfoldable pub use Rattle.scene_text.specs.SceneTexts.{event_lines, line_from, line_read, lines_read}
 pub use Rattle.scene_text.specs.declared.reader.LinesRead.{LinesRead}

@@ -1,4 +1,4 @@
--- Values that stand in one field in parts: what a unit is doing, how far a stress run has come, moments and highlights.
+-- Values in one field with parts: the state of a unit, the progress of a stress run, moments and highlights.
 use Rattle.std.specs.Prelude.{ℕ, List, [], ◌∷◌, Bool, ◌&&◌, nat_le, nat_lt, unsigned_abs, if◌then◌else◌, Option, None, Some, codes, bytes_eq}
 use Rattle.std.specs.Int.{is_in_range}
 use Rattle.std.specs.Option.{option_and_then, option_map}
@@ -109,7 +109,7 @@ worded_state word t =
     else (if bytes_eq word (codes "delay") then delay_in t
     else None))))
 
--- a state whose result stands in the next field: until then it has passed, where it has ended
+-- a state whose result is in the next field: until then it has passed, if it has ended
 unfoldable pub state_in : List ℕ → Option UnitState
 state_in t = do
   cut_1 ← cut 58 t
@@ -130,7 +130,7 @@ state_with result live = Some live
 abbrev pub stress_count_in : List ℕ → Option StressCount
 stress_count_in t = if bytes_eq t (codes "inf") then Some count.Infinite else option_map count.Count (total_in (number_in 32 t))
 
--- of a run by this word: so many iterations, or so much time, in all
+-- a run of this word: n iterations, or this much time, in all
 abbrev pub progress_of : List ℕ → List ℕ → Nanos → ℕ → Option StressProgress
 progress_of word total elapsed completed =
     if bytes_eq word (codes "count") then option_map (λ count. progress.Count count elapsed completed) (stress_count_in total)

@@ -55,7 +55,7 @@ value_of read = result_map_both (λ x. x.0) (λ f. f) read
 abbrev pub event_line : Result SceneEvent LineFault → Result ParsedLine LineFault
 event_line read = result_map_both EventLine (λ f. f) read
 
--- a line that configures the run, which may not stand behind an event
+-- a line that configures the run, which must not follow an event
 abbrev pub config_words : LinesBefore → Line ParsedLine
 config_words before p = if before.is_begun then Err ConfigAfterEvent else made ConfigLine (exactly 2 (config_line_fields before.config)) p
 
@@ -133,7 +133,7 @@ line_value before (RecordedLine t make) = with_made (make before) (recorded_line
 unfoldable pub line_read : ParsedLines → RunLine → Result ParsedLines LineFault
 line_read before line = lines_with before (line_value (lines_before before) line)
 
--- the same where an event may stand before all these lines
+-- if an event may precede all these lines
 abbrev pub is_begun_behind : Bool → List SceneEvent → Bool
 is_begun_behind begun es = begun || is_begun es
 

@@ -83,7 +83,7 @@ impl LinesRead {
         }
     }
 
-    /// Forgets the events that were read. The lines that follow still stand behind them.
+    /// Forgets the events that were read. The next lines are still after them.
     pub fn forget_events(&mut self)
         ensures config { self.new.run.config ≡ self.old.run.config }
         ensures events { self.new.run.events.items ≡ [] }
@@ -118,7 +118,7 @@ impl LinesRead {
             }
             self.next = number + 1;
         }
-        // No text has so many lines.
+        // No text has that many lines.
         Err(ReadFault::OutOfMemory)
     }
 
@@ -149,10 +149,10 @@ impl LinesRead {
         }
     }
 
-    /// Reads the line of a recorded run that follows these, of which outputs may be stored: those that are stand in `stored` then, and the event
-    /// leaves them unread. The errors are those of `read_more`, and leave `stored` empty.
+    /// Reads the next line of a recorded run, whose outputs may be stored: those that are stored are then in `stored`, and not loaded in the
+    /// event. The errors are those of `read_more`, and leave `stored` empty.
     ///
-    /// A field that begins like a reference and is none, or stands where none may, is a bad field.
+    /// A field that begins like a reference and is none, or is where none may be, is a bad field.
     ///
     /// ```
     /// let line = "setupdone\t-\tdb\tinit\t\tpass\t5\t0\tcomb\t\\@7:7:ee2a98c236301c76\t-\t-\t-";

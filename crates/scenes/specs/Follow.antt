@@ -32,14 +32,14 @@ pub record StopsBy (options : Options) (all : List RunLine) (P : ParsedLines →
   pub at : AtLine all run lines number
   pub holds : (P run × (IsWrongLine options run lines number fault ⊎ ((file : Bor (List ℕ)) × (fault ≡ CannotRead file) × (file.now ≡ options.file.now)))) ⊎ Q run fault
 
--- How lines that are followed end: all were reported, the run stands so, and IsDone holds of it; or a fault stopped them.
+-- How lines that are followed end: all were reported, this is the outcome, and IsDone holds of it; or a fault stopped them.
 abbrev pub Followed : {W T : Type 0} → Meaning W → Meaning T → Options → List RunLine → W × T → W × T → (ParsedLines → Type 0) → Result RunOutcome Fault → Type 0
 Followed m k options all old new IsDone result =
     IfOk result (λ come_to. OfLines all (PrintsFollowed m k options old new come_to))
     × OnOk result (OfLines all IsDone)
     × IfErr result (StopsBy options all (Prints m k options old new) (Begins m k options old new))
 
--- What was read is at hand behind what a reporter has reported of all lines so far; where more is read, an event is among both.
+-- What was read is held, after what a reporter has reported of all lines so far; if more is read, an event is among both.
 pub record KeepsUp {W S : Type 0} (m : Meaning W) (n : Meaning S) (options : Options) (all : List RunLine) (start now : SceneReporter W S) (read : LinesRead) (more : Result Bool Fault) (Has : ParsedLines → List RunLine → Type 0) : Type 0 where
   pub front : List RunLine
   pub before : ParsedLines

@@ -6,7 +6,8 @@ pub use Rattle.command_line.specs.declared.fault.Fault.{Fault}
 pub use Rattle.scenes.specs.Deferred.{deferred_meaning}
 pub use Rattle.scenes.specs.Follow.{Followed, StopsBy}
 pub use Rattle.scenes.specs.Judged.{ChecksEvent, IsJudged, IsRefusedText, IsRejected, IsSceneAccepted, IsSceneRefused, RefusesEvent, fault_of_first}
-pub use Rattle.scenes.specs.Outcomes.{outcome_after, outcome_after_event, run_outcome}
+pub use Rattle.scenes.specs.Outcomes.{outcome_after, outcome_after_event}
+unfoldable pub use Rattle.scenes.specs.Outcomes.{run_outcome}
 pub use Rattle.scenes.specs.ParsedScenes.{IsFaultOf, IsReadFault, IsSceneRead, OfLines, OfText, scene_lines}
 pub use Rattle.scenes.specs.Prints.{AreBegun, AreWhole, Begins, IsStop, Prints, PrintsFollowed, Reported, StandAtOneCall, device}
 pub use Rattle.scenes.specs.Read.{AreLeftOf, HasReadLines, IsMore}

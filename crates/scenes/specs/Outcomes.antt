@@ -1,4 +1,4 @@
--- How a run stands: by its calls, and by the statistics that it ended with.
+-- The outcome of a run: from its calls, and from the statistics that it ended with.
 use Rattle.std.specs.Prelude.{ℕ, List, [], ◌∷◌}
 use Rattle.run_model.specs.Names.{final_stats_of, stress_stats_of, ReportCall, TestEventKind, FinalRunStats, RunFinishedStats, StressFinalRunStats}
 use Rattle.run_model.specs.declared.call.ReportCall.TheVariants as call

@@ -90,7 +90,7 @@ module _ {W T : Type 0} (m : Meaning W) (k : Meaning T) (options : Options) (old
   abbrev pub Prints : ParsedLines → Type 0
   Prints run = OfCalls options run (AreWhole run.config)
 
-  -- the same, and this is how the run stands
+  -- and this is the outcome of the run
   abbrev pub PrintsFollowed : RunOutcome → ParsedLines → Type 0
   PrintsFollowed come_to run = OfCalls options run (λ calls. AreWhole run.config calls × (come_to ≡ run_outcome (reverse calls)))
 

@@ -16,7 +16,7 @@ abbrev pub writers : {W S : Type 0} → SceneReporter W S → W × Option (Store
 writers r = (r.reporter.writer.now, r.reporter.store)
 
 module _ {W S : Type 0} (m : Meaning W) (n : Meaning S) (options : Options) (start now : SceneReporter W S) where
-  -- since its start, it has reported this run, and stands behind its calls
+  -- since its start, it has reported this run, and is after its calls
   pub record Follows (run : ParsedLines) : Type 0 where
     pub reported : PrintsFollowed m (store_meaning n) options (writers start) (writers now) now.outcome run
     pub stands : StandsAfter (configuration_for options run.config) (reverse (unloaded_for options run.config reported.calls)) now.reporter

@@ -1,7 +1,7 @@
-//! A run as it goes on: each line of a scene is reported as soon as it was read.
+//! A live run: each line of a scene is reported as soon as it was read.
 //!
-//! The lines up to the first event say how the run is reported. From there on the lines that the reader has at hand are read, the text of
-//! each event is written and delivered, and then the next are read. What is held is what the summary will list, and those lines.
+//! The lines up to the first event configure the report. From there on the buffered lines are read, the text of
+//! each event is written and delivered, and then the next are read. Only what the summary will list is kept, and those lines.
 
 ghost use Rattle.std.specs.Prelude.{◌≡◌, ℕ, List, [], true, Option, None, Some, Ok, IfOk, IfErr, OnOk};
 ghost use Rattle.console_reporter.specs.Names.{IsSameStore, config_of, store_delivered, store_meaning, IsSameReporter};
@@ -22,12 +22,12 @@ use scene_text::reader::LinesRead;
 use std::alloc::Global;
 use std::io::{Read, Write};
 
-/// Follows the lines of a reader: those that it has at hand are read, the text of each event is written and delivered, and then the next are
-/// read. Its records go to a second device, if the options ask for them. Both devices are given back.
+/// Follows the lines of a reader: the buffered ones are read, the text of each event is written and delivered, and then the next are
+/// read. Its records go to a second device, if the options ask for them. Both devices are returned.
 ///
-/// On `Ok` the device has what `report_scene` prints of the same bytes, and the answer is how the run stands. The error is that of the first line
-/// that has a fault, or whose event is refused: the report of the lines before it stands, whole. So it does where the reader fails; where a
-/// device fails or memory is refused, a prefix of it stands.
+/// On `Ok` the device has what `report_scene` prints of the same bytes, and the result is the outcome of the run. The error is that of the first line
+/// that has a fault, or whose event is refused: the report of the lines before it is whole. So it is if the reader fails; if a
+/// device fails or memory is refused, a prefix of it is there.
 pub fn follow_scene<'a, R: Read + Drop, W: Write, S: Write>(
     alloc: Global,
     options: &Options<'a>,

@@ -1,4 +1,4 @@
-//! How a run stands whose events are reported, and the status for it.
+//! The outcome of a run whose events are reported, and the status for it.
 
 ghost use Rattle.std.specs.Prelude.{◌≡◌};
 ghost use Rattle.scenes.specs.Outcomes.{outcome_after, outcome_of, status_of_outcome};
@@ -7,7 +7,7 @@ use console_reporter::imp::ReportCall;
 use run_model::event::TestEventKind;
 use run_model::stats::{FinalRunStats, RunFinishedStats, StressFinalRunStats};
 
-/// How a followed run stands.
+/// The outcome of a followed run.
 #[derive(Clone, Copy, PartialEq, Eq)]
 pub enum RunOutcome {
     /// It has not ended: no end line has come since the last start line.
@@ -37,7 +37,7 @@ impl RunOutcome {
         }
     }
 
-    /// How the run stands after a call.
+    /// The outcome after a call.
     pub(crate) fn after(self, call: &ReportCall<'_>) -> RunOutcome
         ensures { result ≡ outcome_after self call.now }
     {

@@ -82,7 +82,7 @@ fn is_same_file(one: &Metadata, other: &Metadata) -> bool {
     one.is_file() && one.dev() == other.dev() && one.ino() == other.ino()
 }
 
-/// Prints the line of a fault on standard error, and answers the status to end with.
+/// Prints the line of a fault on standard error, and returns the exit status.
 pub fn report_fault(rt: &HostRuntime, program: Program, fault: Fault<'_>) -> u8
     ensures { result ≡ status_of fault.entry }
 {
@@ -92,6 +92,6 @@ pub fn report_fault(rt: &HostRuntime, program: Program, fault: Fault<'_>) -> u8
 
 /// Prints a line on standard error. It takes no memory, since there may be none left, and no interrupt loses it.
 pub fn print_error<D: Display + Drop>(rt: &HostRuntime, line: D) {
-    // Where it cannot be printed, the status still tells.
+    // If it cannot be printed, the status still says it.
     let _ = writeln!(RetryInterrupted::new(rt.stderr()), "{line}");
 }

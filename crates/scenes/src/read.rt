@@ -19,10 +19,10 @@ const BYTES_AT_ONCE: usize = 16_384;
 
 /// Where the lines of a run come from.
 pub trait RunSource {
-    // These lines are left behind those before, and once they are read, so many bytes of outputs were read in all.
+    // These lines are left after those before, and once they are read, this many bytes of outputs were read in all.
     ghost left: { ℕ → Self → ParsedLines → List RunLine → Type 0 };
 
-    /// Reads further lines of this file. It answers whether there may be more. Where a line has a fault, the lines before it are read.
+    /// Reads further lines of this file. It returns whether there may be more. If a line has a fault, the lines before it are read.
     fn read_next<'a>(
         &mut self,
         alloc: Global,
@@ -96,7 +96,7 @@ fn read_piece(alloc: Global, piece: &mut Vec<u8>, read: &mut LinesRead) -> Resul
     read.read_owned(alloc, mem::replace(piece, Vec::new(alloc)))
 }
 
-/// Reads the lines of a source to their end, or to the first event where that is asked for. It answers whether there may be more.
+/// Reads the lines of a source to their end, or to the first event if that is asked for. It returns whether there may be more.
 pub(crate) fn read_lines<'a, L: RunSource>(
     alloc: Global,
     file: &'a str,

@@ -47,7 +47,7 @@ impl<'a> Model for AcceptedScene<'a> {
 }
 
 /// Reads a scene to its end, and judges it whole: each line by itself, and then whether its reporter would refuse an event.
-/// It answers the fault of the first line that has one, the line of the first event that is refused, that the file cannot be
+/// It returns the fault of the first line that has one, the line of the first event that is refused, that the file cannot be
 /// read, or that memory is refused.
 pub fn judge<'a, R: Read + Drop>(
     alloc: Global,

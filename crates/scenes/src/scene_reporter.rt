@@ -18,7 +18,7 @@ use console_reporter::write_str::WriteStr;
 use run_model::memory::OutOfMemory;
 use std::alloc::Global;
 
-/// A reporter of a scene's events, and how their run stands.
+/// A reporter of a scene's events, and the outcome of their run.
 #[derive(Drop)]
 pub(crate) struct SceneReporter<'a, W, S> {
     pub(crate) outcome: RunOutcome,
@@ -46,9 +46,9 @@ impl<'a, W: WriteStr, S: WriteStr> SceneReporter<'a, W, S> {
         }
     }
 
-    /// Reports events, which stand on these lines, one after the other: the text of each is written and delivered, and then its record. An
-    /// event that is refused is the fault of its line, and is left unreported with those behind it. Once a call has failed, none is made: an
-    /// event is then answered by `WriteFailed`, unless memory is refused.
+    /// Reports the events of these lines, one after the other: the text of each is written and delivered, and then its record. An
+    /// event that is refused is the fault of its line, and is not reported, nor are those after it. Once a call has failed, none is made:
+    /// the result is then `WriteFailed`, unless memory is refused.
     pub(crate) fn report_events(
         &mut self,
         alloc: Global,
@@ -61,7 +61,7 @@ impl<'a, W: WriteStr, S: WriteStr> SceneReporter<'a, W, S> {
             → Follows W.meaning S.meaning options.now start self.new (record { config = config; events = base ++ events.now })) }
         ensures left { IfErr result (λ fault. (config : SceneConfig) (start : SceneReporter W S) (base : List SceneEvent) → Follows W.meaning S.meaning options.now start self.old (record { config = config; events = base })
             → StopsAtEvent W.meaning S.meaning options.now start self.new config events.now lines.now base fault) }
-        // Once its reporter has failed, it stays as it is, and no event is answered by Ok.
+        // Once its reporter has failed, it does not change, and no event returns Ok.
         ensures failed { HasFailed self.old.reporter → (self.new ≡ self.old) × OnOk result (events.now ≡ []) }
     {
         let decider = self.reporter.output_load_decider();

@@ -200,7 +200,7 @@ fn colour_len(after: &[u8]) -> Option<usize>
     }
 }
 
-// How many parameters stand at the front.
+// The number of parameters at the front.
 #[inline(always)]
 fn parameters_len(bytes: &[u8]) -> usize
     ensures { result ≡ front_len is_parameter bytes.now }
@@ -232,7 +232,7 @@ fn is_within(low: u8, high: u8, byte: u8) -> bool
     low <= byte && byte <= high
 }
 
-/// Where a scan of a sequence stands, after its escape character.
+/// The state of a scan of a sequence, after its escape character.
 #[derive(Clone, Copy)]
 pub(crate) enum State {
     /// Nothing else is read.
@@ -328,7 +328,7 @@ fn short_step(code: u32) -> Step
     }
 }
 
-/// Where a scan of a text stands between two characters.
+/// The state of a scan of a text between two characters.
 #[derive(Clone, Copy)]
 pub(crate) enum Mode {
     /// Outside sequences.
@@ -339,8 +339,8 @@ pub(crate) enum Mode {
     Terminator,
 }
 
-/// Where a scan stands after a character that belongs to a sequence, and `None` at one that belongs to none. So a text
-/// can be scanned in pieces, each from where the one before it left off.
+/// The state of a scan after a character that belongs to a sequence, and `None` at one that belongs to none. So a text
+/// can be scanned in pieces, each from the state after the one before.
 pub(crate) fn advance(mode: Mode, c: char) -> Option<Mode>
     ensures { result ≡ advanced mode c }
 {

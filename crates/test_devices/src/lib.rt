@@ -1,4 +1,4 @@
-//! A device for tests, which fails where it is told to. It stands in a crate of its own, so that all crates of tests have the same one.
+//! A device for tests, which fails at a given call. It has its own crate, so that all crates of tests have the same one.
 #![tactic(auto)]
 
 ghost use Rattle.std.specs.Prelude.{◌≤◌, IfOk, length};
@@ -13,11 +13,11 @@ pub const BYTES_AT_ONCE: usize = 7;
 /// Which calls of a device fail, and how. The others are not counted.
 #[derive(Clone, Copy, Debug, PartialEq, Eq)]
 pub enum Failure {
-    /// Writes and flushes answer an error.
+    /// Writes and flushes return an error.
     Error,
     /// Writes take no byte.
     NothingTaken,
-    /// Flushes answer an error.
+    /// Flushes return an error.
     FlushError,
 }
 
@@ -34,7 +34,7 @@ pub struct Device {
 }
 
 impl Device {
-    /// One that works for so many of the calls that can fail so, and fails then.
+    /// One that works for this many of the calls that can fail, and fails then.
     ///
     /// ```
     /// use std::io::Write;
@@ -70,7 +70,7 @@ impl Device {
         }
     }
 
-    /// One that takes so many bytes, and whose writes fail then. It has their memory from the start, and allocates nothing as it takes them.
+    /// One that takes this many bytes, and whose writes fail then. It has their memory from the start, and allocates nothing as it takes them.
     /// The error is that this memory was refused.
     ///
     /// ```

@@ -1,6 +1,6 @@
 //! The line after the line of a test whose process was aborted, on Windows.
 
-ghost use Rattle.text_parts.specs.Names.{nt_status_text, nt_message, line_of_abort, line_of_failure, abort_line};
+ghost use Rattle.text_parts.specs.Names.{nt_status_text, nt_line, nt_message, line_of_abort, line_of_failure, abort_line};
 ghost use Rattle.styled_text.specs.Names.{styled, Puts};
 ghost use Rattle.report_words.specs.Parts.{paint};
 
@@ -46,7 +46,7 @@ fn write_line_of_failure<W: WriteStr>(
     }
 }
 
-#[tactic(auto, unfolding(crate::specs::AbortLine::nt_line, crate::specs::AbortLine::job_object_line))]
+#[tactic(auto, unfolding(crate::specs::AbortLine::job_object_line))]
 fn write_line_of_abort<W: WriteStr>(
     w: &mut W,
     styles: &Styles,
@@ -54,24 +54,15 @@ fn write_line_of_abort<W: WriteStr>(
 ) -> Result<(), WriteFault>
     ensures { Puts W.meaning w.old (paint styles.now (line_of_abort abort.now)) result w.new }
 {
-    let margin = "           - ";
     match abort {
         AbortDescription::UnixSignal { .. } => Ok(()),
-        AbortDescription::WindowsNtStatus { code, message } => {
-            let status = NtStatus(styles.count, *code);
-            let code = (
-                Toned(styles.fail, "with code"),
-                " ",
-                status,
-                NtMessage(message),
-                "\n",
-            );
-            (margin, code).write_to(w)
-        }
+        AbortDescription::WindowsNtStatus { code, message } => write_nt_line(
+            w, styles, *code, message,
+        ),
         AbortDescription::WindowsJobObject => {
             let terminated = Toned(styles.fail, "terminated");
             (
-                margin,
+                "           - ",
                 terminated,
                 " via ",
                 Toned(styles.count, "job object"),
@@ -82,19 +73,29 @@ fn write_line_of_abort<W: WriteStr>(
     }
 }
 
-// A status of Windows in a style.
-#[derive(Clone, Copy)]
-struct NtStatus(Style, i32);
+#[tactic(auto, unfolding(crate::specs::AbortLine::nt_line))]
+fn write_nt_line<W: WriteStr>(
+    w: &mut W,
+    styles: &Styles,
+    code: i32,
+    message: &Option<DescriptionText>,
+) -> Result<(), WriteFault>
+    ensures { Puts W.meaning w.old (paint styles.now (nt_line code message.now)) result w.new }
+{
+    "           - ".write_to(w)?;
+    styles.fail.write(w, "with code")?;
+    " ".write_to(w)?;
+    write_styled_nt_status(w, styles.count, code)?;
+    (NtMessage(message), "\n").write_to(w)
+}
 
-impl WriteText for NtStatus {
-    ghost text = { λ s. styled s.0 (nt_status_text s.1) };
-
-    #[tactic(auto, unfolding(styled_text::specs::Style::styled))]
-    fn write_to<W: WriteStr>(&self, w: &mut W) -> Result<(), WriteFault> {
-        w.write_str(self.0.prefix())?;
-        write_nt_status(w, self.1)?;
-        w.write_str(self.0.suffix())
-    }
+#[tactic(auto, unfolding(styled_text::specs::Style::styled))]
+fn write_styled_nt_status<W: WriteStr>(w: &mut W, style: Style, code: i32) -> Result<(), WriteFault>
+    ensures { Puts W.meaning w.old (styled style (nt_status_text code)) result w.new }
+{
+    w.write_str(style.prefix())?;
+    write_nt_status(w, code)?;
+    w.write_str(style.suffix())
 }
 
 // The message of a status, if it is known, with later lines indented like the first.

@@ -23,15 +23,15 @@ pub struct Settings {
     pub styles: Styles,
     /// How wide a counter's numbers are, where counters are shown.
     pub counter_width: Option<usize>,
-    /// Where the default filter stands, which the start of a run names.
+    /// Where the default filter comes from, which the start of a run names.
     pub default_filter: CompiledDefaultFilter,
     /// The characters of bars.
     pub theme_characters: ThemeCharacters,
     /// What shows the output of tests, and whose setting decides when.
     pub unit_output: UnitOutputReporter,
-    /// Whether output stands at the beginning of its lines.
+    /// Whether output has no margin.
     pub no_output_indent: bool,
-    /// Whether the output of tests is not captured. What a test writes then stands after the line that says that it
+    /// Whether the output of tests is not captured. The output of a test then follows the line that says that it
     /// started.
     pub no_capture: bool,
     /// Whether the command lines of tests are shown.

@@ -7,7 +7,7 @@ use Rattle.memchr.specs.Find.{IsLastByte, is_byte}
 use Rattle.command_line.specs.Pieces.{IsBehind, IsNextPiece}
 use Rattle.command_line.specs.declared.pieces.Chunk.TheVariants as taken
 
--- what a reader has at hand is the beginning of what is left, where that is known
+-- what a reader has buffered is a prefix of what is left, if that is known
 pub at_hand_first : (shows_nothing : Bool) (at_hand : List ℕ) (inner : Option (List ℕ)) (text : List ℕ) → (if shows_nothing then None else prepend_known at_hand inner) ≡ Some text → (left : List ℕ) × (at_hand ++ left ≡ text)
 at_hand_first true at_hand inner text known = absurd (grind (arith, known))
 at_hand_first false at_hand None text known = absurd (grind (arith, known))
@@ -27,7 +27,7 @@ feed_here (c ∷ t) left (suc k) within feed =
     let later = feed_here t left k (omega (arith, within)) feed in
     simp unary_clauses (ap (λ u. c ∷ u) (simp unary_clauses at later))
 
--- the lines that end in the last line feed of what is at hand
+-- the lines that end in the last line feed of the buffer
 pub lines_taken : (k : ℕ) (old at_hand text : List ℕ) → (left : List ℕ) × (at_hand ++ left ≡ text) → IsLastByte (is_byte 10) at_hand (Some k) → old ++ text ≡ (old ++ take k at_hand) ++ 10 ∷ drop (k + 1) text
 lines_taken k old at_hand text left last =
     let feed : get_or at_hand k 0 ≡ 10 = grind (arith, nat_tests, last.1) in

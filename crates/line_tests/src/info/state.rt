@@ -1,4 +1,4 @@
-//! The line of a unit that waits for its next attempt. Where a test answers so, its attempt is told; here it is not.
+//! The line of a unit that waits for its next attempt. In the response of a test its attempt is shown; here it is not.
 
 use crate::testing::settings;
 use info_text::state::{InfoUnit, write_state};

@@ -118,7 +118,7 @@ module _ (d : OutputLoadDecider) (all : List ℕ) (ps : List PlacedOutput) where
       (of.0, subst (λ x. IsCallOf x of.0) (sym (finished_inline all ps e)) of.1, of.2)
   loaded_call event c is loads = (c, subst (λ qs. IsCallOf (event_inline all qs event) c) (all_wanted ps) is, refl)
 
--- how a run stands does not depend on them either
+-- nor does the outcome of a run
 outcome-call : (before : RunOutcome) (c : ReportCall) → outcome_after before (call_of_last c) ≡ outcome_after before c
 outcome-call before c = grind arith
 

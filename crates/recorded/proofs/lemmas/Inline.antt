@@ -17,7 +17,7 @@ IsInline all d replayed inline =
     ((stored : List PlacedOutput) × (skips d replayed ≡ true) × (inline ≡ event_inline all stored replayed))
     ⊎ ((event : SceneEvent) × (stored : List PlacedOutput) × (skips d event ≡ false) × (replayed ≡ event_inline all (wanted_of event stored) event) × (inline ≡ event_inline all stored event))
 
--- the same of lines
+-- lines
 pub record AreInline (options : Options) (all : List ℕ) (replayed inline : ParsedLines) : Type 0 where
   pub config : inline.config ≡ replayed.config
   pub events : AllZip (IsInline all (decider_for options replayed.config)) replayed.events inline.events

@@ -9,7 +9,7 @@ use Rattle.scene_text.specs.Names.{LinesRead}
 use Rattle.scene_text.proofs.lemmas.Tellings.{reads_none}
 use Rattle.scenes.proofs.lemmas.ReadLines.{begun_by, further as with_more, next_fault}
 
--- what stands before the line behind one that tells
+-- what is before the line after a valid one
 before_so : (run after : ParsedLines) (make : List PlacedOutput → SceneEvent → Result SceneEvent LineFault) (says : Result (ParsedLine × List PlacedOutput) LineFault) → lines_with run (with_made make says) ≡ Ok after → lines_before after ≡ before_rest (lines_before run) says
 before_so run after make says h = grind (arith, begun_by)
 

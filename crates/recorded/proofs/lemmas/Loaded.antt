@@ -1,4 +1,4 @@
--- What was loaded of an output is what stands at its places.
+-- What was loaded of an output is what is at its positions.
 use Rattle.std.proofs.Common.{◌≡◌, ℕ, List, Option, None, Some, IfSome, Ok, ap, ◌∙◌}
 use native.Mathlib.Omega.{arith}
 use Rattle.run_model.specs.declared.output.ChildOutputDescription.{ChildOutputDescription}

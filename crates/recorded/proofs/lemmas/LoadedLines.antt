@@ -49,7 +49,7 @@ one_noted : (n : ℕ) (before : ParsedLines) (t : RunLine) (after : ParsedLines)
 unfolding event_lines
 one_noted n before t after h = rw h (append-nil (line_here n before after))
 
--- what was read before stands before what lines add
+-- what was read before is before what lines add
 pub keeps_read : (old new : LinesRead) (ts : List RunLine) → ReadsLines old new ts → KeepsRead old new
 keeps_read old new ts reads =
     let base = some_base old.is_begun in

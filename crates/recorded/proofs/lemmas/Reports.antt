@@ -29,7 +29,7 @@ module _ (all : List ℕ) (d : OutputLoadDecider) where
       let other = loaded_call d all h.1 h.0 call (subst (λ e. IsCallOf e call) h.3 of_event) h.2 in
       (other.0, subst (λ e. IsCallOf e other.0) (sym h.4) other.1, other.2)
 
-  -- the same of several
+  -- several lines
   has_calls : (replayed inline : List SceneEvent) (calls : List ReportCall) → AllZip (IsInline all d) replayed inline → AllZip IsCallOf replayed calls →
       (others : List ReportCall) × AllZip IsCallOf inline others × (shown others ≡ shown calls)
   has_calls [] [] [] are of_events = ([], tt, refl)

@@ -87,7 +87,7 @@ row_spelled : line_spelled some_bytes (tabbed (codes "comb" ∷ two_bytes ∷ co
 unfolding split_on reference_in after_mark sum_in cut number_in hex_on_literals
 row_spelled = refl
 
--- the same of a text, of whose lines the last is not ended
+-- a text, the last of whose lines is not ended
 row_scene : scene_spelled some_bytes (codes "# " ++ 10 ∷ (two_bytes ++ 10 ∷ 10 ∷ codes "pau")) ≡ codes "# " ++ 10 ∷ (codes "\\x0a\\x7e" ++ 10 ∷ 10 ∷ [])
 unfolding split_on reference_in after_mark sum_in cut number_in hex_on_literals
 row_scene = refl

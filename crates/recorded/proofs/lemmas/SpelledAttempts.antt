@@ -50,7 +50,7 @@ module _ (flaky : FlakyResult) (captured : ChildOutputDescription) where
   put_here earlier a (next ∷ rest) = put_before earlier a [] next rest
 
 module _ (all : List ℕ) (flaky : FlakyResult) where
-  -- the same of output that may be stored
+  -- output that may be stored
   put_one : (field : ℕ) (o : Option StoredOutput) (earlier : List Attempt) (a : Attempt) (rest : List Attempt) →
       attempts_inline all (placed (length earlier) field o) (attempts_of flaky earlier a rest) ≡ attempts_of flaky earlier (with_put all attempt_loads o a) rest
   put_one field None earlier a rest = refl
@@ -95,7 +95,7 @@ module _ (all : List ℕ) (flaky : FlakyResult) where
     number_reads : (number : ℕ) → Reads all Same (attempt_number number)
     number_reads number = checked_reads all (λ p. nat_lt number (2 ^ 32)) WrongNumberOfFields (λ p. refl) (says_spells all (λ n. n) number)
 
-    -- so many more are read
+    -- n more are read
     attempts_follow : (more number : ℕ) (earlier : List Attempt) (last : Attempt) (earlier_spelled : List Attempt) (last_spelled : Attempt) (p : Place) →
         (Known → AreRead p.noted earlier last earlier_spelled last_spelled) →
         Follows all HaveNoted p.noted (attempts_from flaky total number more earlier last p) (attempts_from flaky total number more earlier_spelled last_spelled (place_spelled all p))

@@ -1,4 +1,4 @@
--- Bytes that are spelled out, and the fields in which they stand.
+-- Bytes that are spelled out, and their fields.
 use Rattle.std.proofs.Common.{◌≡◌, ℕ, zero, suc, ◌+◌, ◌*◌, ◌/◌, ◌%◌, ◌<◌, List, [], ◌∷◌, Bool, true, false, get_or, take, drop, refl, ap, ◌∙◌, arith, Option, None, Some, ◌==◌, ◌&&◌}
 use Rattle.std.specs.Prelude.{nat_lt, not}
 use Rattle.std.specs.Char.{digit_value}
@@ -33,7 +33,7 @@ unfolding unescaped_after
 bytes_read_back [] h = refl
 bytes_read_back (b ∷ bs) h = let e = bytes_read_back bs h.1 in rw (spelled_byte b h.0 (bytes_spelled bs), e) refl
 
--- bytes that stand at a place among bytes are bytes
+-- bytes from a position on among bytes are bytes
 drop_bytes : (n : ℕ) (bs : List ℕ) → AreBytes bs → AreBytes (drop n bs)
 drop_bytes zero bs h = h
 drop_bytes (suc n) [] h = tt

@@ -23,14 +23,14 @@ use Rattle.scene_text.proofs.lemmas.Tellings.{all_tell, all_told}
 -- the values of all kinds of field
 ruleset values = (marked_number, marked_nanos, marked_run_id, marked_stress, marked_iteration, marked_stats, marked_skips, marked_result_or_none, marked_state, marked_progress, marked_moment)
 
--- what captured output makes of an answer
+-- a response with this captured output
 abbrev pub answer_loads : ChildOutputDescription → UnitAnswer → UnitAnswer
 answer_loads captured answer = answer_with captured answer
 
 abbrev answer_made : UnitState × Option ExecutionResultDescription → SceneOutput → UnitAnswer
 answer_made read output = record { state = read.0; output = written read.1 output }
 
--- output put into it is put into the answer
+-- output put into it is put into the response
 answer_puts : (read : UnitState × Option ExecutionResultDescription) (captured : ChildOutputDescription) (output : SceneOutput) →
     answer_made read (output_loads captured output) ≡ answer_loads captured (answer_made read output)
 answer_puts read captured output = grind arith
@@ -77,7 +77,7 @@ module _ (all : List ℕ) where
   })
 
   module _ (bytes : AreBytes all) where
-    -- an event of an attempt, of an answer, and of all attempts of a test
+    -- an event of an attempt, of a response, and of all attempts of a test
     attempt_event_reads : (retry_data : RetryData) (make : Attempt → SceneEvent) → ((captured : ChildOutputDescription) (a : Attempt) → make (attempt_loads captured a) ≡ event_with 0 captured (make a)) →
         Reads all HasOne (attempt_fields retry_data >>= (λ a. says (make a)))
     attempt_event_reads retry_data make puts = output_made_reads all make (attempt_reads all bytes retry_data) puts
@@ -191,12 +191,12 @@ module _ (all : List ℕ) where
           ]
         ]
 
--- what is read of an empty line, which stands behind the last one
+-- what is read of an empty line, which follows the last one
 empty_read : (before : ParsedLines) → line_read before (plain_line []) ≡ Ok before
 unfolding line_read line_from
 empty_read before = refl
 
--- the same of lines in turn
+-- lines in sequence
 module _ (all : List ℕ) (bytes : AreBytes all) where
   line_alike : (before after : ParsedLines) (t : List ℕ) (found : Result (ParsedLine × List PlacedOutput) LineFault) → recorded_line (lines_before before) t ≡ found →
       line_read before (line_inline all t) ≡ Ok after → line_read before (plain_line (line_spelled all t)) ≡ Ok after

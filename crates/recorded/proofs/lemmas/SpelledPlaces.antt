@@ -1,4 +1,4 @@
--- The fields of a recorded line, spelled out: what reads them, reads the same of them, and of an output what stands at its place.
+-- The fields of a recorded line, spelled out: their readers give equal values, and for an output what is at its position.
 use Rattle.std.proofs.Common.{◌≡◌, ℕ, ◌+◌, ◌%◌, Bool, true, false, List, [], ◌∷◌, map, length, Option, None, Some, Result, Ok, Err, refl, ap, ◌∙◌, ◌==◌, ◌&&◌, if◌then◌else◌, bytes_eq, drop, inl, inr, subst}
 use Rattle.std.specs.Prelude.{nat_le, ⊤}
 use Rattle.std.proofs.lemmas.List.{length-map}
@@ -144,7 +144,7 @@ module _ (all : List ℕ) where
   pub field_reads : {X : Type 0} (value_in : List ℕ → Option X) → MarkedIsNone value_in → Reads Same (field value_in)
   field_reads value_in none = next_reads Same (λ t. valued (value_in t)) (λ u p. rw (none u) tt) (λ t. valued_reads (value_in t))
 
-  -- so many fields are left, or a number is small enough
+  -- n fields are left, or a number is small enough
   pub checked_reads : {X : Type 0} {change : Change X} (right : Place → Bool) (f : LineFault) → ((p : Place) → right (place_spelled all p) ≡ right p) → {line : Line X} → Reads change line →
       Reads change (λ p. if right p then line p else Err f)
   checked_reads {X} {change} right f same {line} h = record { each = λ p. rw (same p) (checked_follows change p.noted (right p) f (line p) (line (place_spelled all p)) (h.each p)) }

@@ -78,7 +78,7 @@ lacks_parts (c ∷ t) r h = let more = lacks_parts t r h.1 in ((h.0, more.0), mo
 pub line_lacks_feed : (all t : List ℕ) → Lacks 10 t → Lacks 10 (line_spelled all t)
 line_lacks_feed all t h = line_good all (Lacks 10) lacks_parts (λ t r h k. lacks-append t (9 ∷ r) h (refl, k)) (field_lacks_feed all) t h
 
--- whether a line is passed over is told by its first field, where that is as it was
+-- whether a line is skipped depends on its first field, if that does not change
 told_by_first : (f : List ℕ → List ℕ) (first : List ℕ) (more : List (List ℕ)) → is_passed_over (tabbed (first ∷ map f more)) ≡ is_passed_over (tabbed (first ∷ more))
 told_by_first f first [] = refl
 told_by_first f [] (t ∷ ts) = refl
@@ -103,7 +103,7 @@ passed_over_line all t h =
     let no_reference = first_of_passed p.first p.more (ap (λ ts. is_passed_over (tabbed ts)) (sym p.is) ∙ ap is_passed_over (tabbed_back t) ∙ h) in
     line_passed_over all t p.first p.more p.is no_reference ∙ h
 
--- lines that are each ended are the pieces of their text, behind which stands nothing
+-- lines that are each ended are the pieces of their text, and nothing follows
 pub scene_lines : (ts : List (List ℕ)) → NoneHas 10 ts → split_on 10 (text_of_lines ts) ≡ ts ++ [] ∷ []
 unfolding split_on
 scene_lines [] h = refl

@@ -63,7 +63,7 @@ module _ (text old left at_hand new : List ℕ) (rest : Option (List ℕ)) (so_f
       let whole : text ≡ old = so_far ∙ ap (λ t. old ++ t) end ∙ append-nil old in
       (ended_lines-none text (subst (Lacks 10) (sym whole) lacks), ([], is ∙ ap Some end, ended_lines-none [] tt))
 
--- what is at hand up to its first line feed, or all of it
+-- the buffer up to its first line feed, or all of it
 module _ (old at_hand text : List ℕ) (first : (left : List ℕ) × (at_hand ++ left ≡ text)) (rest : Option (List ℕ)) where
   pub feed_found : (k : ℕ) (new : List ℕ) → IsFirstByte (is_byte 10) at_hand (Some k) → new ≡ old ++ take k at_hand → rest ≡ Some (drop (k + 1) text) → TakesOf taken.Line at_hand text old new rest
   feed_found k new found is left =

@@ -1,4 +1,4 @@
-//! What outputs are read from in these tests: calls that fail, bytes that come later, and bytes that are told and missing.
+//! The sources of outputs in these tests: calls that fail, bytes that come later, and bytes that are missing.
 
 use recorded::Source;
 use std::io;
@@ -14,7 +14,7 @@ pub struct Failing<'a> {
 }
 
 impl<'a> Failing<'a> {
-    /// Every call after so many fails.
+    /// Every call after the first n fails.
     pub fn new(all: &'a [u8], calls: usize, kind: ErrorKind) -> Failing<'a> {
         Failing {
             all,
@@ -24,7 +24,7 @@ impl<'a> Failing<'a> {
         }
     }
 
-    /// The call after so many fails, and no other.
+    /// The call after the first n fails, and no other.
     pub fn once(all: &'a [u8], calls: usize, kind: ErrorKind) -> Failing<'a> {
         Failing {
             fails_on: false,
@@ -85,7 +85,7 @@ impl Source for Growing<'_> {
     }
 }
 
-/// Bytes of which fewer are there than they tell.
+/// Fewer bytes than its length.
 #[derive(Drop)]
 pub struct Shortened<'a> {
     all: &'a [u8],
@@ -93,7 +93,7 @@ pub struct Shortened<'a> {
 }
 
 impl<'a> Shortened<'a> {
-    /// So many of them are there.
+    /// How many of them there are.
     pub fn new(all: &'a [u8], there: usize) -> Shortened<'a> {
         Shortened { all, there }
     }

@@ -163,7 +163,7 @@ impl fmt::Display for DisplayTestInstance<'_> {
 pub struct DisplayStressIndex {
     /// The iteration.
     pub stress_index: StressIndex,
-    /// The style of its numbers; the padding of the first stands inside it.
+    /// The style of its numbers; the padding of the first is inside it.
     pub count_style: Style,
 }
 

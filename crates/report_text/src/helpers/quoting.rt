@@ -104,8 +104,8 @@ fn write_word_after<W: WriteStr>(w: &mut W, separator: &str, word: &str) -> Resu
 
 /// Writes a word as a shell reads it.
 ///
-/// A word of ASCII letters, digits and `_-=/,.+:@` stands as it is. Each other one stands in single quotes, also the
-/// empty word, and a quote in it as `'\''`.
+/// A word of ASCII letters, digits and `_-=/,.+:@` is not quoted. Every other one is in single quotes, also the
+/// empty word, and a quote in it is written `'\''`.
 ///
 /// ```
 /// write_shell_word(&mut out, "it's")?;

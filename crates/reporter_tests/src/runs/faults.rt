@@ -1,4 +1,4 @@
-//! Each write and each flush of either writer fails once: what the two devices took, at which call the fault stands, and that neither
+//! Each write and each flush of either writer fails once: what the two devices took, which call has the fault, and that neither
 //! a later call writes nor one that is refused.
 
 use super::{ALL_OUTPUT, Texts, Trial, begin, front_len, run_alone, run_with_store, try_runs};
@@ -24,7 +24,7 @@ enum Failing {
     Store,
 }
 
-// A device that works for so many of the calls that can fail so.
+// A device that works for the first n calls that can fail.
 #[derive(Clone, Copy)]
 struct Fault {
     failing: Failing,
@@ -71,7 +71,7 @@ impl Fault {
         }
     }
 
-    // How many bytes the store has of the first so many calls.
+    // How many bytes the store has after the first n calls.
     fn stored(self, texts: Texts, calls: usize) -> usize {
         match self.failing {
             Failing::Report => 0,
@@ -115,7 +115,7 @@ impl Fault {
         Ok((report, records))
     }
 
-    // Runs the calls, and gives back the devices and what that answered.
+    // Runs the calls, and returns the devices and the result.
     fn run(
         self,
         alloc: Global,
@@ -130,8 +130,8 @@ impl Fault {
         Ok((Devices::under(report, records), outcome))
     }
 
-    // Makes every call, also those after a fault, behind an event that is refused. It gives back the devices, whether that one was
-    // refused, and what the others answered.
+    // Makes every call, also those after a fault, after an event that is refused. It returns the devices, whether that one was
+    // refused, and the results of the others.
     fn make_all(
         self,
         alloc: Global,
@@ -191,7 +191,7 @@ impl Fault {
     }
 }
 
-// A writer over a device that works for so many of the calls that can fail so.
+// A writer over a device that works for the first n calls that can fail.
 fn buffer(alloc: Global, works: usize, failure: Failure) -> Result<TextBuffer<Device>, Fail> {
     Ok(TextBuffer::new(alloc, Device::failing_at(alloc, works, failure))?)
 }
@@ -209,7 +209,7 @@ impl Devices {
         Devices { report, records }
     }
 
-    // Whether they took so many bytes of these texts.
+    // Whether they took this many bytes of these texts.
     fn took(&self, texts: Texts, left: Left) -> bool {
         let (report, records) = (self.report.taken(), self.records.taken());
         report.len() == left.report
@@ -242,7 +242,7 @@ fn try_each(
     Err(Fail::from("every device failed"))
 }
 
-// The same of either writer, and of each way to fail.
+// For either writer, and for each way to fail.
 fn try_all(
     alloc: Global,
     refused: &TestEvent<'_>,

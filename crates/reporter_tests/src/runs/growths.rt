@@ -1,5 +1,5 @@
 //! Runs whose memory may be refused. With ample memory every report is whole. `scripts/check-faults` runs these tests once for each
-//! growth, which is refused then: they answer that, and fail by other words where a text is no beginning of what is told.
+//! growth, which is refused then: they return that error, and fail with other words if a text is no prefix of the whole.
 
 use super::{ALL_OUTPUT, Texts, Trial, begin, front_len, run_alone, run_with_store, try_runs};
 use crate::testing::{Answers, line_builder, make_call, make_calls};
@@ -26,7 +26,7 @@ const WAYS: [Way; 3] = [Way::Alone, Way::WithStore, Way::CallByCall];
 // Bytes enough for each of the texts.
 const ROOM: usize = 1000;
 
-// Makes a run, of which the second writer is told nothing where there is no store.
+// Makes a run, whose second writer gets nothing if there is no store.
 fn run_over<W: WriteStr, S: WriteStr>(
     alloc: Global,
     way: Way,
@@ -59,7 +59,7 @@ fn make_each<W: WriteStr, S: WriteStr>(
     answers
 }
 
-// Whether a run that was answered so leaves these texts: all, or where memory was refused a beginning of each, and of a record only
+// Whether a run with these results leaves these texts: all, or if memory was refused a prefix of each, and of a record only
 // after the whole text of its call. Without a store there are no records.
 fn leaves(texts: Texts, answers: Answers, report: &[u8], records: Option<&[u8]>) -> bool {
     let is_known = match answers.outcome {

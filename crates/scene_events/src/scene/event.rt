@@ -136,7 +136,7 @@ impl SceneEvent {
         self.load_only(alloc, captured)
     }
 
-    // The same of an event with only one output. Every other kind has its name here, so that the compiler asks whoever adds one.
+    // For an event with only one output. Every other kind has its name here, so that the compiler asks whoever adds one.
     fn load_only(
         &mut self,
         alloc: Global,

@@ -13,7 +13,7 @@ pub alike : {X Y : Type 0} (f g : X → Y) → ((x : X) → f x ≡ g x) → (o 
 alike f g same None = refl
 alike f g same (Some x) = ap (λ y. Some y) (same x)
 
--- a text that is decoded, whose plain bytes stand in front of the others one by one as they do together
+-- a text that is decoded, whose plain bytes come before the others one by one as they do together
 module _ {R : Type 0} (front : List ℕ → R → R) (escape : List ℕ → Option (R → R)) (end : R) (nothing : (r : R) → r ≡ front [] r) (more : (c : ℕ) (p : List ℕ) (r : R) → front (c ∷ []) (front p r) ≡ front (c ∷ p) r) where
   abbrev read : List ℕ → Option R
   read t = unescaped_after front escape end 0 t

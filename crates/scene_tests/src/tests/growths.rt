@@ -1,5 +1,5 @@
 //! Reports whose memory may be refused. With ample memory each is whole. `scripts/check-faults` runs these tests once for each growth,
-//! which is refused then: a test answers that, and panics where a text is no beginning of what is told.
+//! which is refused then: a test returns that error, and panics if a text is no prefix of the whole.
 
 use super::pieces::large_line;
 use super::{
@@ -25,7 +25,7 @@ const REPORTS: [(&str, &str, &str); 3] = [
     (ASKED, OF_ASKED, ""),
 ];
 
-// Whether a run answered so leaves this text: the whole, or a beginning where memory was refused.
+// Whether a run with this result leaves this text: the whole, or a prefix if memory was refused.
 fn leaves(outcome: &Result<(), Fault<'_>>, text: &[u8], whole: &str) -> bool {
     match outcome {
         Ok(()) => text == whole.as_bytes(),

@@ -8,7 +8,7 @@ use scenes::fault::{Fault, LineFault};
 use std::alloc::{AllocError, Global};
 use std::test::Fail;
 
-// So many lines stand before the long one, and behind it: a read ends within each half.
+// How many lines come before the long one, and after it: a read ends within each half.
 const LINES: usize = 1500;
 
 const SHOWING_SKIPS: Options<'static> = Options {
@@ -24,7 +24,7 @@ pub fn push_often(to: &mut String, text: &str, count: usize) -> Result<(), Alloc
     Ok(())
 }
 
-// So many times the one text, another one, and again so many times the one.
+// The one text n times, another one, and again the one n times.
 fn enclosed(alloc: Global, text: &str, inner: &str) -> Result<String, AllocError> {
     let mut whole = String::new(alloc);
     push_often(&mut whole, text, LINES)?;
@@ -33,7 +33,7 @@ fn enclosed(alloc: Global, text: &str, inner: &str) -> Result<String, AllocError
     Ok(whole)
 }
 
-// The report of a text, or the line and the fault that is told.
+// The report of a text, or the line and its fault.
 fn told_of(
     alloc: Global,
     options: &Options<'static>,
@@ -100,7 +100,7 @@ fn each_line_is_read_once(rt: HostRuntime) -> Result<(), Fail> {
 const FAILED: &str =
     "done\t-\ta\tt1\tnever\timmediate\tpass\tinitial=1 finished=1 failed=1\t1\tfail:1\t5000000\t0\t";
 
-// What stands before a large text in the line and behind it, and the header of its report: as standard output, standard error, both
+// What comes before a large text in the line and after it, and the header of its report: as standard output, standard error, both
 // together, errors, and why the test did not start.
 const PLACES: [(&str, &str, &str); 5] = [
     ("split\t", "\t\t-\t-", "-- stdout --"),

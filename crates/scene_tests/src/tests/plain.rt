@@ -107,7 +107,7 @@ const SCENES: [(&str, &str); 19] = [
         infoend\t1\n",
         "",
     ),
-    // An answer whose output was left unread.
+    // A response whose output is not loaded.
     (
         "answer-test\t0\t1\t-\ta\tt1\t1\t1\trunning:42:1500000000:-\t-\tunloaded\t-\t-\t-\t-\n",
         "report: line 1: output not loaded",

@@ -1,4 +1,4 @@
-//! Devices that fail under the program: what stays of the report and of the records, and which fault is told. What they hold and which
+//! Devices that fail under the program: what remains of the report and of the records, and which fault is reported. What they hold and which
 //! outputs they need is in `cases/program`.
 
 use super::{
@@ -54,8 +54,8 @@ impl Run {
     }
 }
 
-// Scenes; how many writes of seven bytes the texts of a scene take, and how many flushes: where records are stored each call delivers its
-// text, and else all is delivered at the end; and the same of its records.
+// Scenes; how many writes of seven bytes the texts of a scene take, and how many flushes: with records each call delivers its
+// text, and without all is delivered at the end; and those of its records.
 fn rows() -> [(Run, [usize; 2], [usize; 2]); 5] {
     let two_tests = Run {
         options: STORING,

@@ -1,4 +1,4 @@
--- Lines that tell, one after the other (for `LinesRead::read_more`, `LinesRead::read_owned`, and for the program).
+-- Valid lines, one after the other (for `LinesRead::read_more`, `LinesRead::read_owned`, and for the program).
 use Rattle.std.proofs.Common.{◌≡◌, ℕ, ◌+◌, List, [], ◌∷◌, ◌++◌, Result, Ok, Err, length, refl, sym, ap, ◌∙◌, subst, arith, append_assoc, append-nil, inl, inr, ◌⊎◌}
 use Rattle.std.specs.Prelude.{nat_lt}
 use Rattle.std.specs.Result.{result_map_both}
@@ -10,7 +10,7 @@ use Rattle.scene_text.specs.Names.{lines_with, LinesRead}
 use Rattle.scene_fields.specs.declared.fault.LineError.TheVariants as error
 use Rattle.scene_fields.specs.declared.fault.ReadFault.TheVariants as fault
 
--- lines tell, and others behind them
+-- valid lines, and others after them
 pub all_append : (before : ParsedLines) (ts : List RunLine) (mid : ParsedLines) (us : List RunLine) (after : ParsedLines) → AllRead before ts mid → AllRead mid us after → AllRead before (ts ++ us) after
 all_append before [] mid us after h more = subst (λ b. AllRead b us after) (sym h) more
 all_append before (t ∷ ts) mid us after h more = (h.0, h.1, all_append h.0 ts mid us after h.2 more)
@@ -26,12 +26,12 @@ noted_append n k before (t ∷ ts) mid us place h =
     let more = noted_append (n + 1) k h.0 ts mid us (omega (arith, place)) h.2 in
     rw (h.1, more) (sym (append_assoc (line_here n before h.0) (event_lines (n + 1) h.0 ts) (event_lines k mid us)))
 
--- either a line tells, or it is wrong
+-- a line is valid or wrong
 line_cases : (r : Result ParsedLines LineFault) → ((mid : ParsedLines) × (r ≡ Ok mid)) ⊎ ((f : LineFault) × (r ≡ Err f))
 line_cases (Ok mid) = inl (mid, refl)
 line_cases (Err f) = inr (f, refl)
 
--- lines that tell, tell one after the other
+-- valid lines have their effects one after the other
 pub all_tell : (n : ℕ) (before : ParsedLines) (ts : List RunLine) (after : ParsedLines) → lines_read n before ts ≡ Ok after → AllRead before ts after
 unfolding lines_read
 all_tell n before [] after h = cc

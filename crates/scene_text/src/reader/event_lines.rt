@@ -1,4 +1,4 @@
-//! The lines of events: of tests and of setup scripts, what they wrote, and what both answer when they are asked what they are doing; and of the
+//! The lines of events: of tests and of setup scripts, their output, and the responses of both when they are asked for their state; and of the
 //! run, of the iterations of a stress run, and of a replay.
 
 ghost use Rattle.scene_text.specs.Names.{SceneEvent, answered, field, Gives, errors_in, field_texts, bytes_in, text_in, after_streams, all_attempts, answer_fields, answer_script_line_fields};
@@ -305,7 +305,7 @@ pub fn read_info(alloc: Global, fields: &mut Fields<'_>) -> EventResult
     Ok(SceneEvent::InfoStarted(Boxed::new(alloc, request)?))
 }
 
-/// Reads an `answer-script` line: which answer it is of how many, the iteration, the script, and its answer.
+/// Reads an `answer-script` line: which response it is of how many, the iteration, the script, and its response.
 pub fn read_answer_script(alloc: Global, fields: &mut Fields<'_>) -> EventResult
     ensures { Gives (λ e. e) fields.old result fields.new answer_script_line_fields }
 {
@@ -319,7 +319,7 @@ pub fn read_answer_script(alloc: Global, fields: &mut Fields<'_>) -> EventResult
     Ok(SceneEvent::ScriptAnswered(Boxed::new(alloc, answer)?))
 }
 
-/// Reads an `answer-test` line: which answer it is of how many, the test, the attempt, and its answer.
+/// Reads an `answer-test` line: which response it is of how many, the test, the attempt, and its response.
 pub fn read_answer_test(alloc: Global, ids: &mut BinaryIds, fields: &mut Fields<'_>) -> EventResult
     ensures { Gives (λ e. e) fields.old result fields.new answer_test_line_fields }
 {

@@ -1,7 +1,7 @@
-//! Values that stand in one field in parts, with colons or commas between them: what a unit is doing, how far a stress run has come,
+//! Values in one field with parts, separated by colons or commas: the state of a unit, the progress of a stress run,
 //! a highlight, and a date with a time of day.
 //!
-//! What a unit is doing is a word, as `running`, and its parts. How the attempt ended stands in the next field.
+//! The state of a unit is a word, as `running`, and its parts. How the attempt ended is in the next field.
 
 ghost use Rattle.scene_text.specs.Names.{clock_of, day_of, delay_in, exited_in, exiting_in, result_or_none_in, running_in, slow_after_in, state_in, state_with, terminate_reason_in, terminating_in};
 ghost use Rattle.scene_text.specs.Names.{timing_in, wait_in, checked_clock, checked_day, moment_in, highlight_in, highlight_stream_in, progress_in, stress_count_in};
@@ -27,7 +27,7 @@ use scene_fields::texts::{read_bytes, read_text};
 use scene_fields::values::{read_flag, read_total};
 use std::alloc::Global;
 
-/// Reads what a unit is doing. How its attempt ended stands in the next field: until `state_with` it has passed, where it has ended. `None`
+/// Reads the state of a unit. How its attempt ended is in the next field: until `state_with` it has passed, if it has ended. `None`
 /// means a bad field.
 ///
 /// ```
@@ -300,7 +300,7 @@ pub fn read_highlight(alloc: Global, field: &str) -> Field<Option<Boxed<Highligh
     Ok(Some(Some(Boxed::new(alloc, highlight)?)))
 }
 
-// Reads the stream that a highlight stands in.
+// Reads the stream of a highlight.
 fn read_highlight_stream(field: &str) -> Option<HighlightStream>
     ensures { result ≡ highlight_stream_in field.now }
 {

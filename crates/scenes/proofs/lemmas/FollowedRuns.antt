@@ -18,7 +18,7 @@ wrong_said : (run : ParsedLines) (t : RunLine) (f : LineFault) → line_read run
 unfolding line_read
 wrong_said run t f h = wrong_with run f (line_value (lines_before run) t) h
 
--- a fault stops lines behind those that tell this run
+-- a fault stops lines after those of this run
 stopped : {options : Options} {all : List RunLine} {P : ParsedLines → Type 0} {Q : ParsedLines → Fault → Type 0} {f : Fault} {run : ParsedLines} {lines : List RunLine} {number : ℕ} → AtLine all run lines number →
     (P run × (IsWrongLine options run lines number f ⊎ ((file : Bor (List ℕ)) × (f ≡ CannotRead file) × (file.now ≡ options.file.now)))) ⊎ Q run f → StopsBy options all P Q f
 stopped {run = run} {lines = lines} {number = number} at holds = record { run = run; lines = lines; number = number; at = at; holds = holds }

@@ -43,7 +43,7 @@ cut left rest piece remaining (inl lines) (more, remains, inr end) = ([], lines 
 cut left rest piece remaining (inr none) (more, remains, inl feed) = absurd (omega (arith, ap length (sym none.1 ∙ feed), length-append piece (10 ∷ more)))
 cut left rest piece remaining (inr none) (more, remains, inr end) = absurd (omega (arith, ap length (sym none.1 ∙ end.0), end.2))
 
--- the first of these lines has the fault, also where others stand behind them
+-- the first of these lines has the fault, also if others follow
 pub next_fault : (n : ℕ) (run : ParsedLines) (lines others : List RunLine) (f : ReadFault) → IsNextFault n run lines f → IsNextFault n run (lines ++ others) f
 next_fault n run lines others (reading.Line m f) h = (h.0, (h.1.0, h.1.1 ++ others, ap (λ ls. ls ++ others) h.1.2, h.1.3))
 next_fault n run lines others reading.OutOfMemory h = tt
@@ -101,7 +101,7 @@ pub none_left : (file : List ℕ) (all front : List RunLine) (before : ParsedLin
     ((run : ParsedLines) (left : List RunLine) → Has run left → AreLeft left [] × Next run []) → HasReadLines file all front before old (Ok false) Next
 none_left file all front before old Has Next has none = further file all front before old old Has Next has [] has.left refl (reads_none old) (Ok false) (none _ has.left has.more_is)
 
--- the place behind lines that tell
+-- the position after valid lines
 pub at_behind : (all : List RunLine) (run : ParsedLines) (lines left : List RunLine) (number : ℕ) (after : ParsedLines) → AtLine all run (lines ++ left) number → AllRead run lines after → AtLine all after left (number + length lines)
 at_behind all run lines left number after at tells = record {
   front = at.front ++ lines;
@@ -136,7 +136,7 @@ module _ (file : List ℕ) (all front : List RunLine) (before : ParsedLines) (ol
 pub not_less : (n : ℕ) → nat_lt n n ≡ false
 not_less n = grind (arith, nat_tests)
 
--- where no line is left but an empty one, that tells nothing
+-- if no line is left but an empty one, nothing more is read
 last_tells : (n : ℕ) (run : ParsedLines) (left : List RunLine) → AreLeft left [] → AllRead run left run × (event_lines n run left ≡ [])
 unfolding event_lines line_read line_from split_on
 last_tells n run left (inl last) = rw (last, not_less (length run.events)) ((run, refl, refl), refl)
@@ -198,7 +198,7 @@ module _ (file text : List ℕ) (read : LinesRead) (Has : ParsedLines → List R
     | inr x ↦ subst Stops (sym x.1) (fault_told x.0 x.2)
   ]
 
--- what a line is read by that stands behind an event
+-- what a line after an event is read with
 abbrev behind : SceneConfig → LinesBefore
 behind config = record { config = config; is_begun = true }
 
@@ -207,7 +207,7 @@ abbrev SaysNone : Result ParsedLine LineFault → Type 0
 SaysNone (Ok (ConfigLine c)) = ⊥
 SaysNone other = Unit {0}
 
--- the same of what its fields say, wherever they end
+-- for its fields, wherever they end
 abbrev ReadsNone : Result (ParsedLine × Place) LineFault → Type 0
 ReadsNone r = SaysNone (value_of r)
 
@@ -253,7 +253,7 @@ record ReadsOne (before after : ParsedLines) (t : RunLine) : Type 0 where
   pub events : after.events ≡ before.events ++ event ∷ []
   pub config : after.config ≡ before.config
 
--- what a line does that tells: it leaves the events as they are, and behind an event the configuration, or it says an event
+-- the effect of a valid line: it does not change the events, nor, after an event, the configuration, or it adds an event
 abbrev Does : ParsedLines → ParsedLines → RunLine → Type 0
 Does before after t = ((after.events ≡ before.events) × (is_begun before.events ≡ true → after.config ≡ before.config)) ⊎ ReadsOne before after t
 
@@ -279,7 +279,7 @@ pub config_kept : (before : ParsedLines) (ts : List RunLine) (after : ParsedLine
 config_kept before [] after begun h = ap (λ x. x.config) (sym h)
 config_kept before (t ∷ ts) after begun h = (let one = one_kept before h.0 t begun h.1 in config_kept h.0 ts after one.1 h.2 ∙ one.0)
 
--- lines tell further events
+-- valid lines add further events
 pub grown : (before : ParsedLines) (ts : List RunLine) (after : ParsedLines) → AllRead before ts after → (more : List SceneEvent) × (after.events ≡ before.events ++ more)
 grown before [] after h = ([], ap (λ x. x.events) (sym h) ∙ sym (append-nil before.events))
 grown before (t ∷ ts) after h =
@@ -307,7 +307,7 @@ pub record HasEventAt (all : List RunLine) (run : ParsedLines) (number : ℕ) (e
   pub at : AtLine all run (t ∷ more) number
   pub says : line_value (lines_before run) t ≡ Ok (EventLine e)
 
--- of lines that tell these events, and then e
+-- lines with these events, and then e
 module _ (all left : List RunLine) (after : ParsedLines) (events : List SceneEvent) (e : SceneEvent) (rest : List SceneEvent) (is : after.events ≡ events ++ e ∷ rest) (number : ℕ) where
   abbrev Found : Type 0
   Found = HasEventAt all (record { config = after.config; events = events }) number e

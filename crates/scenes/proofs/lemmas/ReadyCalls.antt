@@ -40,7 +40,7 @@ outcome_behind d (call ∷ calls) past other same = outcome_behind d calls (call
 pub outcome_unread : (d : OutputLoadDecider) (calls : List ReportCall) → run_outcome (reverse (unread d calls)) ≡ run_outcome (reverse calls)
 outcome_unread d calls = outcome_behind d calls [] [] refl
 
--- what is the same of unread calls is the same of those that the reporter gets
+-- what does not differ for unread calls does not differ for those that the reporter gets
 same_if : {X : Type 0} (f : List ReportCall → X) (unloads : Bool) (d : OutputLoadDecider) (calls : List ReportCall) → f (unread d calls) ≡ f calls → f (if unloads then unread d calls else calls) ≡ f calls
 same_if f true d calls same = same
 same_if f false d calls same = refl

@@ -46,7 +46,7 @@ pub refusal_of_call : (d : OutputLoadDecider) (event : SceneEvent) (c : ReportCa
 refusal_of_call d event (call.Event e) h = refusal_told d event e.kind h.1
 refusal_of_call d event other h = search rules
 
--- the first call that is refused stands where the first event does whose calls are
+-- the first call that is refused is the first of its event
 first_told : (d : OutputLoadDecider) (es : List SceneEvent) (calls : List ReportCall) → AllZip IsCallOf es calls →
     position_or_len (λ c. is_some (refusal_by d c)) calls ≡ position_or_len (λ e. is_some (told_refusal d e)) es
 first_told d [] [] h = refl

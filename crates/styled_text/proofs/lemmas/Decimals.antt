@@ -26,7 +26,7 @@ ascii_each (c ∷ t) h = IsAscii-cons c t h.0 (ascii_each t h.1)
 IsAscii-decimals : (r : ℕ) → IsAscii (decimals r)
 IsAscii-decimals r = ascii_each (decimals r) (lit< tt, (omega arith, (omega arith, (omega arith, tt))))
 
--- a number of thousandths, right in so many columns
+-- a number of thousandths, right in n columns
 right-thousandths : (columns r : ℕ) → r / 1000 < 10 ^ 64 → right_in columns (decimal (r / 1000) ++ decimals r) ≡ spaces (columns - 4 - length (decimal (r / 1000))) ++ (decimal (r / 1000) ++ decimals r)
 unfolding right_in
 right-thousandths columns r fits =
@@ -44,7 +44,7 @@ seconds-thousandths n = append_assoc (decimal (rounded 1000000 n / 1000)) (codes
 decimals-last : (r : ℕ) → decimals r ≡ codes "." ++ last_digits 3 (r % 1000)
 decimals-last r = grind arith
 
--- nanoseconds as seconds with three decimals, right in so many columns: spaces, the seconds, and the thousandths
+-- nanoseconds as seconds with three decimals, right in n columns: spaces, the seconds, and the thousandths
 pub right-seconds : (columns n whole part : ℕ) (padding text : Text) → whole ≡ rounded 1000000 n / 1000 → part ≡ rounded 1000000 n % 1000 → n < 2 ^ 128
     → padding ≡ spaces (columns - 4 - length text) → text ≡ decimal whole
     → right_in columns (seconds 3 n) ≡ padding ++ (text ++ (codes "." ++ last_digits 3 part))

@@ -1,4 +1,4 @@
--- Where line feeds stand, and where the first lines of a text end (for `split_line`, `highlight_end`).
+-- The positions of line feeds, and the ends of the first lines of a text (for `split_line`, `highlight_end`).
 use Rattle.std.proofs.Common.{◌≡◌, ℕ, ◌+◌, ◌-◌, ◌<◌, false, ◌==◌, sym, ap, ◌∙◌, arith, length, get_or, take, length-take-le, get_or-take, suc, [], ◌∷◌, ◌++◌, cond, refl, drop, count_by, length-append, get_or-drop, add-one, take-append-drop}
 use Rattle.std.proofs.lemmas.List.{get_or_default, nil_from_length}
 use Rattle.std.proofs.lemmas.Str.{IsCharBoundary-after_ascii}

@@ -7,7 +7,7 @@ use run_model::stress::StressIndex;
 
 const KIND: RunStatsFailureKind = RunStatsFailureKind::SetupScript;
 
-// A stress run with so many failed iterations, whose last came to this.
+// A stress run with this many failed iterations, and this outcome of the last one.
 fn stress(failed_count: u32, last_final_stats: FinalRunStats) -> StressRunStats {
     StressRunStats {
         completed: StressIndex {

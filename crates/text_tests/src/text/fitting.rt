@@ -88,7 +88,7 @@ fn fits_tests(rt: HostRuntime) -> Result<(), Fail> {
         let text = shown(rt.alloc(), None, test, is_colorized, width)?;
         assert_eq!(rt; text.as_str(), want);
     }
-    // The counter stands before the names.
+    // The counter comes before the names.
     let counter = DisplayCounterIndex::new_padded('─', 1);
     for (width, want) in [(9, "(───) b t"), (8, "(───) b "), (6, "(───) "), (3, "(──")] {
         let text = shown(rt.alloc(), Some(counter), ("b", "t"), false, width)?;

@@ -19,7 +19,7 @@ const KINDS: [ErrorKind; 7] = [
     ErrorKind::Other,
 ];
 
-// Writes and flushes over a device, and says what that answered, what the device took and how many bytes are pending.
+// Writes and flushes over a device, and returns the result, what the device took and how many bytes are pending.
 fn deliver<W: Write + Drop>(
     alloc: Global,
     device: W,

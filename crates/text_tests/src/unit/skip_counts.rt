@@ -37,7 +37,7 @@ const ROWS: &str = "\
 26321oc \x1b[1m6\x1b[0m tests and \x1b[1m2\x1b[0m binaries \x1b[33;1mskipped\x1b[0m, including \x1b[1m2\x1b[0m tests that already passed, and \x1b[1m3\x1b[0m tests and \x1b[1m1\x1b[0m binary via \x1b[1mdefault-filter\x1b[0m in \x1b[1mprofile.my-profile.overrides\x1b[0m\n\
 ";
 
-// The number that a digit stands for.
+// The value of a digit.
 fn count(digit: u8) -> usize {
     usize::from(digit.wrapping_sub(b'0'))
 }

@@ -7,7 +7,7 @@ use std::test::Fail;
 use styled_text::style::Styles;
 use unit_report::formatters::write_final_warnings;
 
-// A run of so many tests, of which so many did not run.
+// A run of n tests, of which m did not run.
 fn of_tests(initial_run_count: usize, not_run: usize) -> RunStatsFailureKind {
     RunStatsFailureKind::Test {
         initial_run_count,

@@ -1,4 +1,4 @@
--- The output of a unit, in colour and plain (for the output of attempts and of answers).
+-- The output of a unit, in colour and plain (for the output of attempts and of responses).
 use Rattle.std.proofs.Common.{◌≡◌, ℕ, Bool, true, false, refl, List, [], ◌∷◌, Option, None, Some, codes}
 use Rattle.styled_text.specs.Names.{AllByRecursion, flat_map, option_and_then, Text, HasNoEscape, styles_of, Style, Styles}
 use Rattle.run_model.specs.Names.{MessageAndCauses, Part, stdout_part, stderr_part, ChildExecutionOutputDescription, ChildOutputDescription, Highlight, LiveSpec}

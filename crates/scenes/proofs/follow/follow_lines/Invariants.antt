@@ -2,7 +2,7 @@ use Rattle.std.proofs.Common.{◌≡◌, [], ℕ, List, Ok, true}
 use Rattle.scenes.proofs.Common.{Follows, HasReadLines, is_begun, IsSameReporter, KeepsUp, no_lines, RunLine}
 use Rattle.scenes.proofs.follow.follow_lines.Given as goal
 
--- what was read is at hand, and all before it was reported
+-- what was read is held, and all before it was reported
 abbrev pub invariant-loop-turn : goal.invariant-loop-turn
 invariant-loop-turn g l = record {
   same : IsSameReporter l.fn.reporter.reporter l.reporter.reporter;

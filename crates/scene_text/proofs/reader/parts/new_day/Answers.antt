@@ -13,7 +13,7 @@ use Rattle.jiff_core.specs.declared.civil.date.Date.{Date}
 use Rattle.scene_text.specs.Names.{Day, day_of, checked_day, is_day}
 use Rattle.scene_text.proofs.reader.parts.new_day.Goals as goal
 
--- of a month with so many days
+-- of a month with this many days
 in_month : (y : ℤ) (m d days : ℕ) → Decides (nat_le (unsigned_abs y) 9999 && (is_in_range 1 12 m && is_in_range 1 days d)) (IsYear y × IsBetween (pos 1) (pos 12) (pos m) × IsBetween (pos 1) (pos days) (pos d))
 in_month (pos y) m d days = (λ h. grind (arith, ints, nat_tests, h), λ h. grind (arith, ints, nat_tests, h))
 in_month (negsuc y) m d days = (λ h. grind (arith, ints, nat_tests, h), λ h. grind (arith, ints, nat_tests, h))
