@@ -13,11 +13,17 @@ pub use Rattle.console_reporter.specs.PlainCalls.{ArePlain, IsPlainCall, IsPlain
 pub use Rattle.console_reporter.specs.PlainLaw.{IsPlainReport, PlainLaw}
 pub use Rattle.console_reporter.specs.Report.{Known, end_of_run_text, event_parts, known_after, past_at, report, script_by, text, text_at}
 unfoldable pub use Rattle.console_reporter.specs.Report.{event_text, listed_text, report_texts}
+pub use Rattle.console_reporter.specs.ReportErrors.{error_of_io, error_of_run, error_of_write}
 pub use Rattle.console_reporter.specs.Runs.{Runs, absent}
 pub use Rattle.console_reporter.specs.Statistics.{IsStatsIndependent, with_stats}
 pub use Rattle.console_reporter.specs.Stored.{record_of, records, stored, stored_at, stored_text}
 pub use Rattle.console_reporter.specs.Telling.{AreDelivered, Breaks, IsDelivered, IsNeverRefused, IsSameReporter, MayGrowFor, Promises, Tells, TellsRun, past_with, refusal_for, told_text}
 pub use Rattle.console_reporter.specs.Uninterrupted.{AreUninterrupted, carried_reason, is_end_of_run}
+pub use Rattle.console_reporter.specs.declared.error.ReportError.{ReportError}
+pub use Rattle.console_reporter.specs.declared.imp.builder.DisplayReporterBuilder.{DisplayReporterBuilder}
+pub use Rattle.console_reporter.specs.declared.imp.builder.Surroundings.{Surroundings}
+pub use Rattle.console_reporter.specs.declared.imp.reporter.DisplayReporter.{DisplayReporter}
+pub use Rattle.console_reporter.specs.declared.imp.store.Store.{Store}
 unfoldable pub use Rattle.info_text.specs.Response.{info_response_text, script_answer, test_answer, unit_answer, valid_output}
 unfoldable pub use Rattle.run_text.specs.Header.{replay_header_text}
 pub use Rattle.run_text.specs.NotSeen.{not_seen_text}

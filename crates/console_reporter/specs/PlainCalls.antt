@@ -1,11 +1,7 @@
 -- What the laws need of a reporter's input for texts without escape characters.
 use Rattle.std.specs.Prelude.{Bool, List}
 use Rattle.styled_text.specs.Names.{AllByRecursion, HasNoEscape, Text}
-use Rattle.run_model.specs.declared.event.TestEventKind.{TestEventKind}
-use Rattle.run_model.specs.declared.output.ChildOutputDescription.{ChildOutputDescription}
-use Rattle.run_model.specs.declared.output.LiveSpec.{LiveSpec}
-use Rattle.run_model.specs.declared.status.ExecuteStatus.{ExecuteStatus}
-use Rattle.run_model.specs.declared.call.ReportCall.{ReportCall}
+use Rattle.run_model.specs.Names.{TestEventKind, ChildOutputDescription, LiveSpec, ExecuteStatus, ReportCall}
 use Rattle.run_model.specs.declared.event.TestEventKind.TheVariants.{RunStarted, SetupScriptStarted, SetupScriptSlow, SetupScriptFinished, TestStarted, TestSlow, TestAttemptFailedWillRetry, TestRetryStarted, TestFinished, TestSkipped, InfoResponse, RunFinished}
 use Rattle.report_words.specs.PlainTexts.{IsPlainInstance}
 use Rattle.text_parts.specs.Names.{IsPlainResult, IsPlainWritten, IsPlainScript}

@@ -2,8 +2,7 @@
 
 ghost use Rattle.std.specs.Prelude.{◌≡◌};
 ghost use Rattle.std.specs.IoError.{error_kind};
-ghost use Rattle.console_reporter.specs.ReportErrors.{error_of_io, error_of_run, error_of_write};
-ghost use Rattle.console_reporter.specs.declared.error.ReportError.{ReportError};
+ghost use Rattle.console_reporter.specs.Names.{error_of_io, error_of_run, error_of_write, ReportError};
 
 use crate::imp::{RunFault, WriteEventError};
 use run_model::memory::OutOfMemory;

@@ -1,7 +1,6 @@
 -- The responses of units without escape characters.
 use Rattle.std.specs.Prelude.{Bool}
-use Rattle.run_model.specs.declared.info.InfoResponse.{InfoResponse}
-use Rattle.run_model.specs.declared.info.UnitState.{UnitState}
+use Rattle.run_model.specs.Names.{InfoResponse, UnitState}
 use Rattle.run_model.specs.declared.info.InfoResponse.TheVariants.{SetupScript, Test}
 use Rattle.run_model.specs.declared.info.UnitState.TheVariants.{Running, Exiting, Terminating, Exited, DelayBeforeNextAttempt}
 use Rattle.styled_text.specs.Escapes.{HasNoEscape}

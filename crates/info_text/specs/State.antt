@@ -1,13 +1,7 @@
 -- The state of a unit, in the lines of its response.
 use Rattle.std.specs.Prelude.{ℕ, Bool, false, Option, None, Some, [], ◌++◌, codes, nat_lt, if◌then◌else◌, refl}
 use Rattle.styled_text.specs.Names.{decimal, is_some, option_map, HasNoEscape, seconds, plain, Text}
-use Rattle.run_model.specs.Names.{terminate_reason_text, NextestRunMode, Nanos}
-use Rattle.run_model.specs.declared.info.UnitState.{UnitState}
-use Rattle.run_model.specs.declared.info.UnitTerminateMethod.{UnitTerminateMethod}
-use Rattle.run_model.specs.declared.info.UnitTerminateReason.{UnitTerminateReason}
-use Rattle.run_model.specs.declared.info.UnitTerminatingState.{UnitTerminatingState}
-use Rattle.run_model.specs.declared.status.ExecutionResultDescription.{ExecutionResultDescription}
-use Rattle.run_model.specs.declared.status.RetryData.{RetryData}
+use Rattle.run_model.specs.Names.{terminate_reason_text, UnitState, UnitTerminateMethod, UnitTerminateReason, UnitTerminatingState, ExecutionResultDescription, RetryData, NextestRunMode, Nanos}
 use Rattle.run_model.specs.declared.info.UnitState.TheVariants.{Running, Exiting, Terminating, Exited, DelayBeforeNextAttempt}
 use Rattle.run_model.specs.declared.info.UnitTerminateMethod.TheVariants.{Signal}
 use Rattle.run_model.specs.declared.info.UnitTerminateReason.TheVariants as terminate

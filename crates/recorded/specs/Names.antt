@@ -11,3 +11,5 @@ unfoldable pub use Rattle.recorded.specs.Runs.{needed}
 pub use Rattle.recorded.specs.Skips.{skips}
 pub use Rattle.recorded.specs.Source.{IsLeft}
 pub use Rattle.recorded.specs.SpelledOut.{AreBytes, bytes_spelled, field_spelled, line_spelled, scene_spelled, tabbed, text_of_lines}
+pub use Rattle.recorded.specs.declared.events.LoadEventFault.{LoadEventFault}
+pub use Rattle.recorded.specs.declared.outputs.LoadFault.{LoadFault}

@@ -8,8 +8,7 @@ use Rattle.recorded.specs.Outputs.{counted}
 use Rattle.recorded.specs.Runs.{needed_for, ended_lines}
 use Rattle.recorded.specs.declared.lines.Taken.{Taken}
 use Rattle.recorded.specs.declared.lines.Taken.TheVariants as taken
-use Rattle.scene_text.specs.Names.{SceneEvent, Lacks, ReadFault, IsNextFault, LeavesLines, ReadsLines, RunLine, before_next, is_begun, lines_after, parsed_lines, recorded_line}
-use Rattle.scene_text.specs.declared.reader.LinesRead.{LinesRead}
+use Rattle.scene_text.specs.Names.{SceneEvent, Lacks, ReadFault, IsNextFault, LeavesLines, ReadsLines, RunLine, before_next, is_begun, lines_after, parsed_lines, recorded_line, LinesRead}
 use Rattle.scene_fields.specs.declared.fault.LineFault.TheVariants as line
 
 -- what was read of a text: its first line, before a line feed and what is left; or the rest after the last line feed

@@ -1,8 +1,6 @@
 -- The message if an interceptor would get more than one test.
 use Rattle.std.specs.Prelude.{ℕ, ◌-◌, false, List, [], ◌++◌, None, length, nat_lt, if◌then◌else◌, codes}
-use Rattle.styled_text.specs.Names.{decimal, flat_map, plain, styled, Text}
-use Rattle.styled_text.specs.declared.style.Style.{Style}
-use Rattle.styled_text.specs.declared.style.ListStyles.{ListStyles}
+use Rattle.styled_text.specs.Names.{decimal, flat_map, plain, styled, Text, Style, ListStyles}
 use Rattle.run_model.specs.Names.{NextestRunMode, OwnedTestInstanceId}
 use Rattle.report_text.specs.Instance.{test_text}
 use Rattle.report_words.specs.Plural.{tests_word, tests_word_if}

@@ -4,14 +4,23 @@ unfoldable pub use Rattle.reporter_state.specs.Effects.{final_output}
 pub use Rattle.reporter_state.specs.Effects.TestEnd.{Finished}
 pub use Rattle.reporter_state.specs.Entries.{IsFinalOrder, counter_key, entries_text, entry_cmp, entry_key, final_level_of_output, final_order, hiding_rank, instance_key, is_before, iteration_key, level_key, shown_entries, shown_entry, test_key}
 unfoldable pub use Rattle.reporter_state.specs.Entries.{cancel, final_text, kept, prefix}
+pub use Rattle.reporter_state.specs.KeptOutputs.{final_output_of}
 pub use Rattle.reporter_state.specs.KeptTests.{borrowed_test, kept_test, lent}
 pub use Rattle.reporter_state.specs.Keys.{ArePlaced, Held, IsPlaced, Placed, entries_of, entry_held, held_cmp, key_at, placed_cmp, placed_key, placed_total, shown_of}
 pub use Rattle.reporter_state.specs.Loads.{decision, is_asked_of, is_stored_by, lacks_output, load_if, loads, loads_attempt, loads_finish, loads_script, needed_answer, needed_output}
 pub use Rattle.reporter_state.specs.Metadata.{HasMetadata, loads_by_metadata, loads_last}
 pub use Rattle.reporter_state.specs.Order.{key_cmp}
 unfoldable pub use Rattle.reporter_state.specs.Order.{ordered_by, put_in}
-pub use Rattle.reporter_state.specs.Refusals.{AreAcceptedBy, decider_by, event_refusal, first_refused, is_retried_success, refusal_at_by, refusal_by, refusal_in}
+pub use Rattle.reporter_state.specs.Refusals.{AreAcceptedBy, IsAcceptedBy, decider_by, event_refusal, first_refused, is_retried_success, refusal_at_by, refusal_by, refusal_in}
 pub use Rattle.reporter_state.specs.Unread.{is_skip, is_skipped, unread, unread_call}
+pub use Rattle.reporter_state.specs.declared.decider.OutputLoadDecider.{OutputLoadDecider}
+pub use Rattle.reporter_state.specs.declared.decider.OutputMetadata.{OutputMetadata}
+pub use Rattle.reporter_state.specs.declared.faults.RunFault.{RunFault}
+pub use Rattle.reporter_state.specs.declared.faults.WriteEventError.{WriteEventError}
+pub use Rattle.reporter_state.specs.declared.final_output.FinalOutput.{FinalOutput}
+pub use Rattle.reporter_state.specs.declared.final_output.FinalOutputEntry.{FinalOutputEntry}
+pub use Rattle.reporter_state.specs.declared.kept_test.KeptTest.{KeptTest}
+pub use Rattle.reporter_state.specs.declared.state.ReporterState.{ReporterState}
 unfoldable pub use Rattle.store_text.specs.Netstring.{netstring, netstring_head}
 unfoldable pub use Rattle.store_text.specs.Record.{record_text}
 pub use Rattle.store_text.specs.StoredOutput.{is_stored, written_text}

@@ -2,8 +2,7 @@
 
 ghost use Rattle.std.specs.Prelude.{◌≡◌, List, [], ◌∷◌, ◌++◌, OnOk, OnErr};
 ghost use Rattle.writers.specs.Writer.{Puts};
-ghost use Rattle.reporter_state.specs.Names.{status_line, StatusLineKind, final_text, shown_entries, final_order, IsFinalOrder, borrowed_test};
-ghost use Rattle.reporter_state.specs.declared.final_output.FinalOutputEntry.{FinalOutputEntry};
+ghost use Rattle.reporter_state.specs.Names.{status_line, StatusLineKind, final_text, shown_entries, final_order, IsFinalOrder, borrowed_test, FinalOutputEntry};
 ghost use Rattle.report_words.specs.Parts.{paint};
 ghost use Rattle.reporter_state.specs.declared.final_output.FinalOutput.TheVariants.{ExecutedWithOutput};
 
@@ -34,8 +33,7 @@ pub struct KeptEntries {
 impl Model for KeptEntries {
     ghost use Rattle.std.specs.Prelude.{List};
     ghost use Rattle.std.specs.BTreeMap.{btree_map_len};
-    ghost use Rattle.reporter_state.specs.Keys.{ArePlaced, shown_of};
-    ghost use Rattle.reporter_state.specs.declared.final_output.FinalOutputEntry.{FinalOutputEntry};
+    ghost use Rattle.reporter_state.specs.Names.{ArePlaced, shown_of, FinalOutputEntry};
 
     ghost Value = { List FinalOutputEntry };
 

@@ -63,8 +63,7 @@ pub struct ShortSummary {
 }
 
 impl Model for KeptOutput {
-    ghost use Rattle.reporter_state.specs.KeptOutputs.{final_output_of};
-    ghost use Rattle.reporter_state.specs.declared.final_output.FinalOutput.{FinalOutput};
+    ghost use Rattle.reporter_state.specs.Names.{final_output_of, FinalOutput};
 
     ghost Value = { FinalOutput };
 

@@ -4,8 +4,7 @@ use Rattle.run_model.specs.Names.{NextestRunMode, OwnedTestInstanceId, NotSeen}
 use Rattle.report_text.specs.Instance.{test_text}
 use Rattle.report_words.specs.Names.{tests_word, Parts, Fixed, Line, Lines, Count, Skip, none, words, Word, right, number, ◌⧺◌, choice, each, plainly, drawn_given, paint}
 use Rattle.report_words.proofs.lemmas.FreeWords.{free-tests_word_if}
-use Rattle.styled_text.specs.Texts.{Text}
-use Rattle.styled_text.specs.declared.style.Styles.{Styles}
+use Rattle.styled_text.specs.Names.{Text, Styles}
 
 -- how many tests there are
 unfoldable pub not_seen_start : NextestRunMode → ℕ → Fixed Line

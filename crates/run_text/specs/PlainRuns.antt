@@ -1,11 +1,7 @@
 -- What is handed in for the texts of a run without escape characters.
 use Rattle.std.specs.Prelude.{Bool, Option}
 use Rattle.styled_text.specs.Names.{AllByRecursion, HasNoEscape}
-use Rattle.run_model.specs.Names.{UniquePrefix, OwnedTestInstanceId, NotSeen}
-use Rattle.run_model.specs.declared.output.ChildOutputDescription.{ChildOutputDescription}
-use Rattle.run_model.specs.declared.output.LiveSpec.{LiveSpec}
-use Rattle.run_model.specs.declared.replay.ReplayHeader.{ReplayHeader}
-use Rattle.run_model.specs.declared.status.SetupScriptExecuteStatus.{SetupScriptExecuteStatus}
+use Rattle.run_model.specs.Names.{UniquePrefix, OwnedTestInstanceId, NotSeen, ChildOutputDescription, LiveSpec, ReplayHeader, SetupScriptExecuteStatus}
 use Rattle.report_words.specs.PlainTexts.{HoldsIf}
 use Rattle.text_parts.specs.Names.{IsPlainResult, IsPlainWritten}
 

@@ -41,3 +41,4 @@ pub use Rattle.scene_text.specs.Parts.{checked_clock, checked_day, exited_in, hi
 unfoldable pub use Rattle.scene_text.specs.Parts.{delay_in, exiting_in, running_in, state_in, terminating_in, timing_in, wait_in}
 pub use Rattle.scene_text.specs.SceneTexts.{AllRead, ConfigLine, EventLine, IsFirstFault, IsNextFault, LeavesLines, LinesBefore, NoEvent, NotesLine, ParsedLine, ParsedLines, PlainLine, ReadsLines, RecordedLine, RunLine, before_next, config_words, event_line, fault_at, is_begun, is_begun_behind, is_passed_over, line_here, line_place, line_value, line_words, lines_after, lines_before, lines_with, no_lines, parsed_line, parsed_lines, plain_line, recorded_line, text_lines, text_read, unread_line, value_of, with_line, with_made, words_behind}
 unfoldable pub use Rattle.scene_text.specs.SceneTexts.{event_lines, line_from, line_read, lines_read}
+pub use Rattle.scene_text.specs.declared.reader.LinesRead.{LinesRead}

@@ -1,8 +1,6 @@
 -- The record of a finished test.
 use Rattle.std.specs.Prelude.{◌++◌, codes}
-use Rattle.run_model.specs.Names.{Attempts, TestInstanceId}
-use Rattle.run_model.specs.declared.output.ChildOutputDescription.{ChildOutputDescription}
-use Rattle.run_model.specs.declared.output.LiveSpec.{LiveSpec}
+use Rattle.run_model.specs.Names.{Attempts, TestInstanceId, ChildOutputDescription, LiveSpec}
 use Rattle.styled_text.specs.Texts.{Text}
 use Rattle.text_parts.specs.ResultWords.{short_word}
 use Rattle.store_text.specs.Netstring.{netstring}

@@ -1,9 +1,6 @@
 -- The output that a store keeps.
 use Rattle.std.specs.Prelude.{Bool, [], ◌++◌, Option, None, Some, if◌then◌else◌}
-use Rattle.run_model.specs.Names.{Attempts, Written, case_of, is_success_case, decoded_text}
-use Rattle.run_model.specs.declared.output.ChildOutputDescription.{ChildOutputDescription}
-use Rattle.run_model.specs.declared.output.LiveSpec.{LiveSpec}
-use Rattle.run_model.specs.declared.status.StatusCase.{StatusCase}
+use Rattle.run_model.specs.Names.{Attempts, Written, case_of, is_success_case, ChildOutputDescription, LiveSpec, StatusCase, decoded_text}
 use Rattle.run_model.specs.declared.output.ChildExecutionOutputDescription.TheVariants.{Output, StartError}
 use Rattle.run_model.specs.declared.output.ChildOutputDescription.TheVariants.{Split, Combined, NotLoaded}
 use Rattle.styled_text.specs.Texts.{Text}

@@ -59,6 +59,16 @@ pub use Rattle.styled_text.specs.Texts.{Text, spaces}
 unfoldable pub use Rattle.styled_text.specs.Texts.{right_in}
 pub use Rattle.styled_text.specs.TrailingNewline.{held}
 unfoldable pub use Rattle.styled_text.specs.TrailingNewline.{ends_in_line_feed, without_trailing_newline}
+pub use Rattle.styled_text.specs.declared.escapes.Mode.{Mode}
+pub use Rattle.styled_text.specs.declared.escapes.State.{State}
+pub use Rattle.styled_text.specs.declared.escapes.Step.{Step}
+pub use Rattle.styled_text.specs.declared.fitting.column_counter.ColumnCounter.{ColumnCounter}
+pub use Rattle.styled_text.specs.declared.fitting.fitted.Fitted.{Fitted}
+pub use Rattle.styled_text.specs.declared.fitting.scan_state.ScanState.{ScanState}
+pub use Rattle.styled_text.specs.declared.indenter.indentation.Indented.{Indented}
+pub use Rattle.styled_text.specs.declared.style.ListStyles.{ListStyles}
+pub use Rattle.styled_text.specs.declared.style.Style.{Style}
+pub use Rattle.styled_text.specs.declared.style.Styles.{Styles}
 pub use Rattle.writers.specs.OnFormatter.{concat_append, folds_append, written_twice}
 pub use Rattle.writers.specs.TextBuffer.{BufferAccepts, BufferStops, GrowsWithin, Holds, buffer_laws}
 pub use Rattle.writers.specs.Writer.{AppendsFront, Meaning, Owes, Puts, WriterLaws, successor}

@@ -1,11 +1,7 @@
 -- A test that starts, and a retry.
 use Rattle.std.specs.Prelude.{ℕ, false, List, Option, codes, refl}
-use Rattle.run_model.specs.Names.{TestInstanceId, StressIndex}
-use Rattle.run_model.specs.declared.stats.RunStats.{RunStats}
-use Rattle.run_model.specs.declared.status.RetryData.{RetryData}
-use Rattle.text_parts.specs.Names.{shell_words, padded_instance, untimed_end, shows_starts, started_counter}
-use Rattle.text_parts.specs.declared.instance.CountedInstance.{CountedInstance}
-use Rattle.text_parts.specs.declared.settings.Settings.{Settings}
+use Rattle.run_model.specs.Names.{TestInstanceId, RunStats, RetryData, StressIndex}
+use Rattle.text_parts.specs.Names.{shell_words, padded_instance, untimed_end, shows_starts, started_counter, CountedInstance, Settings}
 use Rattle.styled_text.specs.Texts.{Text}
 use Rattle.report_words.specs.Parts.{Parts, Lines, Count, Pass, Retry, none, words, right, Right, ◌⧺◌, choice, drawn_given}
 use Rattle.test_text.specs.StatusLine.{attempt_words, free-attempt_words}

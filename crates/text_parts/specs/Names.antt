@@ -10,7 +10,7 @@ unfoldable pub use Rattle.text_parts.specs.AbortLine.{abort_line, indented_messa
 pub use Rattle.text_parts.specs.AttemptOutput.{attempt_output, exec_fail_header, finished_layout, has_info_after_failure, has_info_line, header_style, layout_in, output_margin, result_style, script_output, stream_header}
 unfoldable pub use Rattle.text_parts.specs.AttemptOutput.{info_line, info_line_start, shown_info_line, unit_output}
 pub use Rattle.text_parts.specs.Bar.{bar_line}
-pub use Rattle.text_parts.specs.Finish.{is_ever_shown}
+pub use Rattle.text_parts.specs.Finish.{IsOnlyHidden, IsSameBelowImmediate, is_ever_shown, is_shown_at_end, is_shown_at_once}
 unfoldable pub use Rattle.text_parts.specs.Finish.{display_of, is_final_wanted, is_line_shown, output_timing, timed_at_end, timed_at_once, timed_listed}
 pub use Rattle.text_parts.specs.InfoResult.{info_text}
 unfoldable pub use Rattle.text_parts.specs.InfoResult.{signal_info, signal_name}
@@ -23,6 +23,9 @@ pub use Rattle.text_parts.specs.Settings.{counter_where, counter_width_of, finis
 unfoldable pub use Rattle.text_parts.specs.Settings.{is_level_shown, shows_starts}
 pub use Rattle.text_parts.specs.StatsText.{counted_text, failure_tone}
 unfoldable pub use Rattle.text_parts.specs.StatsText.{counted_front, exec_failed_count, failed_count, failed_counts, leaky_failed_note, passed_front, passed_notes, progress_message, summary_text, timed_out_count}
+pub use Rattle.text_parts.specs.declared.finish.OutputTiming.{OutputTiming}
+pub use Rattle.text_parts.specs.declared.instance.CountedInstance.{CountedInstance}
+pub use Rattle.text_parts.specs.declared.settings.Settings.{Settings}
 unfoldable pub use Rattle.unit_report.specs.Captured.{captured, coloured_output, plain_output, reset_output}
 pub use Rattle.unit_report.specs.Durations.{bracketed, by_delay, clock, exceeded}
 unfoldable pub use Rattle.unit_report.specs.Durations.{bracketed_duration}

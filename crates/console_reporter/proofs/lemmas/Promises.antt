@@ -3,16 +3,13 @@
 use Rattle.std.proofs.Common.{◌≡◌, ◌⊎◌, Bool, true, false, inl, inr, List, [], Option, None, Some, IfSome, Ok, Err, refl, ap, ap₂, sym, subst, ◌∙◌}
 use Rattle.styled_text.specs.Names.{is_some, Text, Meaning, WriterLaws}
 use Rattle.console_reporter.specs.Names.{Configuration, config_of, HasFailed, MayGrowIn, StandsAfter, HasFront, AreDelivered, Breaks, IsDelivered, IsNeverRefused, IsSameReporter, Promises, Tells}
-use Rattle.console_reporter.specs.Names.{refusal_for}
-use Rattle.console_reporter.specs.declared.imp.reporter.DisplayReporter.{DisplayReporter}
+use Rattle.console_reporter.specs.Names.{refusal_for, DisplayReporter}
 use Rattle.console_reporter.proofs.lemmas.Refusals.{breaks_refused, not_refused, told_none}
 use Rattle.console_reporter.proofs.lemmas.Stores.{same-store, store-laws}
 use Rattle.console_reporter.proofs.lemmas.Texts.{of_lines-told}
-use Rattle.run_model.specs.declared.call.ReportCall.{ReportCall}
-use Rattle.run_model.specs.declared.event.TestEvent.{TestEvent}
+use Rattle.run_model.specs.Names.{ReportCall, TestEvent}
 use Rattle.run_model.specs.declared.call.ReportCall.TheVariants.{Event}
-use Rattle.reporter_state.specs.Refusals.{decider_by, event_refusal, refusal_in}
-use Rattle.reporter_state.specs.declared.faults.WriteEventError.{WriteEventError}
+use Rattle.reporter_state.specs.Names.{decider_by, event_refusal, refusal_in, WriteEventError}
 use Rattle.reporter_state.specs.declared.faults.WriteEventError.TheVariants.{Failed, Io, Memory, StoreIo}
 
 failed_not_io : Failed ≡ Io → ⊥

@@ -1,11 +1,9 @@
 -- Refusals (for `DisplayReporter::write_event`, and lemmas/Promises).
 use Rattle.std.proofs.Common.{◌≡◌, ℕ, List, true, Option, None, Some, inl, refl}
 use Rattle.styled_text.specs.Names.{is_some, Meaning}
-use Rattle.console_reporter.specs.Names.{store_meaning, Breaks, Side, Stops, Report, Records}
-use Rattle.console_reporter.specs.declared.imp.reporter.DisplayReporter.{DisplayReporter}
+use Rattle.console_reporter.specs.Names.{store_meaning, Breaks, DisplayReporter, Side, Stops, Report, Records}
 use Rattle.run_model.specs.declared.call.ReportCall.{ReportCall}
-use Rattle.reporter_state.specs.Refusals.{refusal_in}
-use Rattle.reporter_state.specs.declared.faults.WriteEventError.{WriteEventError}
+use Rattle.reporter_state.specs.Names.{refusal_in, WriteEventError}
 use Rattle.reporter_state.specs.declared.faults.WriteEventError.TheVariants.{RetriedSuccess, OutputNotLoaded, Io, Memory, Failed, StoreIo}
 
 -- an absent value

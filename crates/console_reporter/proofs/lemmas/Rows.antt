@@ -4,16 +4,11 @@ use Rattle.styled_text.specs.Names.{digits, chars, plain, styled, styles_of, Tex
 use Rattle.uuid.specs.Text.{by_index}
 use Rattle.run_names.specs.declared.config.NextestRunMode.TheVariants.{Test}
 use Rattle.run_names.specs.declared.config.CompiledDefaultFilterSection.TheVariants.{Profile}
-use Rattle.run_model.specs.declared.event.SkipCounts.{SkipCounts}
-use Rattle.run_model.specs.declared.event.TestEvent.{TestEvent}
-use Rattle.run_model.specs.Names.{planned_stats, reason_rank, TestInstanceId, TestOutputDisplay, StressIndex, Nanos, Attempts, Written, summary_of}
-use Rattle.run_model.specs.declared.stats.RunStats.{RunStats}
-use Rattle.run_model.specs.declared.status.ExecutionResultDescription.{ExecutionResultDescription}
-use Rattle.run_model.specs.declared.output.ChildOutputDescription.{ChildOutputDescription}
-use Rattle.run_model.specs.declared.output.LiveSpec.{LiveSpec}
-use Rattle.text_parts.specs.Names.{skip_note, abort_line, theme_of, long_word, display_of, output_timing, timed_listed, is_final_wanted, summary_text, counted_front, passed_notes, passed_front}
-use Rattle.text_parts.specs.Names.{failed_counts, failed_count, leaky_failed_note, exec_failed_count, timed_out_count, test_text, stress_prefix, counter_prefix, test_name_text, bracketed_duration}
-use Rattle.text_parts.specs.declared.settings.Settings.{Settings}
+use Rattle.run_model.specs.Names.{SkipCounts, TestEvent, planned_stats, reason_rank, TestInstanceId, RunStats, ExecutionResultDescription, ChildOutputDescription, LiveSpec, TestOutputDisplay}
+use Rattle.run_model.specs.Names.{StressIndex, Nanos, Attempts, Written, summary_of}
+use Rattle.text_parts.specs.Names.{skip_note, abort_line, theme_of, long_word, display_of, output_timing, timed_listed, is_final_wanted, Settings, summary_text, counted_front, passed_notes}
+use Rattle.text_parts.specs.Names.{passed_front, failed_counts, failed_count, leaky_failed_note, exec_failed_count, timed_out_count, test_text, stress_prefix, counter_prefix, test_name_text}
+use Rattle.text_parts.specs.Names.{bracketed_duration}
 use Rattle.unit_report.specs.declared.unit_output.DisplayerKind.TheVariants.{Live}
 use Rattle.run_model.specs.declared.event.TestEventKind.TheVariants.{TestFinished, RunFinished}
 use Rattle.run_names.specs.declared.abort.AbortDescription.TheVariants.{UnixSignal}

@@ -4,8 +4,7 @@ use Rattle.std.specs.Result.{IsErrAnd}
 use Rattle.std.proofs.lemmas.Bool.Decides.{nat_tests}
 use Rattle.std.proofs.lemmas.Slice.Eq.{bytes_eq-Decides}
 use Rattle.scene_text.specs.Names.{Reference, end_of, sum_of}
-use Rattle.recorded.specs.Names.{IsLoaded, bytes_at, stream_at, HasRead}
-use Rattle.recorded.specs.declared.outputs.LoadFault.{LoadFault}
+use Rattle.recorded.specs.Names.{IsLoaded, bytes_at, stream_at, LoadFault, HasRead}
 use Rattle.recorded.specs.declared.outputs.LoadFault.TheVariants.{OutOfMemory}
 
 -- where known bytes do not hold a reference

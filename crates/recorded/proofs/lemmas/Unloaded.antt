@@ -2,8 +2,7 @@
 use Rattle.std.proofs.Common.{◌≡◌, ℕ, zero, suc, List, [], ◌∷◌, map, refl, ap, sym, ◌∙◌}
 use native.Mathlib.Omega.{arith}
 use Rattle.run_model.specs.Names.{Attempt, Attempts, Written, attempt_with_output, execution_with_output, summary_of, unloaded_attempt, unloaded_attempts, unloaded_output, unloaded_script}
-use Rattle.run_model.specs.declared.output.ChildOutputDescription.{ChildOutputDescription}
-use Rattle.run_model.specs.declared.output.LiveSpec.{LiveSpec}
+use Rattle.run_model.specs.Names.{ChildOutputDescription, LiveSpec}
 use Rattle.console_reporter.proofs.lemmas.Isolation.{unloaded-summary}
 use Rattle.scene_text.specs.Names.{with_output_at, attempts_with, script_status}
 

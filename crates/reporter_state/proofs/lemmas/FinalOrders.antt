@@ -1,8 +1,7 @@
 -- What is kept has one final order (for `one_final_order`).
 use Rattle.std.proofs.Common.{◌≡◌, List}
 use Rattle.std.specs.List.Sorted.{IsSorted, IsStable}
-use Rattle.reporter_state.specs.Entries.{entry_cmp, is_before, final_order, IsFinalOrder}
-use Rattle.reporter_state.specs.declared.final_output.FinalOutputEntry.{FinalOutputEntry}
+use Rattle.reporter_state.specs.Names.{entry_cmp, is_before, final_order, IsFinalOrder, FinalOutputEntry}
 use Rattle.reporter_state.proofs.lemmas.Keys.{is_before-ranks}
 use Rattle.reporter_state.proofs.lemmas.Orders.{is_ordered, ordered_only}
 

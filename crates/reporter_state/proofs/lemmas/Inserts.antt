@@ -4,8 +4,7 @@ use Rattle.styled_text.specs.Names.{nat_list_cmp_total, lists_total, ordering_re
 use Rattle.std.proofs.lemmas.List.{map-append, reverse-append, reverse-reverse}
 use Rattle.text_parts.specs.declared.settings.Settings.{Settings}
 use Rattle.reporter_state.specs.Names.{shown_entries, entry_cmp, entry_key, shown_entry, final_order, is_before, ArePlaced, Held, IsPlaced, entries_of, entry_held, held_cmp, key_at, shown_of, put_in}
-use Rattle.reporter_state.specs.declared.final_output.FinalOutputEntry.{FinalOutputEntry}
-use Rattle.reporter_state.specs.declared.kept_test.KeptTest.{KeptTest}
+use Rattle.reporter_state.specs.Names.{FinalOutputEntry, KeptTest}
 use Rattle.reporter_state.proofs.lemmas.Keys.{is_before-ranks}
 use Rattle.reporter_state.proofs.lemmas.Orders.{order_more, put_back, rising-ordered_by}
 

@@ -1,8 +1,7 @@
 -- The order of entries by their keys (for the lemmas of Inserts, Pasts).
 use Rattle.styled_text.specs.Names.{IsStrictWeakOrder, nat_list_cmp_total, lists_total}
 use Rattle.std.proofs.lemmas.List.Sorted.{ranks_by}
-use Rattle.reporter_state.specs.Entries.{entry_key, is_before}
-use Rattle.reporter_state.specs.declared.final_output.FinalOutputEntry.{FinalOutputEntry}
+use Rattle.reporter_state.specs.Names.{entry_key, is_before, FinalOutputEntry}
 
 pub is_before-ranks : IsStrictWeakOrder is_before
 is_before-ranks = ranks_by (lists_total nat_list_cmp_total) (λ (e : FinalOutputEntry). entry_key e)

@@ -2,20 +2,14 @@
 use Rattle.std.proofs.Common.{ℕ, Bool, false, List, [], ◌∷◌, Option, None, Some}
 use Rattle.styled_text.specs.Names.{AllByRecursion, HasNoEscape, Text}
 use Rattle.jiff_core.specs.declared.civil.datetime.DateTime.{DateTime}
-use Rattle.run_model.specs.Names.{UniquePrefix, NextestRunMode, OwnedTestInstanceId, NotSeen}
-use Rattle.run_model.specs.declared.event.TestCounts.{TestCounts}
-use Rattle.run_model.specs.declared.output.ChildOutputDescription.{ChildOutputDescription}
-use Rattle.run_model.specs.declared.output.LiveSpec.{LiveSpec}
-use Rattle.run_model.specs.declared.replay.ReplayHeader.{ReplayHeader}
-use Rattle.run_model.specs.declared.status.ExecutionResultDescription.{ExecutionResultDescription}
-use Rattle.run_model.specs.declared.status.SetupScriptExecuteStatus.{SetupScriptExecuteStatus}
+use Rattle.run_model.specs.Names.{UniquePrefix, NextestRunMode, OwnedTestInstanceId, NotSeen, TestCounts, ChildOutputDescription, LiveSpec, ReplayHeader, ExecutionResultDescription}
+use Rattle.run_model.specs.Names.{SetupScriptExecuteStatus}
 use Rattle.run_names.specs.declared.unit.UnitKind.TheVariants as unit
 use Rattle.report_words.specs.PlainTexts.{HoldsIf}
 use Rattle.report_words.proofs.lemmas.ColourPairs.{colour_pair-free}
 use Rattle.report_words.proofs.lemmas.FreeWords.{frees, free-last_digits}
 use Rattle.report_words.proofs.lemmas.PartsInColour.{AreFree, AreFreeGiven}
-use Rattle.text_parts.specs.Names.{IsPlainResult, skipped_tests_in, IsPlainScript, Script}
-use Rattle.text_parts.specs.declared.settings.Settings.{Settings}
+use Rattle.text_parts.specs.Names.{IsPlainResult, skipped_tests_in, IsPlainScript, Script, Settings}
 use Rattle.report_text.proofs.lemmas.InstanceColourPairs.{colour_pair-test_text}
 use Rattle.unit_report.proofs.lemmas.FreeSkipCounts.{free-skip_note}
 use Rattle.text_parts.proofs.lemmas.LineColourPairs.{free-shown_script}

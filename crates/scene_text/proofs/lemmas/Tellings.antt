@@ -6,8 +6,7 @@ use Rattle.std.proofs.lemmas.Bool.Decides.{nat_tests}
 use Rattle.std.proofs.lemmas.List.{length-append}
 use Rattle.scene_text.specs.Names.{SceneEvent, Fails, LineError, LineFault, ReadFault, AllRead, IsNextFault, LeavesLines, NotesLine, ParsedLine, ReadsLines, RunLine, ConfigLine, EventLine, NoEvent}
 use Rattle.scene_text.specs.Names.{ParsedLines, before_next, event_lines, fault_at, is_begun, is_begun_behind, line_here, line_read, line_value, lines_before, lines_read, parsed_lines, lines_after}
-use Rattle.scene_text.specs.Names.{lines_with}
-use Rattle.scene_text.specs.declared.reader.LinesRead.{LinesRead}
+use Rattle.scene_text.specs.Names.{lines_with, LinesRead}
 use Rattle.scene_fields.specs.declared.fault.LineError.TheVariants as error
 use Rattle.scene_fields.specs.declared.fault.ReadFault.TheVariants as fault
 

@@ -4,8 +4,7 @@ use Rattle.styled_text.specs.Names.{Appends, append_known, BufferStops, buffer_l
 use Rattle.scenes.proofs.Common.{Appends-nil, AreWhole, Begins, buffer_meaning, BufferAccepts, DeliversRest, device, Event, false≢true, Fault, HasAtLeast, HasAtMost, HasBeginning, Header, is_some, IsSameStore, Meaning, Options, ParsedLines, Prefix, report_of, ReportCall, Reported, SceneConfig, StandAtOneCall, Store, store_for, store_meaning, stored, stored_of, StoreFailed, Text, TextBuffer, WriteFailed}
 use Rattle.writers.specs.declared.write_str.WriteFault.TheVariants.{Device, Memory}
 use Rattle.writers.proofs.lemmas.Deliveries.{accepted_delivers, begins_of, stopped_begins}
-use Rattle.scenes.specs.Names.{deferred_meaning, AreBegun, IsStop}
-use Rattle.scenes.specs.declared.deferred.Deferred.{Deferred}
+use Rattle.scenes.specs.Names.{deferred_meaning, AreBegun, IsStop, Deferred}
 use Rattle.scenes.proofs.lemmas.Prints.{Begun, calls_so, memory_no_store, write_no_store}
 
 -- known bytes that stay, and grow by a beginning where they are known

@@ -2,10 +2,7 @@
 use Rattle.std.proofs.Common.{◌≡◌, ◌++◌, [], ◌∷◌, true, false, pos, None, Some, codes, refl}
 use Rattle.styled_text.specs.Names.{digits, chars, is_utf8, Text}
 use Rattle.std.proofs.lemmas.Str.{IsUtf8-from_is_utf8}
-use Rattle.run_model.specs.Names.{Attempts, TestInstanceId, decoded_text}
-use Rattle.run_model.specs.declared.output.ChildOutputDescription.{ChildOutputDescription}
-use Rattle.run_model.specs.declared.output.LiveSpec.{LiveSpec}
-use Rattle.run_model.specs.declared.status.ExecutionResultDescription.{ExecutionResultDescription}
+use Rattle.run_model.specs.Names.{Attempts, TestInstanceId, ChildOutputDescription, LiveSpec, ExecutionResultDescription, decoded_text}
 use Rattle.run_model.specs.declared.output.ChildExecutionOutputDescription.TheVariants.{Output}
 use Rattle.run_model.specs.declared.output.ChildOutputDescription.TheVariants.{Split}
 use Rattle.run_model.specs.declared.status.ExecutionResultDescription.TheVariants as outcome

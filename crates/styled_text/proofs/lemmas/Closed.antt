@@ -4,8 +4,7 @@ use Rattle.std.proofs.lemmas.Bool.{cases_lt}
 use Rattle.std.proofs.lemmas.Bool.Decides.{nat_tests, eqb_tells}
 use Rattle.std.proofs.lemmas.Str.{encode_ascii}
 use Rattle.styled_text.specs.Names.{decimal, digits, digits_onto, digit_glyph, repeat, Text, spaces, right_in, pieces, pieces_after, sequence_len, HasNoEscape, sequences, AreClosed, part_text, plain}
-use Rattle.styled_text.specs.Names.{styled, style_prefix, style_suffix, reset_color, PartText, Plain, Styled, part_texts}
-use Rattle.styled_text.specs.declared.style.Style.{Style}
+use Rattle.styled_text.specs.Names.{styled, style_prefix, style_suffix, reset_color, PartText, Plain, Styled, part_texts, Style}
 use Rattle.styled_text.proofs.lemmas.Marks.{AreHigh, encode-high}
 use Rattle.styled_text.proofs.lemmas.Widths.{free_both, sequences-joined, free_after, sequences-free, closed_both}
 use Rattle.styled_text.proofs.lemmas.Pieces.{joined-pieces}

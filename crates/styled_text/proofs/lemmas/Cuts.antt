@@ -3,8 +3,7 @@ use Rattle.std.proofs.Common.{◌≡◌, ℕ, zero, suc, ◌+◌, ◌<◌, ◌�
 use Rattle.std.proofs.lemmas.Bool.{cases_Bool, and_parts, and_right}
 use Rattle.std.proofs.lemmas.Bool.Decides.{nat_tests}
 use Rattle.styled_text.specs.Names.{Text, is_before_backslash, rest_len, is_within, is_parameter, is_intermediate, is_control, front_len, one_len, then_len, csi_end_len, csi_len, osc_len, short_len}
-use Rattle.styled_text.specs.Names.{sequence_len}
-use Rattle.styled_text.specs.declared.escapes.State.{State}
+use Rattle.styled_text.specs.Names.{sequence_len, State}
 use Rattle.std.proofs.lemmas.List.{nil_from_length}
 use Rattle.styled_text.specs.declared.escapes.State.TheVariants.{Start}
 

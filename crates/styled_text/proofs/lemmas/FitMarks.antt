@@ -5,11 +5,7 @@ use Rattle.std.proofs.lemmas.Bool.Decides.{nat_tests}
 use Rattle.std.proofs.lemmas.Str.{encodes-chars, encode_ascii}
 use Rattle.styled_text.specs.Names.{IsUtf8, Text, is_visible, front_len, sequence_len, PieceText, pieces, pieces_after, SequenceText, StretchText, columns_counted, columns_from, saturated}
 use Rattle.styled_text.specs.Names.{CounterAccepts, advanced, mode_after, modes_after, char_columns, columns_of, columns, kept_chars, kept_stretch, fit_pieces, fit, stretch_columns, next_place}
-use Rattle.styled_text.specs.Names.{is_char_kept_by, moved_by, kept_from, fitted_text, fitted_meaning, stops_kept, Meaning, WriterLaws, Puts, WriteFault}
-use Rattle.styled_text.specs.declared.escapes.Mode.{Mode}
-use Rattle.styled_text.specs.declared.fitting.scan_state.ScanState.{ScanState}
-use Rattle.styled_text.specs.declared.fitting.fitted.Fitted.{Fitted}
-use Rattle.styled_text.specs.declared.fitting.column_counter.ColumnCounter.{ColumnCounter}
+use Rattle.styled_text.specs.Names.{is_char_kept_by, moved_by, kept_from, fitted_text, fitted_meaning, stops_kept, Mode, ScanState, Meaning, WriterLaws, Puts, Fitted, WriteFault, ColumnCounter}
 use Rattle.styled_text.proofs.lemmas.Fits.{columns_of-cons, kept_stretch-before, kept_stretch-past, AreTexts, texts, stretch_columns-pieces}
 use Rattle.styled_text.proofs.lemmas.Marks.{Mark, marks, tagged, piece_marks, marks-pieces, chars_past}
 use Rattle.styled_text.specs.declared.escapes.Mode.TheVariants as mode

@@ -4,8 +4,7 @@ use Rattle.std.proofs.lemmas.Bool.{and_parts}
 use Rattle.std.proofs.lemmas.Str.{chars-encodes, chars-nil, IsUtf8-nil, cons_from_encodes}
 use Rattle.std.specs.Str.{IsUtf8, all_scalars}
 use lib.Utf8.{scalar}
-use Rattle.styled_text.specs.Names.{Text, kept_char, kept_from, fitted_text, fitted_text-nil, scan_after, PutsChar, fitted_meaning, Meaning, Puts, WriteFault}
-use Rattle.styled_text.specs.declared.fitting.fitted.Fitted.{Fitted}
+use Rattle.styled_text.specs.Names.{Text, kept_char, kept_from, fitted_text, fitted_text-nil, scan_after, PutsChar, fitted_meaning, Meaning, Puts, Fitted, WriteFault}
 
 -- a character that a text begins with
 pub first_scalar : (t rest : Text) (c : ℕ) → IsUtf8 t → t ≡ encode_utf8 c ++ rest → scalar c ≡ true

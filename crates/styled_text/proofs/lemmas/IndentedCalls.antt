@@ -3,8 +3,7 @@ use Rattle.std.proofs.Common.{◌≡◌, List, [], ◌∷◌, ◌++◌, true, re
 use Rattle.std.proofs.lemmas.Bool.{eqb-true}
 use Rattle.std.proofs.lemmas.List.{nil_from_length}
 use Rattle.styled_text.specs.Names.{IsOk, OnOk, WritesInCalls, WritesText, IsPlainFormatter, HasWritten, DisplaysOnOk, FoldsTo, concat, option_map, Formatter, Error, Text, IsOneLine, margin, indent}
-use Rattle.styled_text.specs.Names.{after, IndentedTakes, TakesMargin, indent-append, after-append, indent-none, after-none, folds_append, concat_append, written_twice}
-use Rattle.styled_text.specs.declared.indenter.indentation.Indented.{Indented}
+use Rattle.styled_text.specs.Names.{after, IndentedTakes, TakesMargin, indent-append, after-append, indent-none, after-none, folds_append, concat_append, written_twice, Indented}
 use Rattle.styled_text.proofs.lemmas.Indents.{indent-line, margin-first}
 
 module _ {W : Type 0} (took : W → Text → W → Type 0) where

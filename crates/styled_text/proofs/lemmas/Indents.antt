@@ -4,8 +4,7 @@ use Rattle.std.proofs.lemmas.Bool.{ne_eqb}
 use Rattle.std.proofs.lemmas.Bool.Decides.{eqb_tells, nat_tests}
 use lib.Pointwise.{pointwise}
 use Rattle.styled_text.specs.Names.{Text, IsOneLine, margin, indent, after, indent-append, indent_onward, indent-onward, after_onward, after-onward, indented_meaning, IndentedStops, IndentedAccepts}
-use Rattle.styled_text.specs.Names.{PutsMargin, Meaning, WriterLaws, Puts, WriteFault}
-use Rattle.styled_text.specs.declared.indenter.indentation.Indented.{Indented}
+use Rattle.styled_text.specs.Names.{PutsMargin, Meaning, WriterLaws, Puts, Indented, WriteFault}
 
 -- one line, by its bytes
 abbrev Line : Text → Type 0

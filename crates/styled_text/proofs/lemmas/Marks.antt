@@ -7,10 +7,8 @@ use Rattle.std.proofs.lemmas.Str.{chars-append, chars-nil, encode_ascii, scalars
 use Rattle.std.specs.Str.{IsUtf8, all_scalars}
 use lib.Utf8.{scalar, encode, next}
 use Rattle.styled_text.specs.Names.{Text, is_within, is_parameter, is_intermediate, is_control, is_visible, front_len, then_len, one_len, csi_len, osc_len, sequence_len, PieceText, pieces}
-use Rattle.styled_text.specs.Names.{pieces_after, SequenceText, StretchText, rest_len, is_before_backslash, StepCounts, step_of, final_step_of, begun, mode_after_step, advanced, mode_after}
-use Rattle.styled_text.specs.declared.escapes.Mode.{Mode}
-use Rattle.styled_text.specs.declared.escapes.State.{State}
-use Rattle.styled_text.specs.declared.escapes.Step.{Step}
+use Rattle.styled_text.specs.Names.{pieces_after, SequenceText, StretchText, rest_len, is_before_backslash, StepCounts, step_of, final_step_of, begun, mode_after_step, advanced, mode_after, Mode}
+use Rattle.styled_text.specs.Names.{State, Step}
 use Rattle.styled_text.proofs.lemmas.FittedPuts.{one_utf8, one_char}
 use Rattle.styled_text.proofs.lemmas.Pieces.{pieces-sequence, pieces-stretch}
 use Rattle.styled_text.proofs.lemmas.Cuts.{then_len-inside, then_len-past, osc_len-cons}

@@ -1,8 +1,7 @@
 use Rattle.std.proofs.Common.{◌≡◌, ℕ, ◌+◌, ◌<◌, List, ◌∷◌, length, drop, get_or, ap, ◌∙◌, arith}
 use Rattle.std.proofs.lemmas.Bool.Decides.{nat_tests}
 use Rattle.std.proofs.lemmas.List.{drop_more}
-use Rattle.report_words.specs.Durations.{unit_nanos, unit_within}
-use Rattle.report_words.specs.declared.durations.TimeUnit.{TimeUnit}
+use Rattle.report_words.specs.Names.{unit_nanos, unit_within, TimeUnit}
 use Rattle.report_words.proofs.durations.TimeUnit.longest_within.Goals as goal
 
 passed_over : (n : ℕ) (u : TimeUnit) (us : List TimeUnit) → n < unit_nanos u → unit_within n (u ∷ us) ≡ unit_within n us
