@@ -9,17 +9,17 @@ use Rattle.command_line.specs.Pieces.{IsUnread}
 use Rattle.command_line.specs.declared.fault.Fault.{Fault}
 use Rattle.command_line.specs.declared.fault.Fault.TheVariants as fault
 use Rattle.command_line.specs.declared.fault.FaultLine.{FaultLine}
-use Rattle.command_line.specs.declared.fault.Program.{Program}
-use Rattle.command_line.specs.declared.fault.Program.TheVariants as program
+use Rattle.command_line.specs.declared.fault.ReportProgram.{ReportProgram}
+use Rattle.command_line.specs.declared.fault.ReportProgram.TheVariants as program
 
 -- the name of a program, and what it reads, as the last of the words that it takes
-abbrev pub program_words : Program → List ℕ × List ℕ
+abbrev pub program_words : ReportProgram → List ℕ × List ℕ
 program_words program.Report = (codes "report", codes "FILE")
 program_words program.Follow = (codes "follow", codes "[FILE]")
 program_words program.Replay = (codes "replay", codes "DIR")
 
 -- what a program says of a fault: of wrong words, the words that it takes
-abbrev pub fault_text : Program → Fault → List ℕ
+abbrev pub fault_text : ReportProgram → Fault → List ℕ
 fault_text by fault.Usage =
     codes "usage: " ++ ((program_words by).0
     ++ (codes " [--color] [--counter] [--replay] [--unload] [--level L] [--store PATH] [--store-success] [--store-failure] " ++ (program_words by).1))

@@ -77,7 +77,7 @@ impl fmt::Display for Fault<'_> {
 
     fn fmt<W: fmt::Write>(&self, f: &mut Formatter<W>) -> fmt::Result {
         let line = FaultLine {
-            program: Program::Report,
+            program: ReportProgram::Report,
             fault: *self,
         };
         line.fmt(f)
@@ -89,20 +89,20 @@ impl Error for Fault<'_> {}
 /// The line that a program prints on standard error: its name and its fault. Of words that are used wrongly it shows the right ones.
 ///
 /// ```
-/// let line = FaultLine { program: Program::Report, fault: Fault::WriteFailed };
+/// let line = FaultLine { program: ReportProgram::Report, fault: Fault::WriteFailed };
 /// assert_eq!(line.to_string(alloc)?.as_str(), "report: write failed");
 /// ```
 #[derive(Clone, Copy)]
 pub struct FaultLine<'a> {
     /// Whose line it is.
-    pub program: Program,
+    pub program: ReportProgram,
     /// What went wrong.
     pub fault: Fault<'a>,
 }
 
 /// A program that reports scenes or recorded runs.
 #[derive(Clone, Copy, PartialEq, Eq)]
-pub enum Program {
+pub enum ReportProgram {
     /// It reports a scene that it has read to its end.
     Report,
     /// It reports each line as it comes.
@@ -111,15 +111,15 @@ pub enum Program {
     Replay,
 }
 
-impl Program {
+impl ReportProgram {
     // Its name, and what it reads, as the last of the words that it takes.
     fn words(self) -> (&'static str, &'static str)
         ensures { (result.0.now, result.1.now) ≡ program_words self }
     {
         match self {
-            Program::Report => ("report", "FILE"),
-            Program::Follow => ("follow", "[FILE]"),
-            Program::Replay => ("replay", "DIR"),
+            ReportProgram::Report => ("report", "FILE"),
+            ReportProgram::Follow => ("follow", "[FILE]"),
+            ReportProgram::Replay => ("replay", "DIR"),
         }
     }
 }

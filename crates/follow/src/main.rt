@@ -5,7 +5,7 @@
 #![tactic(auto)]
 
 use scenes::args::{Options, args_or_input};
-use scenes::fault::{Fault, Program};
+use scenes::fault::{Fault, ReportProgram};
 use scenes::follow::{RunOutcome, follow_scene};
 use scenes::process::{
     arguments, create_store, fill_standard_descriptors, print_error, report_fault,
@@ -20,9 +20,9 @@ fn main(rt: HostRuntime) -> ExitCode {
     let status = match arguments(&rt) {
         Ok(mut args) => match run(&rt, &mut args) {
             Ok(outcome) => end(&rt, outcome),
-            Err(fault) => report_fault(&rt, Program::Follow, fault),
+            Err(fault) => report_fault(&rt, ReportProgram::Follow, fault),
         },
-        Err(fault) => report_fault(&rt, Program::Follow, fault),
+        Err(fault) => report_fault(&rt, ReportProgram::Follow, fault),
     };
     ExitCode::from(status)
 }

@@ -6,7 +6,7 @@
 
 use recorded::{Metered, RecordedOutputs, RecordedRun};
 use scenes::args::{Options, words};
-use scenes::fault::{Fault, Program};
+use scenes::fault::{Fault, ReportProgram};
 use scenes::follow::RunOutcome;
 use scenes::process::{
     arguments, create_store, fill_standard_descriptors, print_error, report_fault,
@@ -22,9 +22,9 @@ fn main(rt: HostRuntime) -> ExitCode {
     let status = match arguments(&rt) {
         Ok(args) => match run(&rt, args.as_slice()) {
             Ok(outcome) => end(&rt, outcome),
-            Err(fault) => report_fault(&rt, Program::Replay, fault),
+            Err(fault) => report_fault(&rt, ReportProgram::Replay, fault),
         },
-        Err(fault) => report_fault(&rt, Program::Replay, fault),
+        Err(fault) => report_fault(&rt, ReportProgram::Replay, fault),
     };
     ExitCode::from(status)
 }

@@ -5,7 +5,7 @@
 #![tactic(auto)]
 
 use scenes::args::{Options, words};
-use scenes::fault::{Fault, Program};
+use scenes::fault::{Fault, ReportProgram};
 use scenes::process::{arguments, create_store, fill_standard_descriptors, report_fault};
 use scenes::report::{accept_scene, read_whole, report_accepted};
 use std::fs::File;
@@ -19,9 +19,9 @@ fn main(rt: HostRuntime) -> ExitCode {
     let status = match arguments(&rt) {
         Ok(args) => match run(&rt, args.as_slice()) {
             Ok(()) => 0,
-            Err(fault) => report_fault(&rt, Program::Report, fault),
+            Err(fault) => report_fault(&rt, ReportProgram::Report, fault),
         },
-        Err(fault) => report_fault(&rt, Program::Report, fault),
+        Err(fault) => report_fault(&rt, ReportProgram::Report, fault),
     };
     ExitCode::from(status)
 }

@@ -64,14 +64,14 @@ impl KeptBinaryId {
 
 /// The ids that were kept last, for the next tests of their binaries.
 #[derive(Drop)]
-pub struct BinaryIds {
+pub struct KeptBinaryIds {
     last: Vec<KeptBinaryId>,
 }
 
-impl BinaryIds {
+impl KeptBinaryIds {
     /// No ids. It allocates nothing.
-    pub fn new(alloc: Global) -> BinaryIds {
-        BinaryIds {
+    pub fn new(alloc: Global) -> KeptBinaryIds {
+        KeptBinaryIds {
             last: Vec::new(alloc),
         }
     }

@@ -5,7 +5,7 @@ ghost use Rattle.run_model.specs.Statuses.{is_aborted};
 ghost use Rattle.reporter_state.specs.Names.{HasShownOutput, finish_of, final_output, finished_entry, skipped_entry, final_level_of_output};
 ghost use Rattle.text_parts.specs.Finish.{timed_at_end};
 
-use crate::binary_ids::BinaryIds;
+use crate::binary_ids::KeptBinaryIds;
 use crate::finished_attempts::FinishedAttempts;
 use crate::kept_test::KeptTest;
 use crate::loaded_output::LoadedOutput;
@@ -83,7 +83,7 @@ impl FinalOutputEntry {
     /// its output are shared. Output that is shown must be loaded.
     pub fn of_test(
         alloc: Global,
-        ids: &mut BinaryIds,
+        ids: &mut KeptBinaryIds,
         attempts: &FinishedAttempts<'_, '_>,
     ) -> Result<FinalOutputEntry, OutOfMemory>
         requires { HasShownOutput (finish_of attempts.now.finished) }
@@ -98,7 +98,7 @@ impl FinalOutputEntry {
     /// What the summary shows of a skipped test. It allocates for the test's names.
     pub fn skipped(
         alloc: Global,
-        ids: &mut BinaryIds,
+        ids: &mut KeptBinaryIds,
         test: CountedInstance<'_>,
     ) -> Result<FinalOutputEntry, OutOfMemory>
         ensures { IfOk result (λ e. e ≡ skipped_entry test.entry) }

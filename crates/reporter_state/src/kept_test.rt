@@ -3,7 +3,7 @@
 ghost use Rattle.std.specs.Prelude.{◌≡◌, IfOk};
 ghost use Rattle.reporter_state.specs.Names.{instance_key, kept_test, key_cmp};
 
-use crate::binary_ids::{BinaryIds, KeptBinaryId};
+use crate::binary_ids::{KeptBinaryId, KeptBinaryIds};
 use report_text::helpers::DisplayCounterIndex;
 use run_model::memory::OutOfMemory;
 use run_model::name::{TestCaseName, TestInstanceId};
@@ -43,7 +43,7 @@ impl KeptTest {
     /// Copies the test's name, and its binary's id if that is new.
     pub fn copy_of(
         alloc: Global,
-        ids: &mut BinaryIds,
+        ids: &mut KeptBinaryIds,
         test: CountedInstance<'_>,
     ) -> Result<KeptTest, OutOfMemory>
         ensures { IfOk result (λ t. t ≡ kept_test test.entry) }

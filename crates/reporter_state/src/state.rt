@@ -6,7 +6,7 @@ ghost use Rattle.run_names.specs.Levels.{reason_rank};
 ghost use Rattle.reporter_state.specs.Names.{HasShownOutput, finish_of, FinalOutputEntry, IsFinishOf, TestEnd, effect_of, entry_of, finished_entry, kept_entry, may_grow_for, lacks_output, decider_by};
 ghost use Rattle.reporter_state.specs.Names.{final_order};
 
-use crate::binary_ids::BinaryIds;
+use crate::binary_ids::KeptBinaryIds;
 use crate::faults::WriteEventError;
 use crate::final_output::FinalOutputEntry;
 use crate::finished_attempts::FinishedAttempts;
@@ -27,7 +27,7 @@ pub struct ReporterState {
     /// The entries for the summary.
     pub kept: KeptEntries,
     /// The binary ids that kept tests share.
-    pub ids: BinaryIds,
+    pub ids: KeptBinaryIds,
     /// The last unique prefix of the run's id.
     pub unique_prefix: Option<ShortestRunIdPrefix>,
     /// The greatest reason for which the run was cancelled.
@@ -50,7 +50,7 @@ impl ReporterState {
         ReporterState {
             alloc,
             kept: KeptEntries::new(alloc),
-            ids: BinaryIds::new(alloc),
+            ids: KeptBinaryIds::new(alloc),
             unique_prefix: None,
             cancel_status: None,
             settings,

@@ -43,7 +43,7 @@ pub fn write_run_started<W: WriteStr>(
     let starting = (
         Right(12, styles.pass, "Starting"),
         " ",
-        Counted(styles, mode, test_list),
+        TestsAndBinaries(styles, mode, test_list),
     );
     (BarLine(settings.theme_characters), run_id, starting).write_to(w)?;
     let filter = &settings.default_filter;
@@ -53,14 +53,14 @@ pub fn write_run_started<W: WriteStr>(
 
 // How many tests and binaries there are.
 #[derive(Clone, Copy)]
-struct Counted<'a>(&'a Styles, NextestRunMode, &'a TestCounts);
+struct TestsAndBinaries<'a>(&'a Styles, NextestRunMode, &'a TestCounts);
 
-impl WriteText for Counted<'_> {
+impl WriteText for TestsAndBinaries<'_> {
     ghost text = { λ c. paint c.0.now (test_counts_text c.1 c.2.now) };
 
     #[tactic(auto, unfolding(crate::specs::Start::test_counts_text))]
     fn write_to<W: WriteStr>(&self, w: &mut W) -> Result<(), WriteFault> {
-        let Counted(styles, mode, counts) = *self;
+        let TestsAndBinaries(styles, mode, counts) = *self;
         let binaries = Number(styles.count, counts.listed_binary_count as u128);
         (
             Number(styles.count, counts.run_count as u128),

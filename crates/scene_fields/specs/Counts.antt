@@ -3,7 +3,9 @@ use Rattle.std.specs.Prelude.{◌≡◌, ◌==◌, ◌+◌, ℕ, List, [], ◌�
 use Rattle.std.specs.List.{list_any}
 use Rattle.std.specs.Option.{option_and_then, option_map}
 use Rattle.std.proofs.Common.{refl}
-use Rattle.run_model.specs.Names.{planned_stats, SkipCounts, RunStats}
+use Rattle.run_model.specs.Stats.{planned_stats}
+use Rattle.run_model.specs.declared.event.SkipCounts.{SkipCounts}
+use Rattle.run_model.specs.declared.stats.RunStats.{RunStats}
 use Rattle.scene_fields.specs.Split.{cut, split_on}
 use Rattle.scene_fields.specs.Numbers.{number_in}
 use Rattle.scene_fields.specs.Values.{reason_in}
@@ -22,16 +24,16 @@ row_in place [] word value = None
 row_in place (row ∷ rows) word value = if bytes_eq word row.0 then option_map (λ counts. (place, counts)) (row.1 value) else row_in (place + 1) rows word value
 
 -- counts from the pairs so far, and the rows whose keys occurred
-abbrev pub Counted : Type 0 → Type 0
-Counted C = C × List Bool
+abbrev pub CountedRows : Type 0 → Type 0
+CountedRows C = C × List Bool
 
 -- a key that no pair before had, and its value
-abbrev pub new_pair : {C : Type 0} → List Bool → Option (ℕ × C) → Option (Counted C)
+abbrev pub new_pair : {C : Type 0} → List Bool → Option (ℕ × C) → Option (CountedRows C)
 new_pair has_key None = None
 new_pair has_key (Some x) = if get_or has_key x.0 false then None else Some (x.1, slice_set has_key x.0 true)
 
 -- one pair more
-abbrev pub pair_in : {C : Type 0} → (C → List (Row C)) → Counted C → List ℕ → List ℕ → Option (Counted C)
+abbrev pub pair_in : {C : Type 0} → (C → List (Row C)) → CountedRows C → List ℕ → List ℕ → Option (CountedRows C)
 pair_in rows before word value = new_pair before.1 (row_in 0 (rows before.0) word value)
 
 -- each pair in sequence, from its key and its value, which the first `=` separates

@@ -3,7 +3,7 @@
 use self::pieces::push_often;
 use run_model::level::StatusLevel;
 use scenes::args::{Options, StoreOptions, words};
-use scenes::fault::{Fault, FaultLine, LineFault, Program, ReadFault};
+use scenes::fault::{Fault, FaultLine, LineFault, ReadFault, ReportProgram};
 use scenes::follow::{RunOutcome, follow_scene};
 use scenes::report::{judge, report_scene, write_report};
 use std::alloc::{AllocError, Global};
@@ -433,7 +433,7 @@ fn tells_each_fault(rt: HostRuntime) -> Result<(), Fail> {
         assert_eq!(rt; fault.status(), status);
     }
     let follow = FaultLine {
-        program: Program::Follow,
+        program: ReportProgram::Follow,
         fault: Fault::Usage,
     };
     assert_eq!(rt;

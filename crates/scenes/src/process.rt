@@ -5,7 +5,7 @@ ghost use Rattle.std.specs.Fd.{file_raw_fd};
 ghost use Rattle.std.specs.Prelude.{◌≡◌, ◌⊎◌, ◌↔◌, ◌≤ℤ◌, ◌<ℤ◌, pos, IfErr, IfOk, IsTrue};
 ghost use Rattle.scenes.specs.Names.{status_of, Fault};
 
-use command_line::fault::{Fault, FaultLine, Program};
+use command_line::fault::{Fault, FaultLine, ReportProgram};
 use std::fmt::Display;
 use std::fs::{File, Metadata};
 use std::io::{ErrorKind, Write};
@@ -83,7 +83,7 @@ fn is_same_file(one: &Metadata, other: &Metadata) -> bool {
 }
 
 /// Prints the line of a fault on standard error, and returns the exit status.
-pub fn report_fault(rt: &HostRuntime, program: Program, fault: Fault<'_>) -> u8
+pub fn report_fault(rt: &HostRuntime, program: ReportProgram, fault: Fault<'_>) -> u8
     ensures { result ≡ status_of fault.entry }
 {
     print_error(rt, FaultLine { program, fault });

@@ -1,21 +1,19 @@
 //! The line of a finished test, as it is shown during the run and in the summary.
 
-ghost use Rattle.std.specs.Prelude.{◌≡◌, ◌++◌, IfOk, IsOk, codes, false};
+ghost use Rattle.std.specs.Prelude.{◌≡◌, ◌++◌, codes};
 ghost use Rattle.styled_text.specs.Names.{OnTrue, Puts, plain, styled, right_in};
-ghost use Rattle.run_model.specs.Statuses.{described_summary, is_aborted};
+ghost use Rattle.run_model.specs.Statuses.{described_summary};
 ghost use Rattle.text_parts.specs.ResultWords.{long_failure_word, long_word};
 ghost use Rattle.report_words.specs.Parts.{paint, style_of};
 ghost use Rattle.test_text.specs.StatusLine.{is_final_line, shown_summary, flaky_tone, flaky_words, failure_words, success_text, is_flaky_failure, status_prefix, flaky_note, flaky_failure_line, status_line};
 
 use itoa::Buffer;
-use run_model::memory::OutOfMemory;
 use run_model::output::OutputSpec;
 use run_model::status::{
     ExecutionDescription, ExecutionResultDescription, FailureDescription, FlakyResult, RetryData,
     StatusCase, StatusSummary,
 };
 use run_model::time::Nanos;
-use std::alloc::Global;
 use styled_text::style::{Style, Styles, write_plain};
 use text_parts::abort_line::write_abort_line;
 use text_parts::instance::{CountedInstance, write_instance};
@@ -29,9 +27,9 @@ use writers::write_str::{WriteFault, WriteStr};
 /// Where the line of a finished test is shown.
 #[derive(Clone, Copy, Debug, PartialEq, Eq)]
 pub enum StatusLineKind {
-    /// It is shown at once.
+    /// During the run.
     Intermediate,
-    /// It is shown in the summary.
+    /// In the summary.
     Final,
 }
 
@@ -50,7 +48,7 @@ impl StatusLineKind {
 /// What the line of a finished test shows of its attempts.
 #[derive(Clone, Copy)]
 pub struct StatusLine<'b> {
-    /// What the attempts came to.
+    /// The outcome of the attempts.
     pub case: StatusCase,
     /// Which attempt was the last.
     pub retry_data: RetryData,
@@ -76,7 +74,7 @@ impl<'b> StatusLine<'b> {
         }
     }
 
-    /// The line of attempts that are described. It is that of their summary.
+    /// The line of described attempts, which is that of their summary.
     pub fn of_description<S: OutputSpec>(describe: &ExecutionDescription<'b, S>) -> StatusLine<'b>
         ensures { shown_summary result ≡ described_summary describe.now }
     {
@@ -88,20 +86,6 @@ impl<'b> StatusLine<'b> {
             time_taken: last.time_taken,
             is_slow: last.is_slow,
         }
-    }
-
-    /// The summary that it is the line of. It allocates only where the last attempt was aborted.
-    pub fn to_summary(self, alloc: Global) -> Result<StatusSummary, OutOfMemory>
-        ensures same { IfOk result (λ x. x ≡ shown_summary self.entry) }
-        ensures free { is_aborted self.entry.result.now ≡ false → IsOk result }
-    {
-        Ok(StatusSummary {
-            case: self.case,
-            retry_data: self.retry_data,
-            result: self.result.copy(alloc)?,
-            time_taken: self.time_taken,
-            is_slow: self.is_slow,
-        })
     }
 }
 

@@ -1,4 +1,4 @@
-use Rattle.scene_fields.specs.Counts.{in_turn, pair_in, Counted, Row, has_space, new_pair, row_in}
+use Rattle.scene_fields.specs.Counts.{in_turn, pair_in, CountedRows, Row, has_space, new_pair, row_in}
 use Rattle.std.proofs.Common.{◌≡◌, List, [], ◌∷◌, ◌++◌, ◌+◌, ℕ, true, false, ◌==◌, Option, None, Some, ap, inl, inr, refl, sym, subst, ◌∙◌}
 use Rattle.std.proofs.lemmas.Bool.{cases_Bool, or_parts}
 use Rattle.std.proofs.lemmas.List.{append-nil}
@@ -20,7 +20,7 @@ no_row place (row ∷ rows) word value none h =
     ]
 
 -- a text with a space is no key
-no_key : {C : Type 0} (rows : C → List (Row C)) (before : Counted C) (word value : List ℕ) → list_any (λ row. has_space row.0) (rows before.0) ≡ false → has_space word ≡ true → pair_in rows before word value ≡ None
+no_key : {C : Type 0} (rows : C → List (Row C)) (before : CountedRows C) (word value : List ℕ) → list_any (λ row. has_space row.0) (rows before.0) ≡ false → has_space word ≡ true → pair_in rows before word value ≡ None
 no_key rows before word value none h = ap (new_pair before.1) (no_row 0 (rows before.0) word value none h)
 
 -- the first piece of a text has no `=`
@@ -45,7 +45,7 @@ unfolding split_on
 glued [] t piece others h first = first
 glued (c ∷ x) t piece others h first = let n = or_parts (c == 32) (has_space x) h in let e = glued x t piece others n.1 first in rw (n.0, e) refl
 
-module _ {C : Type 0} (reads : Counted C → List ℕ → List ℕ → Option (Counted C)) (before : Counted C) (left : List ℕ) (all : Option C) (so_far : option_map (λ read. read.0) (in_turn reads before (split_on 32 left)) ≡ all) where
+module _ {C : Type 0} (reads : CountedRows C → List ℕ → List ℕ → Option (CountedRows C)) (before : CountedRows C) (left : List ℕ) (all : Option C) (so_far : option_map (λ read. read.0) (in_turn reads before (split_on 32 left)) ≡ all) where
   stops : IsBad left → None ≡ all
   unfolding in_turn
   stops bad = let none = cut-lacks 61 bad.piece bad.lacks in rw (bad.parts, sym none) at so_far
@@ -57,7 +57,7 @@ module _ {C : Type 0} (reads : Counted C → List ℕ → List ℕ → Option (C
     first_pair : has_space word ≡ false → split_on 32 left ≡ (word ++ (61 ∷ value)) ∷ others
     first_pair none = ap (split_on 32) is ∙ glued word (61 ∷ after) (61 ∷ value) others none (glued (61 ∷ []) after value others refl first)
 
-    next_pair : (has_space word ≡ true → reads before word value ≡ None) → (new : Counted C) → Some new ≡ reads before word value → option_map (λ read. read.0) (in_turn reads new others) ≡ all
+    next_pair : (has_space word ≡ true → reads before word value ≡ None) → (new : CountedRows C) → Some new ≡ reads before word value → option_map (λ read. read.0) (in_turn reads new others) ≡ all
     unfolding in_turn
     next_pair refused new h = elim (cases_Bool (has_space word)) [
       | inl spaced ↦ (let no = refused spaced in cc)

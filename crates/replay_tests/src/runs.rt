@@ -1,6 +1,5 @@
 //! Recorded runs that are replayed, with what is read of their outputs.
 
-use crate::tests::sources::Failing;
 use recorded::{Metered, RecordedOutputs, RecordedRun, Source};
 use run_model::level::StatusLevel;
 use scenes::args::{Options, StoreOptions};
@@ -194,6 +193,22 @@ fn takes_a_line_that_was_cut_for_none(rt: HostRuntime) -> Result<(), Fail> {
     Ok(())
 }
 
+// Outputs of a known length, of which no read gives a byte.
+#[derive(Drop)]
+struct Unreadable {
+    kind: ErrorKind,
+}
+
+impl Source for Unreadable {
+    fn len(&mut self) -> io::Result<u64> {
+        Ok(OUTPUTS.len() as u64)
+    }
+
+    fn read_at(&mut self, _offset: u64, _buffer: &mut [u8]) -> io::Result<()> {
+        Err(self.kind.into())
+    }
+}
+
 #[test]
 fn tells_that_outputs_cannot_be_read(rt: HostRuntime) -> Result<(), Fail> {
     let alloc = rt.alloc();
@@ -207,9 +222,7 @@ fn tells_that_outputs_cannot_be_read(rt: HostRuntime) -> Result<(), Fail> {
         (ErrorKind::OutOfMemory, "report: out of memory", 3),
     ];
     for (kind, line, status) in kinds {
-        // The first call asks how many bytes there are.
-        let failing = Failing::new(OUTPUTS, 1, kind);
-        let replayed = replay(alloc, &OPTIONS, lines.as_str(), failing)?;
+        let replayed = replay(alloc, &OPTIONS, lines.as_str(), Unreadable { kind })?;
         let Err(fault) = replayed.outcome else {
             return Err(Fail::from("the read fails"));
         };
