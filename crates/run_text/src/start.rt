@@ -3,6 +3,7 @@
 ghost use Rattle.writers.specs.Writer.{Puts};
 ghost use Rattle.report_words.specs.Parts.{paint};
 ghost use Rattle.run_text.specs.Start.{run_started_text, test_counts_text};
+ghost use Rattle.unit_report.specs.SkipCounts.{skip_counts_text};
 
 use crate::run_id::ShownRunId;
 use report_text::helpers::plural::{binaries_str, tests_str};
@@ -40,15 +41,10 @@ pub fn write_run_started<W: WriteStr>(
         Toned(styles.count, profile_name.as_str()),
         "\n",
     );
-    let starting = (
-        Right(12, styles.pass, "Starting"),
-        " ",
-        TestsAndBinaries(styles, mode, test_list),
-    );
-    (BarLine(settings.theme_characters), run_id, starting).write_to(w)?;
-    let filter = &settings.default_filter;
-    write_skip_counts(mode, &test_list.skip_counts, filter, styles, w)?;
-    "\n".write_to(w)
+    let counted = Counted(styles, mode, test_list);
+    let starting = Right(12, styles.pass, "Starting");
+    let starting = (starting, " ", counted, Skipped(settings, test_list), "\n");
+    (BarLine(settings.theme_characters), run_id, starting).write_to(w)
 }
 
 // How many tests and binaries there are.
@@ -70,5 +66,25 @@ impl WriteText for TestsAndBinaries<'_> {
             (binaries, " ", binaries_str(counts.listed_binary_count)),
         )
             .write_to(w)
+    }
+}
+
+// How many tests and binaries are skipped.
+#[derive(Clone, Copy)]
+struct Skipped<'a>(&'a Settings, &'a TestCounts);
+
+impl WriteText for Skipped<'_> {
+    ghost text = { λ s. paint s.0.now.styles (skip_counts_text s.0.now.mode s.1.now.skip_counts s.0.now.default_filter) };
+
+    fn write_to<W: WriteStr>(&self, w: &mut W) -> Result<(), WriteFault> {
+        let Skipped(settings, counts) = *self;
+        let filter = &settings.default_filter;
+        write_skip_counts(
+            settings.mode,
+            &counts.skip_counts,
+            filter,
+            &settings.styles,
+            w,
+        )
     }
 }

@@ -1,10 +1,10 @@
 //! The iterations of a stress run: one has started or has finished.
 
-ghost use Rattle.styled_text.specs.Names.{option_map, Puts};
-ghost use Rattle.std.specs.Prelude.{◌≡◌};
+ghost use Rattle.styled_text.specs.Names.{styled, non_zero_u32_get, option_map, Puts};
 ghost use Rattle.run_names.specs.Stress.{remaining_value};
 ghost use Rattle.report_words.specs.Parts.{paint};
-ghost use Rattle.run_text.specs.Stress.{iteration_text, of_iterations, of_time, remaining_text, stress_sub_run_finished_text, stress_sub_run_started_text};
+ghost use Rattle.run_text.specs.Stress.{count_left_text, iteration_text, of_iterations, of_time, remaining_text, stress_sub_run_finished_text, stress_sub_run_started_text};
+ghost use Rattle.report_words.specs.Durations.{clock_text, whole_seconds};
 
 use crate::summary::{RunCounts, outcome_style};
 use report_text::helpers::plural::iterations_str;
@@ -12,6 +12,7 @@ use report_text::helpers::{DurationRounding, FormattedHhMmSs};
 use run_model::stats::RunStats;
 use run_model::stress::{StressCount, StressProgress, StressRemaining};
 use run_model::time::Nanos;
+use std::num::NonZeroU32;
 use styled_text::style::Styles;
 use styled_text::text::{Number, Painted, Right};
 use text_parts::bar::BarLine;
@@ -32,7 +33,7 @@ pub fn write_stress_sub_run_started<W: WriteStr>(
     let styles = &settings.styles;
     let elapsed = (
         " (",
-        toned_clock(styles, progress.elapsed(), DurationRounding::Floor),
+        Clock(styles, progress.elapsed(), DurationRounding::Floor),
         OfTime(styles, progress),
         " elapsed so far",
     );
@@ -100,7 +101,7 @@ impl WriteText for OfTime<'_> {
     fn write_to<W: WriteStr>(&self, w: &mut W) -> Result<(), WriteFault> {
         match self.1 {
             StressProgress::Time { total, .. } => {
-                ("/", toned_clock(self.0, *total, DurationRounding::Floor)).write_to(w)
+                ("/", Clock(self.0, *total, DurationRounding::Floor)).write_to(w)
             }
             StressProgress::Count { .. } => Ok(()),
         }
@@ -108,15 +109,16 @@ impl WriteText for OfTime<'_> {
 }
 
 // Hours, minutes and seconds as a number.
-fn toned_clock(
-    styles: &Styles,
-    duration: Nanos,
-    rounding: DurationRounding,
-) -> Painted<FormattedHhMmSs>
-    ensures style { result.0 ≡ styles.now.count }
-    ensures duration { result.1 ≡ record { duration = duration; rounding = rounding } }
-{
-    Painted(styles.count, FormattedHhMmSs { duration, rounding })
+#[derive(Clone, Copy)]
+struct Clock<'a>(&'a Styles, Nanos, DurationRounding);
+
+impl WriteText for Clock<'_> {
+    ghost text = { λ c. styled c.0.now.count (clock_text (whole_seconds c.2 c.1.0)) };
+
+    fn write_to<W: WriteStr>(&self, w: &mut W) -> Result<(), WriteFault> {
+        let Clock(styles, duration, rounding) = *self;
+        Painted(styles.count, FormattedHhMmSs { duration, rounding }).write_to(w)
+    }
 }
 
 // What remains, if that is known. A part of a second counts as one, so that it and the time that has passed do not
@@ -127,21 +129,30 @@ struct Remaining<'a>(&'a Styles, Option<StressRemaining>);
 impl WriteText for Remaining<'_> {
     ghost text = { λ r. paint r.0.now (remaining_text (option_map remaining_value r.1)) };
 
-    #[tactic(auto, unfolding(crate::specs::Stress::count_left_text, crate::specs::Stress::time_left_text))]
+    #[tactic(auto, unfolding(crate::specs::Stress::time_left_text))]
     fn write_to<W: WriteStr>(&self, w: &mut W) -> Result<(), WriteFault> {
         let styles = self.0;
         match self.1 {
             None | Some(StressRemaining::Infinite) => Ok(()),
-            Some(StressRemaining::Count(count)) => {
-                let number = Number(styles.count, count.get() as u128);
-                (", ", number, " ", iterations_str(count.get()), " remaining").write_to(w)
-            }
+            Some(StressRemaining::Count(count)) => write_count_left(w, styles, count),
             Some(StressRemaining::Time(time)) => {
-                let clock = toned_clock(styles, time, DurationRounding::Ceiling);
+                let clock = Clock(styles, time, DurationRounding::Ceiling);
                 (", ", clock, " remaining").write_to(w)
             }
         }
     }
+}
+
+#[tactic(auto, unfolding(crate::specs::Stress::count_left_text))]
+fn write_count_left<W: WriteStr>(
+    w: &mut W,
+    styles: &Styles,
+    count: NonZeroU32,
+) -> Result<(), WriteFault>
+    ensures { Puts W.meaning w.old (paint styles.now (count_left_text (non_zero_u32_get count))) result w.new }
+{
+    let number = Number(styles.count, count.get() as u128);
+    (", ", number, " ", iterations_str(count.get()), " remaining").write_to(w)
 }
 
 /// Writes that an iteration of a stress run has finished, how long it took, and its counts.
