@@ -1,7 +1,9 @@
 -- Which calls a reporter refuses: from the call and the configuration alone, whatever came before.
 use Rattle.std.specs.Prelude.{ℕ, List, Option}
 use Rattle.console_reporter.specs.Configuration.{Configuration, settings_of}
-use Rattle.reporter_state.specs.Names.{AreAcceptedBy, IsAcceptedBy, decider_by, refusal_at_by, refusal_by, OutputLoadDecider, WriteEventError}
+use Rattle.reporter_state.specs.Refusals.{AreAcceptedBy, IsAcceptedBy, decider_by, refusal_at_by, refusal_by}
+use Rattle.reporter_state.specs.declared.decider.OutputLoadDecider.{OutputLoadDecider}
+use Rattle.reporter_state.specs.declared.faults.WriteEventError.{WriteEventError}
 use Rattle.run_model.specs.declared.call.ReportCall.{ReportCall}
 
 -- the decider of a reporter with this configuration

@@ -5,10 +5,10 @@ use Rattle.run_names.specs.declared.config.NextestRunMode.TheVariants.{Test}
 use Rattle.run_names.specs.declared.level.FinalStatusLevel.TheVariants as final
 use Rattle.run_names.specs.declared.level.StatusLevel.TheVariants as status
 use Rattle.styled_text.specs.Style.{styles_of}
-use Rattle.text_parts.specs.Names.{resolved_display, ResolvedDisplay, OutputDisplayOverrides, counter_width_of, overrides_by, theme_of, Settings}
+use Rattle.text_parts.specs.Names.{resolved_display, ResolvedDisplay, OutputDisplayOverrides, counter_width_of, overrides_by, theme_of}
+use Rattle.reporter_state.specs.Names.{Settings, StoreConfig}
 use Rattle.unit_report.specs.declared.config.ShowProgress.TheVariants.{Auto}
 use Rattle.unit_report.specs.declared.unit_output.DisplayerKind.TheVariants.{Live}
-use Rattle.store_text.specs.declared.config.StoreConfig.{StoreConfig}
 use Rattle.console_reporter.specs.declared.imp.builder.DisplayReporterBuilder.{DisplayReporterBuilder}
 use Rattle.console_reporter.specs.declared.imp.builder.Surroundings.{Surroundings}
 

@@ -1,12 +1,13 @@
 -- What a reporter holds after a past.
 use Rattle.std.specs.Prelude.{◌≡◌, ℕ, List, Bool, true, false, IsTrue, slice_get}
 use Rattle.std.specs.Option.{option_map_or}
-use Rattle.run_model.specs.Names.{reason_rank, TestEvent, ReportCall}
+use Rattle.run_names.specs.Levels.{reason_rank}
+use Rattle.text_parts.specs.Names.{TestEvent, ReportCall}
 use Rattle.console_reporter.specs.Configuration.{Configuration, settings_of}
-use Rattle.reporter_state.specs.Names.{may_grow_for, cancel, final_order, kept, prefix, ReporterState}
+use Rattle.reporter_state.specs.Names.{may_grow_for, cancel, final_order, kept, prefix, Settings}
+use Rattle.reporter_state.specs.declared.state.ReporterState.{ReporterState}
 use Rattle.console_reporter.specs.Report.{Known, past_at}
 use Rattle.console_reporter.specs.OptionalStore.{config_of}
-use Rattle.text_parts.specs.declared.settings.Settings.{Settings}
 use Rattle.run_model.specs.declared.call.ReportCall.TheVariants.{Event, Header, Prefix}
 use Rattle.console_reporter.specs.declared.imp.reporter.DisplayReporter.{DisplayReporter}
 

@@ -1,6 +1,7 @@
 -- Isolation: a replay may skip every captured output that the load decider skips, and no byte changes.
 use Rattle.std.specs.Prelude.{◌≡◌, ℕ, List, reverse}
-use Rattle.reporter_state.specs.Names.{AreAcceptedBy, first_refused, refusal_at_by, OutputLoadDecider}
+use Rattle.reporter_state.specs.Refusals.{AreAcceptedBy, first_refused, refusal_at_by}
+use Rattle.reporter_state.specs.declared.decider.OutputLoadDecider.{OutputLoadDecider}
 use Rattle.console_reporter.specs.Accepted.{decider_of}
 use Rattle.console_reporter.specs.Configuration.{Configuration}
 use Rattle.console_reporter.specs.Report.{report, report_texts}

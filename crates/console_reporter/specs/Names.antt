@@ -20,11 +20,11 @@ pub use Rattle.console_reporter.specs.Stored.{record_of, records, stored, stored
 pub use Rattle.console_reporter.specs.Telling.{AreDelivered, Breaks, IsDelivered, IsNeverRefused, IsSameReporter, MayGrowFor, Promises, Tells, TellsRun, past_with, refusal_for, told_text}
 pub use Rattle.console_reporter.specs.Uninterrupted.{AreUninterrupted, carried_reason, is_end_of_run}
 pub use Rattle.console_reporter.specs.declared.error.ReportError.{ReportError}
-pub use Rattle.console_reporter.specs.declared.imp.builder.DisplayReporterBuilder.{DisplayReporterBuilder}
-pub use Rattle.console_reporter.specs.declared.imp.builder.Surroundings.{Surroundings}
 pub use Rattle.console_reporter.specs.declared.imp.reporter.DisplayReporter.{DisplayReporter}
 pub use Rattle.console_reporter.specs.declared.imp.store.Store.{Store}
 unfoldable pub use Rattle.info_text.specs.Response.{info_response_text, script_answer, test_answer, unit_answer, valid_output}
+pub use Rattle.reporter_state.specs.declared.decider.OutputLoadDecider.{OutputLoadDecider}
+pub use Rattle.reporter_state.specs.declared.faults.WriteEventError.{WriteEventError}
 unfoldable pub use Rattle.run_text.specs.Header.{replay_header_text}
 pub use Rattle.run_text.specs.NotSeen.{not_seen_text}
 pub use Rattle.run_text.specs.PlainRuns.{IsPlainPrefix}

@@ -1,9 +1,10 @@
 -- Order: in an uninterrupted run, its end does not depend on which of two neighbouring calls came first.
 use Rattle.std.specs.Prelude.{◌≡◌, true, List, [], ◌∷◌, ◌++◌, reverse, Option, None, Some}
-use Rattle.run_model.specs.Names.{TestEvent, ReportCall}
+use Rattle.text_parts.specs.Names.{TestEvent, ReportCall}
 use Rattle.console_reporter.specs.Uninterrupted.{AreUninterrupted, is_end_of_run}
 use Rattle.console_reporter.specs.Configuration.{Configuration, settings_of}
-use Rattle.reporter_state.specs.Names.{entry_of, cancel, entry_key, FinalOutputEntry}
+use Rattle.reporter_state.specs.Names.{entry_of, cancel, entry_key}
+use Rattle.reporter_state.specs.declared.final_output.FinalOutputEntry.{FinalOutputEntry}
 use Rattle.console_reporter.specs.Report.{text}
 use Rattle.run_model.specs.declared.call.ReportCall.TheVariants.{Event, Header, Prefix}
 

@@ -1,10 +1,9 @@
 -- What the laws need of a reporter's input for texts without escape characters.
 use Rattle.std.specs.Prelude.{Bool, List}
 use Rattle.styled_text.specs.Names.{AllByRecursion, HasNoEscape, Text}
-use Rattle.run_model.specs.Names.{TestEventKind, ChildOutputDescription, LiveSpec, ExecuteStatus, ReportCall}
+use Rattle.text_parts.specs.Names.{TestEventKind, ChildOutputDescription, LiveSpec, ExecuteStatus, ReportCall, IsPlainResult, IsPlainWritten, IsPlainScript}
 use Rattle.run_model.specs.declared.event.TestEventKind.TheVariants.{RunStarted, SetupScriptStarted, SetupScriptSlow, SetupScriptFinished, TestStarted, TestSlow, TestAttemptFailedWillRetry, TestRetryStarted, TestFinished, TestSkipped, InfoResponse, RunFinished}
 use Rattle.report_words.specs.PlainTexts.{IsPlainInstance}
-use Rattle.text_parts.specs.Names.{IsPlainResult, IsPlainWritten, IsPlainScript}
 use Rattle.run_text.specs.PlainRuns.{IsPlainHeader, IsPlainNotSeen, IsPlainPrefix, IsPlainScriptStatus}
 use Rattle.info_text.specs.PlainResponses.{IsPlainResponse}
 use Rattle.console_reporter.specs.Configuration.{Configuration}

@@ -1,11 +1,12 @@
 -- The report: the text of each call, from the call, the configuration and the calls before it.
 use Rattle.std.specs.Prelude.{ℕ, Bool, false, List, [], ◌∷◌, ◌++◌, Option, nat_lt, reverse, take, slice_get}
 use Rattle.styled_text.specs.Names.{option_map_or, Text}
-use Rattle.run_model.specs.Names.{final_stats_of_run, UniquePrefix, TestEventKind, NotSeen, RunFinishedStats, StressIndex, ReportCall}
+use Rattle.run_model.specs.Names.{final_stats_of_run, UniquePrefix, NotSeen, StressIndex}
+use Rattle.text_parts.specs.Names.{TestEventKind, RunFinishedStats, ReportCall, final_warnings, Script}
 use Rattle.run_model.specs.declared.event.TestEventKind.TheVariants.{RunStarted, StressSubRunStarted, SetupScriptStarted, SetupScriptSlow, SetupScriptFinished, TestStarted, TestSlow, TestAttemptFailedWillRetry, TestRetryStarted, TestFinished, TestSkipped, RunBeginCancel, RunBeginKill, RunPaused, RunContinued, InfoStarted, InfoResponse, InfoFinished, InputEnter, StressSubRunFinished, RunFinished}
-use Rattle.text_parts.specs.Names.{final_warnings, Script, Settings}
-use Rattle.reporter_state.specs.Names.{test_finish, test_finished_text, attempt_failed_text, test_skipped_text, test_slow_text, test_retry_started_text, test_started_text, cancel, entries_text}
-use Rattle.reporter_state.specs.Names.{final_order, hiding_rank, kept, prefix, FinalOutputEntry}
+use Rattle.reporter_state.specs.Names.{Settings, test_finish, test_finished_text, attempt_failed_text, test_skipped_text, test_slow_text, test_retry_started_text, test_started_text, cancel}
+use Rattle.reporter_state.specs.Names.{entries_text, final_order, hiding_rank, kept, prefix}
+use Rattle.reporter_state.specs.declared.final_output.FinalOutputEntry.{FinalOutputEntry}
 use Rattle.run_text.specs.Cancel.{begin_cancel_text, begin_kill_text}
 use Rattle.run_text.specs.Header.{replay_header_text}
 use Rattle.run_text.specs.Input.{input_enter_text}

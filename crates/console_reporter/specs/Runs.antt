@@ -2,7 +2,8 @@
 use Rattle.std.specs.Prelude.{◌≡◌, ◌≤◌, ◌⊎◌, List, [], ◌++◌, None, Result, OnOk, IfErr, length, reverse, take}
 use Rattle.writers.specs.Writer.{Meaning, successor}
 use Rattle.run_model.specs.declared.call.ReportCall.{ReportCall}
-use Rattle.reporter_state.specs.Names.{refusal_in, RunFault}
+use Rattle.reporter_state.specs.Refusals.{refusal_in}
+use Rattle.reporter_state.specs.declared.faults.RunFault.{RunFault}
 use Rattle.reporter_state.specs.declared.faults.WriteEventError.TheVariants.{Failed, Io, Memory, StoreIo}
 use Rattle.console_reporter.specs.Accepted.{AreAccepted, refusal_at}
 use Rattle.console_reporter.specs.ColourLaw.{ColourLaw, IsSameStoredInColour}

@@ -1,6 +1,6 @@
 -- Statistics: without counters, nothing depends on how far the run was when a test finished.
 use Rattle.std.specs.Prelude.{◌≡◌, List, ◌∷◌, ◌++◌, reverse, None}
-use Rattle.run_model.specs.Names.{TestEvent, TestEventKind, RunStats, ReportCall}
+use Rattle.text_parts.specs.Names.{TestEvent, TestEventKind, RunStats, ReportCall}
 use Rattle.run_model.specs.declared.event.TestEventKind.TheVariants.{TestFinished}
 use Rattle.console_reporter.specs.Configuration.{Configuration, settings_of}
 use Rattle.console_reporter.specs.Report.{report_texts}

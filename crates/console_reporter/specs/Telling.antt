@@ -12,7 +12,8 @@ use Rattle.console_reporter.specs.HeldState.{HasFailed, MayGrowIn, StandsAfter}
 use Rattle.console_reporter.specs.Stored.{stored, stored_text}
 use Rattle.run_model.specs.declared.call.ReportCall.{ReportCall}
 use Rattle.run_model.specs.declared.call.ReportCall.TheVariants.{Event, Header, Prefix}
-use Rattle.reporter_state.specs.Names.{refusal_in, WriteEventError}
+use Rattle.reporter_state.specs.Refusals.{refusal_in}
+use Rattle.reporter_state.specs.declared.faults.WriteEventError.{WriteEventError}
 use Rattle.reporter_state.specs.declared.faults.WriteEventError.TheVariants.{Failed, Io, Memory, StoreIo}
 use Rattle.console_reporter.specs.declared.imp.reporter.DisplayReporter.{DisplayReporter}
 

@@ -1,7 +1,8 @@
 -- Uninterrupted calls, and the end of a run.
 use Rattle.std.specs.Prelude.{◌≡◌, ℕ, ◌<◌, Bool, true, false, List, [], ◌∷◌, ◌++◌, Some}
 use Rattle.std.specs.List.{AllByRecursion}
-use Rattle.run_model.specs.Names.{reason_rank, TestEvent, TestEventKind, ReportCall}
+use Rattle.run_names.specs.Levels.{reason_rank}
+use Rattle.text_parts.specs.Names.{TestEvent, TestEventKind, ReportCall}
 use Rattle.run_model.specs.declared.event.TestEventKind.TheVariants.{RunFinished}
 use Rattle.run_names.specs.declared.level.CancelReason.TheVariants as cause
 use Rattle.reporter_state.specs.Effects.{effect_of}

@@ -1,11 +1,10 @@
 -- The responses of units without escape characters.
 use Rattle.std.specs.Prelude.{Bool}
-use Rattle.run_model.specs.Names.{InfoResponse, UnitState}
+use Rattle.text_parts.specs.Names.{InfoResponse, UnitState, IsPlainResult, IsPlainWritten, IsPlainScript}
 use Rattle.run_model.specs.declared.info.InfoResponse.TheVariants.{SetupScript, Test}
 use Rattle.run_model.specs.declared.info.UnitState.TheVariants.{Running, Exiting, Terminating, Exited, DelayBeforeNextAttempt}
 use Rattle.styled_text.specs.Escapes.{HasNoEscape}
 use Rattle.report_words.specs.PlainTexts.{HoldsIf, IsPlainInstance}
-use Rattle.text_parts.specs.Names.{IsPlainResult, IsPlainWritten, IsPlainScript}
 use Rattle.info_text.specs.Response.{answering_script}
 use Rattle.info_text.specs.State.{signal_of}
 

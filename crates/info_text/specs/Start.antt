@@ -1,8 +1,7 @@
 -- All units are asked for their state, and no further responses are waited for.
 use Rattle.std.specs.Prelude.{ℕ, ◌==◌, codes}
-use Rattle.run_model.specs.declared.stats.RunStats.{RunStats}
-use Rattle.report_words.specs.Names.{ThemeCharacters, Fixed, Line, Lines, Count, Skip, none, words, toned, number, ◌⧺◌, choice}
-use Rattle.text_parts.specs.Names.{bar_line, failure_tone, progress_message}
+use Rattle.text_parts.specs.Names.{RunStats, ThemeCharacters, bar_line, failure_tone, progress_message}
+use Rattle.report_words.specs.Parts.{Fixed, Line, Lines, Count, Skip, none, words, toned, number, ◌⧺◌, choice}
 use Rattle.info_text.specs.Seconds.{seconds_part}
 
 -- n units are asked, those that run. The line has the counts of the run and how long it has taken

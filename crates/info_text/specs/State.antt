@@ -1,7 +1,8 @@
 -- The state of a unit, in the lines of its response.
 use Rattle.std.specs.Prelude.{ℕ, Bool, false, Option, None, Some, [], ◌++◌, codes, nat_lt, if◌then◌else◌, refl}
 use Rattle.styled_text.specs.Names.{decimal, is_some, option_map, HasNoEscape, seconds, plain, Text}
-use Rattle.run_model.specs.Names.{terminate_reason_text, UnitState, UnitTerminateMethod, UnitTerminateReason, UnitTerminatingState, ExecutionResultDescription, RetryData, NextestRunMode, Nanos}
+use Rattle.run_model.specs.Names.{terminate_reason_text, NextestRunMode, Nanos}
+use Rattle.text_parts.specs.Names.{UnitState, UnitTerminateMethod, UnitTerminateReason, UnitTerminatingState, ExecutionResultDescription, RetryData, unit_part, info_text}
 use Rattle.run_model.specs.declared.info.UnitState.TheVariants.{Running, Exiting, Terminating, Exited, DelayBeforeNextAttempt}
 use Rattle.run_model.specs.declared.info.UnitTerminateMethod.TheVariants.{Signal}
 use Rattle.run_model.specs.declared.info.UnitTerminateReason.TheVariants as terminate
@@ -9,7 +10,6 @@ use Rattle.styled_text.proofs.lemmas.Closed.{decimal_free}
 use Rattle.styled_text.proofs.lemmas.Widths.{free_both}
 use Rattle.report_words.proofs.lemmas.FreeWords.{free-seconds}
 use Rattle.report_words.specs.Parts.{Parts, Fixed, Line, Lines, Open, Tone, Count, Fail, Pass, Skip, none, words, Verbatim, toned, Toned, number, given, ◌⧺◌, choice, loosely, openly, plainly}
-use Rattle.text_parts.specs.Names.{unit_part, info_text}
 use Rattle.info_text.specs.Seconds.{seconds_between, seconds_part}
 use Rattle.info_text.specs.declared.state.InfoUnit.{InfoUnit}
 

@@ -1,12 +1,11 @@
 -- What was captured of a stored output, and how many bytes are read for it.
 use Rattle.std.specs.Prelude.{◌≡◌, ℕ, List, [], true, Option, None, Some, Result, Ok, Err, ⊤}
 use Rattle.std.specs.Option.{is_some, option_map}
-use Rattle.run_model.specs.declared.output.ChildOutputDescription.{ChildOutputDescription}
+use Rattle.scene_text.specs.Names.{ChildOutputDescription, stream_in_field, StoredOutput, StoredStream, StreamField}
 use Rattle.run_model.specs.declared.output.ChildOutputDescription.TheVariants as captured
 use Rattle.recorded.specs.Outputs.{IsCounted, IsLoaded, counted, stream_at}
 use Rattle.recorded.specs.declared.outputs.LoadFault.{LoadFault}
 use Rattle.recorded.specs.declared.outputs.StreamFault.{StreamFault}
-use Rattle.scene_text.specs.Names.{stream_in_field, StoredOutput, StoredStream, StreamField}
 use Rattle.scene_fields.specs.declared.stored.StoredOutput.TheVariants.{Split, Combined}
 use Rattle.scene_fields.specs.declared.stored.StoredStream.TheVariants.{NotCaptured, Empty, At}
 use Rattle.scene_fields.specs.declared.stored.StreamField.TheVariants.{First, Second}

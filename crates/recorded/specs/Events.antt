@@ -1,10 +1,9 @@
 -- The event that a replay makes of one whose outputs are stored.
 use Rattle.std.specs.Prelude.{◌≡◌, ◌==◌, ℕ, ◌+◌, List, [], ◌∷◌, length, Bool, true, not, nat_le, if◌then◌else◌, Option, None, Some, Result, Ok, Err, ⊤}
 use Rattle.std.specs.Option.{is_some, option_or}
-use Rattle.run_model.specs.declared.output.ChildOutputDescription.{ChildOutputDescription}
+use Rattle.scene_text.specs.Names.{ChildOutputDescription, end_of, field_of, stream_in_field, PlacedOutput, StoredOutput, StoredStream, StreamField, event_with, SceneEvent, LineFault}
 use Rattle.run_model.specs.declared.output.ChildOutputDescription.TheVariants as captured
 use Rattle.recorded.specs.Outputs.{bytes_at}
-use Rattle.scene_text.specs.Names.{end_of, field_of, stream_in_field, PlacedOutput, StoredOutput, StoredStream, StreamField, event_with, SceneEvent, LineFault}
 use Rattle.recorded.specs.declared.outputs.LoadFault.{LoadFault}
 use Rattle.recorded.specs.declared.outputs.LoadFault.TheVariants.{CannotRead, PastEnd, WrongSum, OutOfMemory}
 use Rattle.recorded.specs.Captured.{captured_stream_at}

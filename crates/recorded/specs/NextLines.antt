@@ -1,6 +1,6 @@
 -- The next line of a recorded run, and what is left where it is wrong.
 use Rattle.std.specs.Prelude.{◌≡◌, ◌⊎◌, ℕ, ◌+◌, Bool, true, false, List, [], ◌∷◌, ◌++◌, length, take, Option, Some}
-use Rattle.scenes.specs.Names.{fault_of_read, IsUnread, Options, Fault}
+use Rattle.scenes.specs.Names.{fault_of_read, IsUnread, Options, Fault, LinesRead}
 use Rattle.command_line.specs.declared.fault.Fault.TheVariants as program
 use Rattle.recorded.specs.declared.outputs.LoadFault.{LoadFault}
 use Rattle.recorded.specs.declared.outputs.LoadFault.TheVariants as load
@@ -8,7 +8,7 @@ use Rattle.recorded.specs.Outputs.{counted}
 use Rattle.recorded.specs.Runs.{needed_for, ended_lines}
 use Rattle.recorded.specs.declared.lines.Taken.{Taken}
 use Rattle.recorded.specs.declared.lines.Taken.TheVariants as taken
-use Rattle.scene_text.specs.Names.{SceneEvent, Lacks, ReadFault, IsNextFault, LeavesLines, ReadsLines, RunLine, before_next, is_begun, lines_after, parsed_lines, recorded_line, LinesRead}
+use Rattle.scene_text.specs.Names.{SceneEvent, Lacks, ReadFault, IsNextFault, LeavesLines, ReadsLines, RunLine, before_next, is_begun, lines_after, parsed_lines, recorded_line}
 use Rattle.scene_fields.specs.declared.fault.LineFault.TheVariants as line
 
 -- what was read of a text: its first line, before a line feed and what is left; or the rest after the last line feed

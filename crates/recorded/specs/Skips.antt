@@ -1,7 +1,8 @@
 -- Which events of a scene need no captured output.
 use Rattle.std.specs.Prelude.{Bool, false, not}
 use Rattle.run_model.specs.Statuses.{summary_of}
-use Rattle.reporter_state.specs.Names.{loads_attempt, loads_finish, loads_script, OutputLoadDecider}
+use Rattle.reporter_state.specs.Loads.{loads_attempt, loads_finish, loads_script}
+use Rattle.reporter_state.specs.declared.decider.OutputLoadDecider.{OutputLoadDecider}
 use Rattle.scene_events.specs.declared.scene.event.SceneEvent.{SceneEvent}
 use Rattle.scene_events.specs.declared.scene.event.SceneEvent.TheVariants as scene
 

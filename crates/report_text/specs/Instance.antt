@@ -1,10 +1,10 @@
 -- Names, iterations and counters as a report shows them.
 use Rattle.std.specs.Prelude.{◌≢◌, ℕ, ◌+◌, List, [], ◌∷◌, ◌++◌, false, Option, None, Some, length, codes, encode_utf8}
-use Rattle.styled_text.specs.Names.{decimal, NonZeroU32, non_zero_u32_get, repeat, Text, right_in, HasNoEscape, shrunk_parts, PartText, Plain, Styled, part_texts, Style, ListStyles}
+use Rattle.styled_text.specs.Names.{decimal, NonZeroU32, non_zero_u32_get, repeat, Text, right_in, HasNoEscape, shrunk_parts, PartText, Plain, Styled, part_texts}
+use Rattle.report_words.specs.Names.{Style, ListStyles, Parts, Open, drawn_given}
 use Rattle.run_names.specs.Names.{module_path_of, last_name_of}
 use Rattle.run_model.specs.Names.{TestInstanceId, StressIndex}
 use Rattle.styled_text.specs.declared.style.Style.TheVariants as style
-use Rattle.report_words.specs.Parts.{Parts, Open, drawn_given}
 use Rattle.report_text.specs.declared.helpers.instance.DisplayCounterIndex.{DisplayCounterIndex}
 use Rattle.report_text.specs.declared.helpers.instance.DisplayCounterIndex.TheVariants.{Counter, Padded}
 

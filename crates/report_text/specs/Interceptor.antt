@@ -1,9 +1,9 @@
 -- The message if an interceptor would get more than one test.
 use Rattle.std.specs.Prelude.{ℕ, ◌-◌, false, List, [], ◌++◌, None, length, nat_lt, if◌then◌else◌, codes}
-use Rattle.styled_text.specs.Names.{decimal, flat_map, plain, styled, Text, Style, ListStyles}
+use Rattle.styled_text.specs.Names.{decimal, flat_map, plain, styled, Text}
+use Rattle.report_words.specs.Names.{Style, ListStyles, tests_word, tests_word_if}
 use Rattle.run_model.specs.Names.{NextestRunMode, OwnedTestInstanceId}
 use Rattle.report_text.specs.Instance.{test_text}
-use Rattle.report_words.specs.Plural.{tests_word, tests_word_if}
 
 unfoldable pub requires_words : Text
 requires_words = codes " requires exactly one "

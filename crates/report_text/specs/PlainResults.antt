@@ -1,5 +1,6 @@
 -- Results without escape characters.
-use Rattle.run_model.specs.Names.{ExecutionResultDescription, FailureDescription}
+use Rattle.run_model.specs.declared.status.ExecutionResultDescription.{ExecutionResultDescription}
+use Rattle.run_model.specs.declared.status.FailureDescription.{FailureDescription}
 use Rattle.run_model.specs.declared.status.ExecutionResultDescription.TheVariants as outcome
 use Rattle.run_model.specs.declared.status.FailureDescription.TheVariants.{ExitCode, Abort}
 use Rattle.report_words.specs.PlainTexts.{IsPlainAbort}

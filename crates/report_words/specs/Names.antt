@@ -9,4 +9,6 @@ unfoldable pub use Rattle.report_words.specs.Plural.{binaries_word, iterations_w
 pub use Rattle.report_words.specs.Theme.{hbar_character}
 unfoldable pub use Rattle.report_words.specs.Theme.{hbar_text}
 pub use Rattle.report_words.specs.declared.durations.TimeUnit.{TimeUnit}
-pub use Rattle.report_words.specs.declared.theme.ThemeCharacters.{ThemeCharacters}
+pub use Rattle.styled_text.specs.declared.style.ListStyles.{ListStyles}
+pub use Rattle.styled_text.specs.declared.style.Style.{Style}
+pub use Rattle.styled_text.specs.declared.style.Styles.{Styles}

@@ -1,10 +1,12 @@
 -- The entries that are kept of the calls, and how the summary lists them.
 use Rattle.std.specs.Prelude.{ℕ, ◌-◌, Bool, false, List, [], ◌∷◌, ◌++◌, Option, Some, None, max}
 use Rattle.styled_text.specs.Names.{option_to_list, Ordering, is_lt, IsSorted, IsStable, Text}
-use Rattle.run_model.specs.Names.{final_rank, reason_rank, final_level_of, stress_key, OwnedTestInstanceId, UniquePrefix, FinalStatusLevel, StressIndex, ReportCall}
+use Rattle.run_model.specs.Names.{final_rank, reason_rank, final_level_of, stress_key, OwnedTestInstanceId, UniquePrefix, FinalStatusLevel, StressIndex}
+use Rattle.text_parts.specs.Names.{ReportCall, DisplayCounterIndex, attempt_output}
 use Rattle.run_names.specs.declared.level.CancelReason.TheVariants as cause
 use Rattle.run_names.specs.declared.level.FinalStatusLevel.TheVariants as final
-use Rattle.text_parts.specs.Names.{DisplayCounterIndex, attempt_output, CountedInstance, Settings}
+use Rattle.text_parts.specs.declared.instance.CountedInstance.{CountedInstance}
+use Rattle.text_parts.specs.declared.settings.Settings.{Settings}
 use Rattle.report_text.specs.declared.helpers.instance.DisplayCounterIndex.TheVariants.{Counter, Padded}
 use Rattle.report_words.specs.Parts.{Parts, Line, Lines, ◌⧺◌, each, paint}
 use Rattle.reporter_state.specs.Effects.{effect_of, entry_of}

@@ -1,7 +1,7 @@
 -- What the summary shows of a test, from its short form.
 use Rattle.std.specs.Prelude.{Bool, ℕ, ℤ, pos, false, if◌then◌else◌}
 use Rattle.std.specs.Ordering.{int_eq}
-use Rattle.run_model.specs.Names.{ExecutionResultDescription, RetryData, StatusCase, StatusSummary}
+use Rattle.text_parts.specs.Names.{ExecutionResultDescription, RetryData, StatusCase, StatusSummary}
 use Rattle.run_model.specs.declared.status.ExecutionResultDescription.TheVariants as outcome
 use Rattle.run_model.specs.declared.status.FailureDescription.TheVariants as failure
 use Rattle.reporter_state.specs.declared.final_output.FinalOutput.{FinalOutput}

@@ -1,8 +1,8 @@
 -- The decision about an output from the metadata of its event.
 use Rattle.std.specs.Prelude.{◌≡◌, Bool, ◌||◌}
-use Rattle.run_model.specs.Names.{is_success, OutputEventKind, ExecutionResultDescription, TestOutputDisplay}
+use Rattle.run_model.specs.Names.{is_success, TestOutputDisplay}
+use Rattle.text_parts.specs.Names.{OutputEventKind, ExecutionResultDescription, is_ever_shown, display_when}
 use Rattle.run_model.specs.declared.output_event.OutputEventKind.TheVariants as decided
-use Rattle.text_parts.specs.Names.{is_ever_shown, display_when}
 use Rattle.reporter_state.specs.Loads.{is_asked_of, loads_attempt, loads_script}
 use Rattle.reporter_state.specs.declared.decider.OutputLoadDecider.{OutputLoadDecider}
 use Rattle.reporter_state.specs.declared.decider.OutputMetadata.{OutputMetadata}

@@ -11,16 +11,13 @@ pub use Rattle.reporter_state.specs.Loads.{decision, is_asked_of, is_stored_by, 
 pub use Rattle.reporter_state.specs.Metadata.{HasMetadata, loads_by_metadata, loads_last}
 pub use Rattle.reporter_state.specs.Order.{key_cmp}
 unfoldable pub use Rattle.reporter_state.specs.Order.{ordered_by, put_in}
-pub use Rattle.reporter_state.specs.Refusals.{AreAcceptedBy, IsAcceptedBy, decider_by, event_refusal, first_refused, is_retried_success, refusal_at_by, refusal_by, refusal_in}
+pub use Rattle.reporter_state.specs.Refusals.{AreAcceptedBy, decider_by, event_refusal, first_refused, is_retried_success, refusal_at_by, refusal_by, refusal_in}
 pub use Rattle.reporter_state.specs.Unread.{is_skip, is_skipped, unread, unread_call}
 pub use Rattle.reporter_state.specs.declared.decider.OutputLoadDecider.{OutputLoadDecider}
 pub use Rattle.reporter_state.specs.declared.decider.OutputMetadata.{OutputMetadata}
-pub use Rattle.reporter_state.specs.declared.faults.RunFault.{RunFault}
-pub use Rattle.reporter_state.specs.declared.faults.WriteEventError.{WriteEventError}
 pub use Rattle.reporter_state.specs.declared.final_output.FinalOutput.{FinalOutput}
 pub use Rattle.reporter_state.specs.declared.final_output.FinalOutputEntry.{FinalOutputEntry}
 pub use Rattle.reporter_state.specs.declared.kept_test.KeptTest.{KeptTest}
-pub use Rattle.reporter_state.specs.declared.state.ReporterState.{ReporterState}
 unfoldable pub use Rattle.store_text.specs.Netstring.{netstring, netstring_head}
 unfoldable pub use Rattle.store_text.specs.Record.{record_text}
 pub use Rattle.store_text.specs.StoredOutput.{is_stored, written_text}
@@ -35,3 +32,6 @@ unfoldable pub use Rattle.test_text.specs.TestSkipped.{skip_line, test_skipped_t
 unfoldable pub use Rattle.test_text.specs.TestSlow.{has_number, is_level_exceeded, slow_text, terminating_text, terminating_word, test_slow_text}
 unfoldable pub use Rattle.test_text.specs.TestStarted.{command_text, retry_start_line, start_line, test_retry_started_text, test_started_text}
 pub use Rattle.test_text.specs.declared.status_line.StatusLineKind.{StatusLineKind}
+pub use Rattle.text_parts.specs.declared.finish.OutputTiming.{OutputTiming}
+pub use Rattle.text_parts.specs.declared.instance.CountedInstance.{CountedInstance}
+pub use Rattle.text_parts.specs.declared.settings.Settings.{Settings}

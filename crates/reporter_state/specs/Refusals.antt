@@ -1,7 +1,8 @@
 -- Which calls a decider refuses: from the call alone, whatever came before.
 use Rattle.std.specs.Prelude.{◌≡◌, ℕ, List, Bool, false, if◌then◌else◌, Option, None, Some, slice_get}
 use Rattle.styled_text.specs.Names.{AllByRecursion, position, is_some, option_and_then}
-use Rattle.run_model.specs.Names.{is_success, TestEventKind, ReportCall}
+use Rattle.run_model.specs.Statuses.{is_success}
+use Rattle.text_parts.specs.Names.{TestEventKind, ReportCall}
 use Rattle.run_model.specs.declared.event.TestEventKind.TheVariants.{TestAttemptFailedWillRetry}
 use Rattle.store_text.specs.declared.config.StoreConfig.{StoreConfig}
 use Rattle.reporter_state.specs.Loads.{lacks_output}

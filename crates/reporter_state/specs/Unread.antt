@@ -1,6 +1,7 @@
 -- A list of calls without the outputs that the decider skips.
 use Rattle.std.specs.Prelude.{Bool, true, false, List, map, Option, None, Some, if◌then◌else◌}
-use Rattle.run_model.specs.Names.{unloaded_event, TestEventKind, LoadOutput, ReportCall}
+use Rattle.run_model.specs.Unloaded.{unloaded_event}
+use Rattle.text_parts.specs.Names.{TestEventKind, LoadOutput, ReportCall}
 use Rattle.run_model.specs.declared.output_event.LoadOutput.TheVariants.{Load, Skip}
 use Rattle.reporter_state.specs.Loads.{decision}
 use Rattle.run_model.specs.declared.call.ReportCall.TheVariants.{Event, Header, Prefix}

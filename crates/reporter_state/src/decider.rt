@@ -1,6 +1,7 @@
 //! What a reporter decides about an event from its metadata alone.
 
-ghost use Rattle.run_model.specs.Names.{RecordedOutput, RecordingSpec, OutputEventKind, recorded_kind, summary_of, TestEventKind};
+ghost use Rattle.text_parts.specs.Names.{RecordedOutput, RecordingSpec, OutputEventKind, TestEventKind};
+ghost use Rattle.run_model.specs.Names.{recorded_kind, summary_of};
 ghost use Rattle.std.specs.Prelude.{◌≡◌, IfSome, None, Some, false};
 ghost use Rattle.std.specs.Option.{is_some, option_map};
 ghost use Rattle.reporter_state.specs.Names.{decider_by, event_refusal, first_refused, is_retried_success, refusal_by, refusal_in, HasMetadata, loads_by_metadata, loads_last, decision, is_asked_of};

@@ -1,7 +1,6 @@
 -- The state of a run, when it is requested by a key.
 use Rattle.std.specs.Prelude.{ℕ, codes}
-use Rattle.run_model.specs.declared.stats.RunStats.{RunStats}
-use Rattle.text_parts.specs.Names.{clock, failure_tone, progress_message}
+use Rattle.text_parts.specs.Names.{RunStats, clock, failure_tone, progress_message}
 use Rattle.report_words.specs.Parts.{Fixed, Open, Line, Count, words, right, number, ◌⧺◌}
 
 -- how many of how many tests have finished

@@ -2,9 +2,9 @@
 use Rattle.std.specs.Prelude.{ℕ, false, ◌-◌, List, ◌==◌, Option, None, Some, length, codes}
 use Rattle.run_model.specs.Names.{NextestRunMode, OwnedTestInstanceId, NotSeen}
 use Rattle.report_text.specs.Instance.{test_text}
-use Rattle.report_words.specs.Names.{tests_word, Parts, Fixed, Line, Lines, Count, Skip, none, words, Word, right, number, ◌⧺◌, choice, each, plainly, drawn_given, paint}
+use Rattle.report_words.specs.Names.{tests_word, Parts, Fixed, Line, Lines, Count, Skip, none, words, Word, right, number, ◌⧺◌, choice, each, plainly, drawn_given, paint, Styles}
 use Rattle.report_words.proofs.lemmas.FreeWords.{free-tests_word_if}
-use Rattle.styled_text.specs.Names.{Text, Styles}
+use Rattle.styled_text.specs.Texts.{Text}
 
 -- how many tests there are
 unfoldable pub not_seen_start : NextestRunMode → ℕ → Fixed Line

@@ -1,6 +1,8 @@
 -- What an event says once captured output is put into it.
 use Rattle.std.specs.Prelude.{ℕ, length, ◌==◌, if◌then◌else◌}
-use Rattle.run_model.specs.Names.{Attempts, attempt_with_output, execution_with_output, ChildOutputDescription, LiveSpec}
+use Rattle.run_model.specs.Attempts.{Attempts, attempt_with_output, execution_with_output}
+use Rattle.run_model.specs.declared.output.ChildOutputDescription.{ChildOutputDescription}
+use Rattle.run_model.specs.declared.output.LiveSpec.{LiveSpec}
 use Rattle.scene_events.specs.SceneOutputs.{with_output_at}
 use Rattle.scene_events.specs.declared.scene.event.SceneEvent.{SceneEvent}
 use Rattle.scene_events.specs.declared.scene.event.SceneEvent.TheVariants as scene

@@ -1,6 +1,9 @@
 -- The short form of attempts, and the attempt of a setup script.
 use Rattle.std.specs.Prelude.{[], Bool, Some}
-use Rattle.run_model.specs.Names.{Attempt, ChildOutputDescription, LiveSpec, SetupScriptExecuteStatus}
+use Rattle.run_model.specs.Attempts.{Attempt}
+use Rattle.run_model.specs.declared.output.ChildOutputDescription.{ChildOutputDescription}
+use Rattle.run_model.specs.declared.output.LiveSpec.{LiveSpec}
+use Rattle.run_model.specs.declared.status.SetupScriptExecuteStatus.{SetupScriptExecuteStatus}
 use Rattle.scene_events.specs.SceneOutputs.{BeforeLast, no_output, written}
 use Rattle.scene_events.specs.declared.scene.attempts.EndedAttempt.{EndedAttempt}
 use Rattle.scene_events.specs.declared.scene.attempts.Marks.{Marks}

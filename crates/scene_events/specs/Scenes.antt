@@ -1,6 +1,10 @@
 -- What a scene asks of a reporter.
 use Rattle.std.specs.Prelude.{◌≡◌, ℕ, List, [], ◌∷◌, ◌++◌, Bool, true, false, not, ◌||◌, Option, Result, Ok, Err}
-use Rattle.run_model.specs.Names.{has_loaded_output, planned_stats, is_success, TestEventKind, CancelReason, TestInstanceId, ReplayHeader, RunStats, ReportCall}
+use Rattle.run_model.specs.Names.{has_loaded_output, planned_stats, is_success, CancelReason, TestInstanceId}
+use Rattle.run_model.specs.declared.event.TestEventKind.{TestEventKind}
+use Rattle.run_model.specs.declared.replay.ReplayHeader.{ReplayHeader}
+use Rattle.run_model.specs.declared.stats.RunStats.{RunStats}
+use Rattle.run_model.specs.declared.call.ReportCall.{ReportCall}
 use Rattle.run_model.specs.declared.event.TestEventKind.TheVariants as kind
 use Rattle.run_model.specs.declared.info.InfoResponse.TheVariants as response
 use Rattle.run_model.specs.declared.call.ReportCall.TheVariants as call

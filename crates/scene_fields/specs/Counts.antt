@@ -3,7 +3,9 @@ use Rattle.std.specs.Prelude.{◌≡◌, ◌==◌, ◌+◌, ℕ, List, [], ◌�
 use Rattle.std.specs.List.{list_any}
 use Rattle.std.specs.Option.{option_and_then, option_map}
 use Rattle.std.proofs.Common.{refl}
-use Rattle.run_model.specs.Names.{planned_stats, SkipCounts, RunStats}
+use Rattle.run_model.specs.Stats.{planned_stats}
+use Rattle.run_model.specs.declared.event.SkipCounts.{SkipCounts}
+use Rattle.run_model.specs.declared.stats.RunStats.{RunStats}
 use Rattle.scene_fields.specs.Split.{cut, split_on}
 use Rattle.scene_fields.specs.Numbers.{number_in}
 use Rattle.scene_fields.specs.Values.{reason_in}

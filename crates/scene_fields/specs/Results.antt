@@ -1,7 +1,8 @@
 -- How an attempt ended, as a scene writes it.
 use Rattle.std.specs.Prelude.{ℕ, List, Bool, true, false, codes, bytes_eq, if◌then◌else◌, ℤ, Option, None, Some}
 use Rattle.std.specs.Option.{option_map}
-use Rattle.run_model.specs.Names.{AbortDescription, ExecutionResultDescription}
+use Rattle.run_names.specs.declared.abort.AbortDescription.{AbortDescription}
+use Rattle.run_model.specs.declared.status.ExecutionResultDescription.{ExecutionResultDescription}
 use Rattle.run_names.specs.declared.abort.AbortDescription.TheVariants as abort
 use Rattle.run_model.specs.declared.status.ExecutionResultDescription.TheVariants as outcome
 use Rattle.run_model.specs.declared.status.FailureDescription.TheVariants as failure

@@ -3,7 +3,8 @@ use Rattle.std.specs.Prelude.{ℕ, zero, suc, List, [], ◌∷◌, map, Bool, tr
 use Rattle.std.specs.Option.{option_map}
 use Rattle.std.specs.declared.num.NonZeroU32.{NonZeroU32}
 use native.Mathlib.Nat.{zero-lt-suc}
-use Rattle.run_model.specs.Names.{display_name, NextestRunMode, TestOutputDisplay, CancelReason, FinalStatusLevel, FlakyResult, StressIndex}
+use Rattle.run_model.specs.Names.{display_name, NextestRunMode, TestOutputDisplay, CancelReason, FinalStatusLevel, StressIndex}
+use Rattle.run_model.specs.declared.status.FlakyResult.{FlakyResult}
 use Rattle.run_names.specs.declared.config.NextestRunMode.TheVariants as mode
 use Rattle.run_names.specs.declared.config.TestOutputDisplay.TheVariants as display
 use Rattle.run_names.specs.declared.level.CancelReason.TheVariants as reason

@@ -2,7 +2,13 @@
 use Rattle.std.specs.Option.{option_flatten, option_map}
 use Rattle.std.specs.Prelude.{ℕ, zero, suc, ◌+◌, ◌/◌, ◌^◌, List, [], ◌∷◌, ◌++◌, length, if◌then◌else◌, nat_lt, Some, Err, ◌==◌, ◌&&◌, Option, None, codes, bytes_eq, ◌≡◌, Bool, true, false, Ok}
 use Rattle.uuid.specs.Text.{parsed}
-use Rattle.run_model.specs.Names.{Attempt, Attempts, final_stats_of, UnitState, ExecutionResultDescription, ChildOutputDescription, LiveSpec, FlakyResult, RetryData, UniquePrefix, NotSeen}
+use Rattle.run_model.specs.Names.{Attempt, Attempts, final_stats_of, UniquePrefix, NotSeen}
+use Rattle.run_model.specs.declared.info.UnitState.{UnitState}
+use Rattle.run_model.specs.declared.status.ExecutionResultDescription.{ExecutionResultDescription}
+use Rattle.run_model.specs.declared.output.ChildOutputDescription.{ChildOutputDescription}
+use Rattle.run_model.specs.declared.output.LiveSpec.{LiveSpec}
+use Rattle.run_model.specs.declared.status.FlakyResult.{FlakyResult}
+use Rattle.run_model.specs.declared.status.RetryData.{RetryData}
 use Rattle.run_model.specs.declared.output.ChildOutputDescription.TheVariants as streams
 use Rattle.run_model.specs.declared.stats.RunFinishedStats.TheVariants.{Single, Stress}
 use Rattle.scene_events.specs.SceneOutputs.{written, no_output}

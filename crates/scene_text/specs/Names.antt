@@ -1,4 +1,14 @@
 -- The names that the crates above import in one line. A new one is added to the line of its module.
+pub use Rattle.run_model.specs.declared.call.ReportCall.{ReportCall}
+pub use Rattle.run_model.specs.declared.event.TestEvent.{TestEvent}
+pub use Rattle.run_model.specs.declared.event.TestEventKind.{TestEventKind}
+pub use Rattle.run_model.specs.declared.info.UnitState.{UnitState}
+pub use Rattle.run_model.specs.declared.output.ChildOutputDescription.{ChildOutputDescription}
+pub use Rattle.run_model.specs.declared.output.LiveSpec.{LiveSpec}
+pub use Rattle.run_model.specs.declared.stats.RunStats.{RunStats}
+pub use Rattle.run_model.specs.declared.status.ExecutionResultDescription.{ExecutionResultDescription}
+pub use Rattle.run_model.specs.declared.status.FlakyResult.{FlakyResult}
+pub use Rattle.run_model.specs.declared.status.RetryData.{RetryData}
 pub use Rattle.scene_events.specs.Loads.{answer_with, attempts_with, event_with}
 pub use Rattle.scene_events.specs.Moments.{Day, clock_of, day_of}
 pub use Rattle.scene_events.specs.SceneAttempts.{script_status}

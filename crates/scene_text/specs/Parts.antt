@@ -3,7 +3,12 @@ use Rattle.std.specs.Prelude.{ℕ, List, [], ◌∷◌, Bool, ◌&&◌, nat_le, 
 use Rattle.std.specs.Int.{is_in_range}
 use Rattle.std.specs.Option.{option_and_then, option_map}
 use Rattle.jiff_core.specs.Calendar.{days_in_month}
-use Rattle.run_model.specs.Names.{terminate_reason_text, UnitState, UnitTerminateReason, Highlight, HighlightStream, ExecutionResultDescription, StressCount, StressProgress, Nanos}
+use Rattle.run_model.specs.Names.{terminate_reason_text, StressCount, StressProgress, Nanos}
+use Rattle.run_model.specs.declared.info.UnitState.{UnitState}
+use Rattle.run_model.specs.declared.info.UnitTerminateReason.{UnitTerminateReason}
+use Rattle.run_model.specs.declared.output.Highlight.{Highlight}
+use Rattle.run_model.specs.declared.output.HighlightStream.{HighlightStream}
+use Rattle.run_model.specs.declared.status.ExecutionResultDescription.{ExecutionResultDescription}
 use Rattle.run_model.specs.declared.info.UnitState.TheVariants as state
 use Rattle.run_model.specs.declared.info.UnitTerminateMethod.TheVariants as method
 use Rattle.run_model.specs.declared.info.UnitTerminateReason.TheVariants as reason

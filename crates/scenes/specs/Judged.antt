@@ -1,7 +1,8 @@
 -- Scenes that are judged: each line by itself, and then whether the scene's reporter would refuse an event.
 use Rattle.std.specs.Prelude.{◌≡◌, ◌⊎◌, ℕ, List, ◌∷◌, ◌++◌, get_or, length, Option, None, Some, Result, Ok, Err}
 use Rattle.std.specs.Option.{option_and_then, option_map}
-use Rattle.reporter_state.specs.Names.{first_refused, refusal_at_by, refusal_by, OutputLoadDecider}
+use Rattle.reporter_state.specs.Refusals.{first_refused, refusal_at_by, refusal_by}
+use Rattle.reporter_state.specs.declared.decider.OutputLoadDecider.{OutputLoadDecider}
 use Rattle.run_model.specs.declared.call.ReportCall.{ReportCall}
 use Rattle.scenes.specs.Reports.{AreCallsOf, fault_at_call, decider_for}
 use Rattle.scene_text.specs.Names.{event_lines, no_lines, text_lines, text_read, IsCallOf, SceneConfig, SceneEvent, LineFault}

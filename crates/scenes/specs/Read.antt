@@ -3,7 +3,8 @@ use Rattle.std.specs.Prelude.{◌≡◌, ◌⊎◌, ℕ, ◌+◌, Bool, true, fa
 use Rattle.command_line.specs.Faults.{fault_of_read}
 use Rattle.command_line.specs.Pieces.{IsUnread}
 use Rattle.command_line.specs.declared.fault.Fault.{Fault}
-use Rattle.scene_text.specs.Names.{ReadFault, AllRead, IsNextFault, ParsedLines, RunLine, event_lines, is_begun, no_lines, parsed_lines, lines_after, text_lines, LinesRead}
+use Rattle.scene_text.specs.Names.{ReadFault, AllRead, IsNextFault, ParsedLines, RunLine, event_lines, is_begun, no_lines, parsed_lines, lines_after, text_lines}
+use Rattle.scene_text.specs.declared.reader.LinesRead.{LinesRead}
 
 -- lines that are left of a text: its pieces, or none where it ended with the line before
 abbrev pub AreLeft : List RunLine → List ℕ → Type 0

@@ -2,12 +2,14 @@
 -- that no report shows.
 use Rattle.std.specs.Prelude.{ℕ, List, reverse, false, if◌then◌else◌, Option, ◌≡◌, Bool}
 use Rattle.styled_text.specs.Names.{option_map, AllZip, Text}
-use Rattle.run_model.specs.Names.{default_config_filter, ReportCall}
-use Rattle.text_parts.specs.Names.{overridden, ShowProgress, DisplayerKind}
+use Rattle.run_names.specs.Filters.{default_config_filter}
+use Rattle.text_parts.specs.Names.{ReportCall, overridden, ShowProgress, DisplayerKind}
 use Rattle.unit_report.specs.declared.config.ShowProgress.TheVariants as progress
 use Rattle.unit_report.specs.declared.unit_output.DisplayerKind.TheVariants as displayer
-use Rattle.reporter_state.specs.Names.{StoreConfig, WriteEventError, unread, unread_call, OutputLoadDecider}
-use Rattle.console_reporter.specs.Names.{Configuration, configured_in, report, stored, DisplayReporterBuilder, Surroundings, decider_of, IsIsolated}
+use Rattle.reporter_state.specs.Names.{StoreConfig, unread, unread_call}
+use Rattle.console_reporter.specs.Names.{WriteEventError, OutputLoadDecider, Configuration, configured_in, report, stored, decider_of, IsIsolated}
+use Rattle.console_reporter.specs.declared.imp.builder.DisplayReporterBuilder.{DisplayReporterBuilder}
+use Rattle.console_reporter.specs.declared.imp.builder.Surroundings.{Surroundings}
 use Rattle.reporter_state.specs.declared.faults.WriteEventError.TheVariants.{RetriedSuccess, OutputNotLoaded, Io, Memory, Failed, StoreIo}
 use Rattle.scene_text.specs.Names.{IsCallOf, SceneConfig, SceneEvent}
 use Rattle.scene_fields.specs.declared.fault.LineFault.TheVariants as line

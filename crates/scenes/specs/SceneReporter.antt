@@ -1,7 +1,8 @@
 -- The events of a scene, reported one after the other: what a reporter of some has done, and what stops one.
 use Rattle.std.specs.Prelude.{◌≡◌, ◌⊎◌, ℕ, List, [], ◌∷◌, ◌++◌, get_or, length, reverse, Option}
 use Rattle.writers.specs.Writer.{Meaning}
-use Rattle.console_reporter.specs.Names.{StandsAfter, store_meaning, Store}
+use Rattle.console_reporter.specs.Names.{StandsAfter, store_meaning}
+use Rattle.console_reporter.specs.declared.imp.store.Store.{Store}
 use Rattle.scene_text.specs.Names.{SceneConfig, SceneEvent, LineFault, ParsedLines}
 use Rattle.scenes.specs.Judged.{RefusesEvent}
 use Rattle.scenes.specs.Prints.{Begins, Prints, PrintsFollowed}

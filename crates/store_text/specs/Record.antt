@@ -1,8 +1,8 @@
 -- The record of a finished test.
 use Rattle.std.specs.Prelude.{◌++◌, codes}
-use Rattle.run_model.specs.Names.{Attempts, TestInstanceId, ChildOutputDescription, LiveSpec}
+use Rattle.run_model.specs.Names.{Attempts, TestInstanceId}
+use Rattle.text_parts.specs.Names.{ChildOutputDescription, LiveSpec, short_word}
 use Rattle.styled_text.specs.Texts.{Text}
-use Rattle.text_parts.specs.ResultWords.{short_word}
 use Rattle.store_text.specs.Netstring.{netstring}
 use Rattle.store_text.specs.StoredOutput.{stored_output}
 use Rattle.store_text.specs.declared.config.StoreConfig.{StoreConfig}

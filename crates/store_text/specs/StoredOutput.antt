@@ -1,6 +1,7 @@
 -- The output that a store keeps.
 use Rattle.std.specs.Prelude.{Bool, [], ◌++◌, Option, None, Some, if◌then◌else◌}
-use Rattle.run_model.specs.Names.{Attempts, Written, case_of, is_success_case, ChildOutputDescription, LiveSpec, StatusCase, decoded_text}
+use Rattle.run_model.specs.Names.{Attempts, Written, case_of, is_success_case, decoded_text}
+use Rattle.text_parts.specs.Names.{ChildOutputDescription, LiveSpec, StatusCase}
 use Rattle.run_model.specs.declared.output.ChildExecutionOutputDescription.TheVariants.{Output, StartError}
 use Rattle.run_model.specs.declared.output.ChildOutputDescription.TheVariants.{Split, Combined, NotLoaded}
 use Rattle.styled_text.specs.Texts.{Text}

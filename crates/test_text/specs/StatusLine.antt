@@ -1,14 +1,15 @@
 -- The line of a finished test.
 use Rattle.std.specs.Prelude.{ℕ, Bool, true, false, ◌++◌, ◌&&◌, ◌==◌, codes, if◌then◌else◌, refl}
 use Rattle.styled_text.specs.Names.{decimal, Text, HasNoEscape}
-use Rattle.run_model.specs.Names.{ExecutionResultDescription, FlakyResult, RetryData, StatusCase, StatusSummary}
+use Rattle.text_parts.specs.Names.{ExecutionResultDescription, FlakyResult, RetryData, StatusCase, StatusSummary, instance_part, bracketed, abort_line, long_word, short_word, success_word}
+use Rattle.text_parts.specs.Names.{is_plain_success}
 use Rattle.run_model.specs.declared.status.FlakyResult.TheVariants as flaky
 use Rattle.run_model.specs.declared.status.StatusCase.TheVariants.{Success, Flaky, Failure}
 use Rattle.styled_text.proofs.lemmas.Closed.{decimal_free}
 use Rattle.styled_text.proofs.lemmas.Widths.{free_both}
 use Rattle.text_parts.proofs.lemmas.ResultColourPairs.{free-success_word}
 use Rattle.report_words.specs.Parts.{Fixed, Parts, Open, Line, Lines, Tone, Pass, Fail, Skip, none, words, toned, Right, given_right, ◌⧺◌, choice, plainly}
-use Rattle.text_parts.specs.Names.{instance_part, bracketed, abort_line, long_word, short_word, success_word, is_plain_success, CountedInstance}
+use Rattle.text_parts.specs.declared.instance.CountedInstance.{CountedInstance}
 use Rattle.test_text.specs.declared.status_line.StatusLine.{StatusLine}
 use Rattle.test_text.specs.declared.status_line.StatusLineKind.{StatusLineKind}
 use Rattle.test_text.specs.declared.status_line.StatusLineKind.TheVariants.{Intermediate, Final}

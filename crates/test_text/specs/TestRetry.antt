@@ -1,12 +1,14 @@
 -- A failed attempt that is retried.
 use Rattle.std.specs.Prelude.{◌≡◌, ℕ, ◌+◌, Bool, true, false, Option, ◌++◌, ◌==◌, codes, unwrap_or}
 use Rattle.styled_text.specs.Names.{decimal, Text, HasNoEscape}
-use Rattle.run_model.specs.Names.{Attempt, is_immediate, has_loaded_output, TestOutputDisplay, TestInstanceId, RetryData, StressIndex}
+use Rattle.run_model.specs.Names.{Attempt, is_immediate, has_loaded_output, TestOutputDisplay, TestInstanceId, StressIndex}
+use Rattle.text_parts.specs.Names.{RetryData, instance_end, padded_instance, short_word, is_level_shown, bracketed, by_delay, attempt_output}
 use Rattle.run_names.specs.declared.level.StatusLevel.TheVariants as status
 use Rattle.styled_text.proofs.lemmas.Closed.{decimal_free}
 use Rattle.styled_text.proofs.lemmas.Widths.{free_both}
 use Rattle.report_words.specs.Parts.{Parts, Line, Lines, Retry, none, words, Right, given_right, ◌⧺◌, choice}
-use Rattle.text_parts.specs.Names.{instance_end, padded_instance, short_word, is_level_shown, bracketed, by_delay, attempt_output, CountedInstance, Settings}
+use Rattle.text_parts.specs.declared.instance.CountedInstance.{CountedInstance}
+use Rattle.text_parts.specs.declared.settings.Settings.{Settings}
 use Rattle.test_text.specs.StatusLine.{attempt_words}
 
 -- its line

@@ -1,11 +1,13 @@
 -- A test that runs longer than it should.
 use Rattle.std.specs.Prelude.{ℕ, Bool, true, false, ◌&&◌, Option, codes, nat_le, nat_lt, if◌then◌else◌, refl}
-use Rattle.run_model.specs.Names.{status_rank, StatusLevel, TestInstanceId, RetryData, StressIndex}
+use Rattle.run_model.specs.Names.{status_rank, StatusLevel, TestInstanceId, StressIndex}
+use Rattle.text_parts.specs.Names.{RetryData, instance_end, padded_instance, is_level_shown, exceeded}
 use Rattle.run_names.specs.declared.level.StatusLevel.TheVariants as status
 use Rattle.styled_text.specs.Names.{HasNoEscape, Text}
 use Rattle.report_words.proofs.lemmas.FreeWords.{free-if}
 use Rattle.report_words.specs.Parts.{Parts, Line, Lines, Tone, Fail, Retry, Skip, none, words, Right, ◌⧺◌, choice}
-use Rattle.text_parts.specs.Names.{instance_end, padded_instance, is_level_shown, exceeded, CountedInstance, Settings}
+use Rattle.text_parts.specs.declared.instance.CountedInstance.{CountedInstance}
+use Rattle.text_parts.specs.declared.settings.Settings.{Settings}
 use Rattle.test_text.specs.StatusLine.{attempt_words, free-attempt_words}
 
 -- the end of a slow test's line: how long the attempt has taken, and the test

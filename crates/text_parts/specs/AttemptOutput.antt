@@ -1,13 +1,16 @@
 -- The output of a finished attempt or of a setup script, and how it ended.
-use Rattle.styled_text.specs.Names.{int_eq, Text, HasNoEscape, Style, Styles}
+use Rattle.styled_text.specs.Names.{int_eq, Text, HasNoEscape}
+use Rattle.report_words.specs.Names.{Style, Styles, Parts, Line, Lines, none, words, Word, ◌⧺◌, choice, drawn_given_line}
 use Rattle.std.specs.Prelude.{pos, Bool, true, false, not, ◌&&◌, None, Some, [], codes, if◌then◌else◌, refl}
-use Rattle.run_model.specs.Names.{Written, ExecutionResultDescription, FailureDescription, UnitKind}
+use Rattle.run_model.specs.Names.{Written, UnitKind}
+use Rattle.run_model.specs.declared.status.ExecutionResultDescription.{ExecutionResultDescription}
+use Rattle.run_model.specs.declared.status.FailureDescription.{FailureDescription}
 use Rattle.run_model.specs.declared.status.ExecutionResultDescription.TheVariants as outcome
 use Rattle.run_model.specs.declared.status.FailureDescription.TheVariants.{ExitCode, Abort}
 use Rattle.run_model.specs.declared.status.LeakTimeoutResult.TheVariants as leak
 use Rattle.run_model.specs.declared.status.SlowTimeoutResult.TheVariants as slow
 use Rattle.run_names.specs.declared.unit.UnitKind.TheVariants as unit
-use Rattle.report_words.specs.Names.{Parts, Line, Lines, none, words, Word, ◌⧺◌, choice, drawn_given_line, ThemeCharacters}
+use Rattle.report_words.specs.declared.theme.ThemeCharacters.{ThemeCharacters}
 use Rattle.unit_report.specs.UnitOutput.{OutputLayout, execution_output}
 use Rattle.unit_report.proofs.lemmas.UnitColourPairs.{ends-execution_output}
 use Rattle.unit_report.specs.declared.unit_output.header.OutputHeader.{OutputHeader}

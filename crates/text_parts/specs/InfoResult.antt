@@ -1,7 +1,11 @@
 -- The result of an attempt, in words.
 use Rattle.std.specs.Prelude.{ℤ, Bool, true, false, Option, None, Some, [], ◌++◌, codes, refl}
 use Rattle.styled_text.specs.Names.{signed_decimal, Text, plain, HasNoEscape}
-use Rattle.run_model.specs.Names.{AbortDescription, ExecutionResultDescription, FailureDescription, LeakTimeoutResult, SlowTimeoutResult}
+use Rattle.run_names.specs.declared.abort.AbortDescription.{AbortDescription}
+use Rattle.run_model.specs.declared.status.ExecutionResultDescription.{ExecutionResultDescription}
+use Rattle.run_model.specs.declared.status.FailureDescription.{FailureDescription}
+use Rattle.run_model.specs.declared.status.LeakTimeoutResult.{LeakTimeoutResult}
+use Rattle.run_model.specs.declared.status.SlowTimeoutResult.{SlowTimeoutResult}
 use Rattle.run_names.specs.declared.abort.AbortDescription.TheVariants.{UnixSignal, WindowsNtStatus, WindowsJobObject}
 use Rattle.run_model.specs.declared.status.ExecutionResultDescription.TheVariants as outcome
 use Rattle.run_model.specs.declared.status.FailureDescription.TheVariants.{ExitCode, Abort}

@@ -5,6 +5,38 @@ unfoldable pub use Rattle.report_text.specs.Instance.{counter_prefix, stress_pre
 pub use Rattle.report_text.specs.PlainResults.{IsPlainResult}
 unfoldable pub use Rattle.report_text.specs.Quoting.{shell_words}
 pub use Rattle.report_text.specs.declared.helpers.instance.DisplayCounterIndex.{DisplayCounterIndex}
+pub use Rattle.report_words.specs.declared.theme.ThemeCharacters.{ThemeCharacters}
+pub use Rattle.run_model.specs.declared.call.ReportCall.{ReportCall}
+pub use Rattle.run_model.specs.declared.event.SkipCounts.{SkipCounts}
+pub use Rattle.run_model.specs.declared.event.TestCounts.{TestCounts}
+pub use Rattle.run_model.specs.declared.event.TestEvent.{TestEvent}
+pub use Rattle.run_model.specs.declared.event.TestEventKind.{TestEventKind}
+pub use Rattle.run_model.specs.declared.info.InfoResponse.{InfoResponse, InfoResponse as Response}
+pub use Rattle.run_model.specs.declared.info.SetupScriptInfoResponse.{SetupScriptInfoResponse}
+pub use Rattle.run_model.specs.declared.info.TestInfoResponse.{TestInfoResponse}
+pub use Rattle.run_model.specs.declared.info.UnitState.{UnitState}
+pub use Rattle.run_model.specs.declared.info.UnitTerminateMethod.{UnitTerminateMethod}
+pub use Rattle.run_model.specs.declared.info.UnitTerminateReason.{UnitTerminateReason}
+pub use Rattle.run_model.specs.declared.info.UnitTerminatingState.{UnitTerminatingState}
+pub use Rattle.run_model.specs.declared.output.ChildOutputDescription.{ChildOutputDescription}
+pub use Rattle.run_model.specs.declared.output.LiveSpec.{LiveSpec}
+pub use Rattle.run_model.specs.declared.output.RecordedOutput.{RecordedOutput}
+pub use Rattle.run_model.specs.declared.output.RecordingSpec.{RecordingSpec}
+pub use Rattle.run_model.specs.declared.output_event.LoadOutput.{LoadOutput}
+pub use Rattle.run_model.specs.declared.output_event.OutputEventKind.{OutputEventKind}
+pub use Rattle.run_model.specs.declared.replay.ReplayHeader.{ReplayHeader}
+pub use Rattle.run_model.specs.declared.stats.FinalRunStats.{FinalRunStats}
+pub use Rattle.run_model.specs.declared.stats.RunFinishedStats.{RunFinishedStats}
+pub use Rattle.run_model.specs.declared.stats.RunStats.{RunStats}
+pub use Rattle.run_model.specs.declared.stats.StressFinalRunStats.{StressFinalRunStats}
+pub use Rattle.run_model.specs.declared.stats.StressRunStats.{StressRunStats}
+pub use Rattle.run_model.specs.declared.status.ExecuteStatus.{ExecuteStatus}
+pub use Rattle.run_model.specs.declared.status.ExecutionResultDescription.{ExecutionResultDescription}
+pub use Rattle.run_model.specs.declared.status.FlakyResult.{FlakyResult}
+pub use Rattle.run_model.specs.declared.status.RetryData.{RetryData}
+pub use Rattle.run_model.specs.declared.status.SetupScriptExecuteStatus.{SetupScriptExecuteStatus}
+pub use Rattle.run_model.specs.declared.status.StatusCase.{StatusCase}
+pub use Rattle.run_model.specs.declared.status.StatusSummary.{StatusSummary}
 pub use Rattle.text_parts.specs.AbortLine.{line_of_abort, line_of_failure}
 unfoldable pub use Rattle.text_parts.specs.AbortLine.{abort_line, indented_message, nt_line, nt_message}
 pub use Rattle.text_parts.specs.AttemptOutput.{attempt_output, exec_fail_header, finished_layout, has_info_after_failure, has_info_line, header_style, layout_in, output_margin, result_style, script_output, stream_header}

@@ -1,7 +1,9 @@
 -- The words of results in the lines of tests.
 use Rattle.std.specs.Prelude.{Bool, true, false, None, Some, ◌++◌, codes}
 use Rattle.styled_text.specs.Names.{signed_decimal, Text}
-use Rattle.run_model.specs.Names.{AbortDescription, ExecutionResultDescription, FailureDescription}
+use Rattle.run_names.specs.declared.abort.AbortDescription.{AbortDescription}
+use Rattle.run_model.specs.declared.status.ExecutionResultDescription.{ExecutionResultDescription}
+use Rattle.run_model.specs.declared.status.FailureDescription.{FailureDescription}
 use Rattle.run_names.specs.declared.abort.AbortDescription.TheVariants.{UnixSignal, WindowsNtStatus, WindowsJobObject}
 use Rattle.run_model.specs.declared.status.ExecutionResultDescription.TheVariants as outcome
 use Rattle.run_model.specs.declared.status.FailureDescription.TheVariants.{ExitCode, Abort}

@@ -1,9 +1,11 @@
 -- The settings of a reporter, from its configuration.
 use Rattle.std.specs.Prelude.{ℕ, ◌+◌, Bool, true, false, ◌||◌, Option, None, Some, length, nat_le}
 use Rattle.std.specs.Fmt.{decimal}
-use Rattle.run_model.specs.Names.{status_rank, TestOutputDisplay, StatusLevel, RunStats}
+use Rattle.run_model.specs.Names.{status_rank, TestOutputDisplay, StatusLevel}
+use Rattle.run_model.specs.declared.stats.RunStats.{RunStats}
 use Rattle.run_names.specs.declared.config.TestOutputDisplay.TheVariants as display
-use Rattle.report_words.specs.Names.{hbar_character, ThemeCharacters}
+use Rattle.report_words.specs.Theme.{hbar_character}
+use Rattle.report_words.specs.declared.theme.ThemeCharacters.{ThemeCharacters}
 use Rattle.report_text.specs.declared.helpers.instance.DisplayCounterIndex.{DisplayCounterIndex}
 use Rattle.report_text.specs.declared.helpers.instance.DisplayCounterIndex.TheVariants.{Counter, Padded}
 use Rattle.unit_report.specs.declared.config.ProgressDisplay.{ProgressDisplay}

@@ -1,7 +1,9 @@
 -- Captured output as a report shows it.
 use Rattle.std.specs.Prelude.{ℕ, ◌+◌, Bool, true, false, ◌&&◌, ◌||◌, ◌==◌, List, [], ◌∷◌, ◌++◌, Option, None, Some, length, slice_index, nat_le, nat_lt, take, drop, if◌then◌else◌}
-use Rattle.styled_text.specs.Names.{starts_with, without_trailing_newline, visible, highlight_end, plain, reset_color, Text, Style, Styles}
-use Rattle.run_model.specs.Names.{Part, ByteSubslice}
+use Rattle.styled_text.specs.Names.{starts_with, without_trailing_newline, visible, highlight_end, plain, reset_color, Text}
+use Rattle.report_words.specs.Names.{Style, Styles}
+use Rattle.run_model.specs.Outputs.{Part}
+use Rattle.run_model.specs.declared.output.ByteSubslice.{ByteSubslice}
 use Rattle.unit_report.specs.HighlightedLines.{highlighted_lines}
 
 -- without colour: no escape sequences, and one line feed at the end

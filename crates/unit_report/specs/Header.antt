@@ -1,7 +1,8 @@
 -- The line before a stream.
 use Rattle.std.specs.Prelude.{ℕ, ◌++◌, Option, None, Some, codes}
 use Rattle.styled_text.specs.Names.{plain, styled, Text}
-use Rattle.report_words.specs.Names.{hbar_text, ThemeCharacters}
+use Rattle.report_words.specs.Theme.{hbar_text}
+use Rattle.report_words.specs.declared.theme.ThemeCharacters.{ThemeCharacters}
 use Rattle.unit_report.specs.declared.unit_output.header.OutputHeader.{OutputHeader}
 use Rattle.unit_report.specs.declared.unit_output.header.OutputHeader.TheVariants.{Bars, Label}
 use Rattle.unit_report.specs.declared.unit_output.header.OutputName.{OutputName}

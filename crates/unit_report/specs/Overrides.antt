@@ -1,6 +1,8 @@
 -- Whose setting decides when a test's output is shown.
 use Rattle.std.specs.Prelude.{Bool, true, false, unwrap_or, if◌then◌else◌}
-use Rattle.run_model.specs.Names.{is_success_case, TestOutputDisplay, ExecutionResultDescription, StatusSummary}
+use Rattle.run_model.specs.Names.{is_success_case, TestOutputDisplay}
+use Rattle.run_model.specs.declared.status.ExecutionResultDescription.{ExecutionResultDescription}
+use Rattle.run_model.specs.declared.status.StatusSummary.{StatusSummary}
 use Rattle.run_model.specs.declared.status.ExecutionResultDescription.TheVariants as outcome
 use Rattle.unit_report.specs.declared.unit_output.overrides.OutputDisplayOverrides.{OutputDisplayOverrides}
 

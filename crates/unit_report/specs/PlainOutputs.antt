@@ -1,7 +1,11 @@
 -- Captured output for texts without escape characters.
 use Rattle.std.specs.Prelude.{◌<◌, Bool, true, false, Option, IsTrue, length}
 use Rattle.styled_text.specs.Names.{option_and_then, ends_in_line_feed, HasNoEscape, Text}
-use Rattle.run_model.specs.Names.{Part, stdout_part, stderr_part, combined_part, ChildExecutionOutputDescription, ChildOutputDescription, Highlight, LiveSpec, decoded_text}
+use Rattle.run_model.specs.Names.{Part, stdout_part, stderr_part, combined_part, decoded_text}
+use Rattle.run_model.specs.declared.output.ChildExecutionOutputDescription.{ChildExecutionOutputDescription}
+use Rattle.run_model.specs.declared.output.ChildOutputDescription.{ChildOutputDescription}
+use Rattle.run_model.specs.declared.output.Highlight.{Highlight}
+use Rattle.run_model.specs.declared.output.LiveSpec.{LiveSpec}
 use Rattle.run_model.specs.declared.output.ChildExecutionOutputDescription.TheVariants.{Output, StartError}
 use Rattle.run_model.specs.declared.output.ChildOutputDescription.TheVariants.{Split, Combined, NotLoaded}
 use Rattle.report_words.specs.PlainTexts.{HoldsIf, IsPlainChain}

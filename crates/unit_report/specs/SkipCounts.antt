@@ -1,6 +1,7 @@
 -- How many tests and binaries a run skips, and why.
 use Rattle.std.specs.Prelude.{ℕ, ◌-◌, Bool, false, ◌++◌, ◌&&◌, ◌||◌, ◌==◌, codes}
-use Rattle.run_model.specs.Names.{NextestRunMode, CompiledDefaultFilter, CompiledDefaultFilterSection, SkipCounts}
+use Rattle.run_model.specs.Names.{NextestRunMode, CompiledDefaultFilter, CompiledDefaultFilterSection}
+use Rattle.run_model.specs.declared.event.SkipCounts.{SkipCounts}
 use Rattle.run_names.specs.declared.config.NextestRunMode.TheVariants.{Test, Benchmark}
 use Rattle.run_names.specs.declared.config.CompiledDefaultFilterSection.TheVariants.{Profile, Override}
 use Rattle.report_words.specs.Names.{tests_word, binaries_word, Parts, Fixed, Open, Count, Skip, none, words, Word, toned, number, given_toned, ◌⧺◌, choice}

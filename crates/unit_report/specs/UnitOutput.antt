@@ -1,7 +1,12 @@
 -- What is shown of the output of a test or a setup script.
 use Rattle.std.specs.Prelude.{Bool, true, false, not, ◌||◌, ◌==◌, [], ◌∷◌, ◌++◌, length, Option, None, Some, codes, if◌then◌else◌}
-use Rattle.styled_text.specs.Names.{option_and_then, indent, plain, styled, Text, Styles}
-use Rattle.run_model.specs.Names.{MessageAndCauses, Part, stdout_part, stderr_part, combined_part, ChildExecutionOutputDescription, ChildOutputDescription, Highlight, LiveSpec, UnitKind, decoded_text}
+use Rattle.styled_text.specs.Names.{option_and_then, indent, plain, styled, Text}
+use Rattle.styled_text.specs.declared.style.Styles.{Styles}
+use Rattle.run_model.specs.Names.{MessageAndCauses, Part, stdout_part, stderr_part, combined_part, UnitKind, decoded_text}
+use Rattle.run_model.specs.declared.output.ChildExecutionOutputDescription.{ChildExecutionOutputDescription}
+use Rattle.run_model.specs.declared.output.ChildOutputDescription.{ChildOutputDescription}
+use Rattle.run_model.specs.declared.output.Highlight.{Highlight}
+use Rattle.run_model.specs.declared.output.LiveSpec.{LiveSpec}
 use Rattle.run_model.specs.declared.output.ChildExecutionOutputDescription.TheVariants.{Output, StartError}
 use Rattle.run_model.specs.declared.output.ChildOutputDescription.TheVariants.{Split, Combined, NotLoaded}
 use Rattle.unit_report.specs.Captured.{captured}

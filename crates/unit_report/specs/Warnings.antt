@@ -1,6 +1,8 @@
 -- Warnings of tests that a run left out.
 use Rattle.std.specs.Prelude.{ℕ, not, ◌&&◌, ◌==◌, Option, None, Some, codes}
-use Rattle.run_model.specs.Names.{reason_words, NextestRunMode, CancelReason, FinalRunStats, RunStatsFailureKind}
+use Rattle.run_model.specs.Names.{reason_words, NextestRunMode, CancelReason}
+use Rattle.run_model.specs.declared.stats.FinalRunStats.{FinalRunStats}
+use Rattle.run_model.specs.declared.stats.RunStatsFailureKind.{RunStatsFailureKind}
 use Rattle.run_names.specs.declared.level.CancelReason.TheVariants as reason
 use Rattle.run_model.specs.declared.stats.FinalRunStats.TheVariants.{Success, NoTestsRun, Cancelled, Failed}
 use Rattle.run_model.specs.declared.stats.RunStatsFailureKind.TheVariants.{SetupScript, Test}

@@ -3,12 +3,12 @@ use Rattle.std.proofs.Common.{◌≡◌, ℕ, Bool, false, Option, None, Some, L
 use Rattle.styled_text.specs.Names.{position_or_len, slice_get, is_some, option_and_then, option_map, option_map_or}
 use Rattle.std.proofs.lemmas.Option.{slice_get-map}
 use Rattle.std.proofs.lemmas.List.{length-map}
-use Rattle.run_model.specs.Names.{Attempts, Written, has_loaded_output, summary_of, unloaded_attempt, TestOutputDisplay, TestEventKind, TestInstanceId, ChildOutputDescription, LiveSpec, RunStats}
-use Rattle.run_model.specs.Names.{StatusSummary, StressIndex, Nanos, ReportCall}
+use Rattle.run_model.specs.Names.{Attempts, Written, has_loaded_output, summary_of, unloaded_attempt, TestOutputDisplay, TestInstanceId, StressIndex, Nanos}
+use Rattle.text_parts.specs.Names.{TestEventKind, ChildOutputDescription, LiveSpec, RunStats, StatusSummary, ReportCall, short_word, display_of}
 use Rattle.run_model.specs.declared.event.TestEventKind.TheVariants.{TestFinished}
-use Rattle.text_parts.specs.Names.{short_word, display_of, Settings}
-use Rattle.reporter_state.specs.Names.{netstring, record_text, is_stored, stored_output, written_text, StoreConfig, FinishReport, test_finish, test_finished_text, AreAcceptedBy, event_refusal}
-use Rattle.reporter_state.specs.Names.{refusal_by, kept_entry, Finished, loads_finish, OutputLoadDecider}
+use Rattle.reporter_state.specs.Names.{Settings, netstring, record_text, is_stored, stored_output, written_text, StoreConfig, FinishReport, test_finish, test_finished_text, AreAcceptedBy}
+use Rattle.reporter_state.specs.Names.{event_refusal, refusal_by, kept_entry, Finished, loads_finish}
+use Rattle.reporter_state.specs.declared.decider.OutputLoadDecider.{OutputLoadDecider}
 use Rattle.report_words.specs.Parts.{paint}
 use Rattle.console_reporter.specs.Names.{event_text, record_of, records, stored, stored_text, Configuration, settings_of, IsIsolated}
 use Rattle.reporter_state.specs.declared.faults.WriteEventError.TheVariants.{OutputNotLoaded}

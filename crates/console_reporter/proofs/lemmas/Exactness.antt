@@ -5,8 +5,10 @@ use Rattle.std.proofs.lemmas.Str.{IsUtf8-from_ascii}
 use Rattle.std.proofs.lemmas.Bool.{false≢true, and_parts, not-true, or_cases}
 use Rattle.std.proofs.lemmas.Grind.{flat_map-append}
 use Rattle.std.proofs.lemmas.List.{append_cancel_left, append_cancel_right, reverse-append, same_from_push}
-use Rattle.run_model.specs.Names.{Attempt, Attempts, Written, is_final, is_immediate, case_of, is_success, summary_of, unloaded_event, unloaded_kind, TestOutputDisplay, TestEvent, TestEventKind}
-use Rattle.run_model.specs.Names.{TestInstanceId, ChildOutputDescription, LiveSpec, LoadOutput, RunStats, SetupScriptExecuteStatus, StatusSummary, StressIndex, Nanos, final_stats_of_run, ReportCall}
+use Rattle.run_model.specs.Names.{Attempt, Attempts, Written, is_final, is_immediate, case_of, is_success, summary_of, unloaded_event, unloaded_kind, TestOutputDisplay, TestInstanceId, StressIndex}
+use Rattle.run_model.specs.Names.{Nanos, final_stats_of_run}
+use Rattle.text_parts.specs.Names.{TestEvent, TestEventKind, ChildOutputDescription, LiveSpec, LoadOutput, RunStats, SetupScriptExecuteStatus, StatusSummary, ReportCall, short_word, display_of}
+use Rattle.text_parts.specs.Names.{is_final_wanted, timed_at_end, timed_at_once, timed_listed, padded_instance, Script, finished_counter, is_level_shown, final_warnings}
 use Rattle.run_model.specs.declared.event.TestEventKind.TheVariants.{SetupScriptFinished, TestAttemptFailedWillRetry, TestFinished, RunFinished}
 use Rattle.run_names.specs.declared.level.StatusLevel.TheVariants as level
 use Rattle.run_model.specs.declared.output_event.LoadOutput.TheVariants.{Load, Skip}
@@ -14,9 +16,10 @@ use Rattle.run_names.specs.declared.unit.UnitKind.TheVariants as unit
 use Rattle.run_model.proofs.lemmas.Decoded.{decoded-same}
 use Rattle.reporter_state.specs.Names.{netstring, netstring_head, record_text, is_stored, stored_output, StoreConfig, line_at_once, output_at_once, test_finished_text, attempt_failed_line}
 use Rattle.reporter_state.specs.Names.{attempt_failed_text, delay_line, failed_output, is_failed_output_shown, status_line, decider_by, entry_of, final_output, cancel, final_order, final_text}
-use Rattle.reporter_state.specs.Names.{borrowed_test, kept_test, decision, is_stored_by, load_if, loads_attempt, loads_script, is_skip, OutputLoadDecider, FinalOutputEntry, KeptTest}
-use Rattle.text_parts.specs.Names.{short_word, display_of, is_final_wanted, timed_at_end, timed_at_once, timed_listed, padded_instance, Script, finished_counter, is_level_shown, Settings}
-use Rattle.text_parts.specs.Names.{final_warnings}
+use Rattle.reporter_state.specs.Names.{borrowed_test, kept_test, decision, is_stored_by, load_if, loads_attempt, loads_script, is_skip, Settings}
+use Rattle.reporter_state.specs.declared.decider.OutputLoadDecider.{OutputLoadDecider}
+use Rattle.reporter_state.specs.declared.final_output.FinalOutputEntry.{FinalOutputEntry}
+use Rattle.reporter_state.specs.declared.kept_test.KeptTest.{KeptTest}
 use Rattle.text_parts.proofs.lemmas.Finishes.{row_below}
 use Rattle.test_text.specs.declared.status_line.StatusLineKind.TheVariants.{Final}
 use Rattle.console_reporter.specs.Names.{not_seen_text, run_finished_text, failed_script_output, setup_script_finished_text, setup_script_line, decider_of, AreUninterrupted, is_end_of_run}

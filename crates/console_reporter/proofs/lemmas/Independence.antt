@@ -2,11 +2,12 @@
 use Rattle.std.proofs.Common.{◌≡◌, ◌<◌, List, [], ◌∷◌, ◌++◌, Option, None, Some, refl, sym, ap, ◌∙◌, subst, reverse, Ordering, Less, Equal, Greater}
 use Rattle.styled_text.specs.Names.{nat_cmp-IsAntisymmetric, slice_cmp-IsAntisymmetric, flat_map, lists_total, nat_list_cmp_total, option_to_list, is_lt, ordering_reverse}
 use Rattle.std.proofs.lemmas.Grind.{flat_map-append}
-use Rattle.run_model.specs.Names.{TestEventKind, RunStats, Nanos, ReportCall}
+use Rattle.text_parts.specs.Names.{TestEventKind, RunStats, ReportCall}
+use Rattle.run_names.specs.declared.time.Nanos.{Nanos}
 use Rattle.run_model.specs.declared.event.TestEventKind.TheVariants.{TestFinished}
-use Rattle.text_parts.specs.declared.settings.Settings.{Settings}
+use Rattle.reporter_state.specs.Names.{Settings, cancel, entry_cmp, entry_key, final_order, is_before}
 use Rattle.console_reporter.specs.Names.{AreUninterrupted, Configuration, settings_of, AreOfOneKey, IsOrderIndependent, entry_after, event_text, report_texts, IsStatsIndependent, with_stats}
-use Rattle.reporter_state.specs.Names.{cancel, entry_cmp, entry_key, final_order, is_before, FinalOutputEntry}
+use Rattle.reporter_state.specs.declared.final_output.FinalOutputEntry.{FinalOutputEntry}
 use Rattle.run_model.specs.declared.call.ReportCall.TheVariants.{Event, Header, Prefix}
 use Rattle.console_reporter.proofs.lemmas.UninterruptedRuns.{uninterrupted_back, uninterrupted_both, uninterrupted_end, uninterrupted_entries, uninterrupted_entry, uninterrupted_front, uninterrupted_more, uninterrupted_past, listing}
 use Rattle.reporter_state.proofs.lemmas.Keys.{is_before-ranks}

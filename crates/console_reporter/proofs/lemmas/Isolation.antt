@@ -5,15 +5,17 @@ use Rattle.std.proofs.lemmas.Bool.{cases_Bool, false≢true}
 use Rattle.std.proofs.lemmas.List.{length-map, map-append, reverse-append}
 use Rattle.std.proofs.lemmas.Option.{slice_get-map}
 use Rattle.run_model.specs.Names.{Attempt, Attempts, Written, is_immediate, is_final, has_loaded_output, case_of, is_success, summary_of, unloaded_attempt, unloaded_attempts, unloaded_event}
-use Rattle.run_model.specs.Names.{unloaded_kind, unloaded_script, TestOutputDisplay, TestEventKind, TestInstanceId, ChildOutputDescription, LiveSpec, RunStats, SetupScriptExecuteStatus, StressIndex}
-use Rattle.run_model.specs.Names.{Nanos, StatusSummary, ReportCall}
+use Rattle.run_model.specs.Names.{unloaded_kind, unloaded_script, TestOutputDisplay, TestInstanceId, StressIndex, Nanos}
+use Rattle.text_parts.specs.Names.{TestEventKind, ChildOutputDescription, LiveSpec, RunStats, SetupScriptExecuteStatus, StatusSummary, ReportCall, display_for, short_word, display_of, is_ever_shown}
+use Rattle.text_parts.specs.Names.{timed_at_end, timed_at_once, is_level_shown, Script}
 use Rattle.run_model.specs.declared.event.TestEventKind.TheVariants.{SetupScriptFinished, TestAttemptFailedWillRetry, TestFinished}
 use Rattle.run_names.specs.declared.level.StatusLevel.TheVariants as level
-use Rattle.text_parts.specs.Names.{display_for, short_word, display_of, is_ever_shown, timed_at_end, timed_at_once, is_level_shown, OutputTiming, Settings, Script}
-use Rattle.reporter_state.specs.Names.{netstring, record_text, is_stored, stored_output, StoreConfig, FinishReport, line_at_once, output_at_once, test_finish, test_finished_text, attempt_failed_text}
-use Rattle.reporter_state.specs.Names.{attempt_failed_line, failed_output, is_failed_output_shown, AreAcceptedBy, decider_by, event_refusal, first_refused, refusal_at_by, refusal_by, final_output}
-use Rattle.reporter_state.specs.Names.{is_kept, kept_entry, Finished, FinalOutput, kept_test, load_if, loads_attempt, loads_finish, loads_script, is_skip, is_skipped, unread, unread_call}
-use Rattle.reporter_state.specs.Names.{OutputLoadDecider}
+use Rattle.reporter_state.specs.Names.{OutputTiming, Settings, netstring, record_text, is_stored, stored_output, StoreConfig, FinishReport, line_at_once, output_at_once, test_finish}
+use Rattle.reporter_state.specs.Names.{test_finished_text, attempt_failed_text, attempt_failed_line, failed_output, is_failed_output_shown, AreAcceptedBy, decider_by, event_refusal, first_refused}
+use Rattle.reporter_state.specs.Names.{refusal_at_by, refusal_by, final_output, is_kept, kept_entry, Finished, kept_test, load_if, loads_attempt, loads_finish, loads_script, is_skip, is_skipped}
+use Rattle.reporter_state.specs.Names.{unread, unread_call}
+use Rattle.reporter_state.specs.declared.final_output.FinalOutput.{FinalOutput}
+use Rattle.reporter_state.specs.declared.decider.OutputLoadDecider.{OutputLoadDecider}
 use Rattle.text_parts.specs.declared.finish.OutputTiming.TheVariants.{Hidden, Shown, ShownOnce}
 use Rattle.report_words.specs.Parts.{paint}
 use Rattle.console_reporter.specs.Names.{failed_script_output, setup_script_finished_text, decider_of, Configuration, settings_of, IsIsolated, event_text, script_by, record_of, records, stored}

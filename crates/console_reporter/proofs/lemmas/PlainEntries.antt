@@ -1,14 +1,15 @@
 -- The entries of the calls, and what is given for them (for `free-event_parts`).
 use Rattle.std.proofs.Common.{◌≡◌, ℕ, Bool, true, false, cond, refl, List, [], ◌∷◌, ◌++◌, Option, None, Some, ap₂}
-use Rattle.styled_text.specs.Names.{AllByRecursion, option_to_list, Styles}
-use Rattle.run_model.specs.Names.{TestEventKind, ReportCall}
+use Rattle.styled_text.specs.Names.{AllByRecursion, option_to_list}
+use Rattle.report_words.specs.Names.{Styles, HoldsIf, paint}
+use Rattle.text_parts.specs.Names.{TestEventKind, ReportCall, IsPlainResult, IsPlainWritten, unit_output, display_of, is_final_wanted, timed_at_end}
 use Rattle.run_model.specs.declared.event.TestEventKind.TheVariants.{TestFinished, TestSkipped}
 use Rattle.run_names.specs.declared.unit.UnitKind.TheVariants as unit
-use Rattle.report_words.specs.Names.{HoldsIf, paint}
-use Rattle.text_parts.specs.Names.{IsPlainResult, IsPlainWritten, unit_output, display_of, is_final_wanted, timed_at_end, CountedInstance, Settings}
+use Rattle.reporter_state.specs.Names.{CountedInstance, Settings, FinishReport, test_finish, final_output, finished_entry, is_kept, is_skip_kept, entry_of, cancel, prefix, kept, final_order}
+use Rattle.reporter_state.specs.Names.{is_before, final_text, entries_text, borrowed_test}
 use Rattle.report_words.proofs.lemmas.PartsInColour.{AreFree}
-use Rattle.reporter_state.specs.Names.{FinishReport, test_finish, final_output, finished_entry, is_kept, is_skip_kept, entry_of, cancel, prefix, kept, final_order, is_before, final_text, entries_text}
-use Rattle.reporter_state.specs.Names.{borrowed_test, FinalOutput, FinalOutputEntry}
+use Rattle.reporter_state.specs.declared.final_output.FinalOutput.{FinalOutput}
+use Rattle.reporter_state.specs.declared.final_output.FinalOutputEntry.{FinalOutputEntry}
 use Rattle.test_text.specs.declared.status_line.StatusLineKind.TheVariants.{Final}
 use Rattle.text_parts.proofs.lemmas.LineColourPairs.{painted, IsPlainTest, plain-finished_counter, plain-padded}
 use Rattle.text_parts.proofs.lemmas.OutputColourPairs.{free-unit_output}

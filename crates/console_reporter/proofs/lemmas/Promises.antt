@@ -7,9 +7,10 @@ use Rattle.console_reporter.specs.Names.{refusal_for, DisplayReporter}
 use Rattle.console_reporter.proofs.lemmas.Refusals.{breaks_refused, not_refused, told_none}
 use Rattle.console_reporter.proofs.lemmas.Stores.{same-store, store-laws}
 use Rattle.console_reporter.proofs.lemmas.Texts.{of_lines-told}
-use Rattle.run_model.specs.Names.{ReportCall, TestEvent}
+use Rattle.text_parts.specs.Names.{ReportCall, TestEvent}
 use Rattle.run_model.specs.declared.call.ReportCall.TheVariants.{Event}
-use Rattle.reporter_state.specs.Names.{decider_by, event_refusal, refusal_in, WriteEventError}
+use Rattle.reporter_state.specs.Refusals.{decider_by, event_refusal, refusal_in}
+use Rattle.reporter_state.specs.declared.faults.WriteEventError.{WriteEventError}
 use Rattle.reporter_state.specs.declared.faults.WriteEventError.TheVariants.{Failed, Io, Memory, StoreIo}
 
 failed_not_io : Failed ≡ Io → ⊥

@@ -3,7 +3,8 @@ use Rattle.std.proofs.Common.{◌≡◌, ℕ, List, true, Option, None, Some, in
 use Rattle.styled_text.specs.Names.{is_some, Meaning}
 use Rattle.console_reporter.specs.Names.{store_meaning, Breaks, DisplayReporter, Side, Stops, Report, Records}
 use Rattle.run_model.specs.declared.call.ReportCall.{ReportCall}
-use Rattle.reporter_state.specs.Names.{refusal_in, WriteEventError}
+use Rattle.reporter_state.specs.Refusals.{refusal_in}
+use Rattle.reporter_state.specs.declared.faults.WriteEventError.{WriteEventError}
 use Rattle.reporter_state.specs.declared.faults.WriteEventError.TheVariants.{RetriedSuccess, OutputNotLoaded, Io, Memory, Failed, StoreIo}
 
 -- an absent value

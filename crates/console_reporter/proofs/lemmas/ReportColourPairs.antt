@@ -1,17 +1,16 @@
 -- The report in colour and plain (for `run_report`).
 use Rattle.std.proofs.Common.{◌≡◌, ℕ, zero, suc, Bool, true, false, refl, sym, subst, List, [], ◌∷◌, Option, None, Some, take, reverse, slice_get}
-use Rattle.styled_text.specs.Names.{AllByRecursion, option_map_or, HasNoEscape, styles_of, Styles}
+use Rattle.styled_text.specs.Names.{AllByRecursion, option_map_or, HasNoEscape, styles_of}
+use Rattle.report_words.specs.Names.{Styles, HoldsIf, IsColourPair, paint}
 use Rattle.std.proofs.lemmas.List.{reverse-append}
-use Rattle.run_model.specs.Names.{TestEventKind, ReportCall}
+use Rattle.text_parts.specs.Names.{TestEventKind, ReportCall, unit_output, display_of, is_line_shown, is_level_shown, shows_starts}
 use Rattle.run_model.specs.declared.event.TestEventKind.TheVariants.{RunStarted, SetupScriptStarted, SetupScriptSlow, SetupScriptFinished, TestStarted, TestSlow, TestAttemptFailedWillRetry, TestRetryStarted, TestFinished, TestSkipped, InfoResponse, RunFinished}
 use Rattle.run_model.specs.declared.info.InfoResponse.TheVariants.{SetupScript, Test}
-use Rattle.report_words.specs.Names.{HoldsIf, IsColourPair, paint}
 use Rattle.report_words.proofs.lemmas.ColourPairs.{colour_pair-none, colour_pair-append, colour_pair-whole}
-use Rattle.text_parts.specs.Names.{unit_output, display_of, is_line_shown, is_level_shown, shows_starts, Settings}
+use Rattle.reporter_state.specs.Names.{Settings, line_at_once, output_at_once, test_finished_text, attempt_failed_text, failed_output, is_failed_output_shown, test_skipped_text, has_number}
+use Rattle.reporter_state.specs.Names.{is_level_exceeded, slow_text, terminating_text, terminating_word, test_slow_text, command_text, retry_start_line, start_line, test_retry_started_text}
+use Rattle.reporter_state.specs.Names.{test_started_text, cancel, prefix, kept, final_order}
 use Rattle.text_parts.proofs.lemmas.LineColourPairs.{painted}
-use Rattle.reporter_state.specs.Names.{line_at_once, output_at_once, test_finished_text, attempt_failed_text, failed_output, is_failed_output_shown, test_skipped_text, has_number, is_level_exceeded}
-use Rattle.reporter_state.specs.Names.{slow_text, terminating_text, terminating_word, test_slow_text, command_text, retry_start_line, start_line, test_retry_started_text, test_started_text, cancel}
-use Rattle.reporter_state.specs.Names.{prefix, kept, final_order}
 use Rattle.test_text.proofs.lemmas.FreeStatusLines.{free-test_finished_text}
 use Rattle.test_text.proofs.lemmas.FreeTests.{free-test_started_text, free-test_slow_text, free-attempt_failed_text, free-test_retry_started_text, free-test_skipped_text}
 use Rattle.console_reporter.specs.Names.{IsPlainPrefix, replay_header_text, failed_script_output, setup_script_finished_text, setup_script_slow_text, run_started_text, starting_line}

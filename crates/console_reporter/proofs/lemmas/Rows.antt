@@ -4,11 +4,11 @@ use Rattle.styled_text.specs.Names.{digits, chars, plain, styled, styles_of, Tex
 use Rattle.uuid.specs.Text.{by_index}
 use Rattle.run_names.specs.declared.config.NextestRunMode.TheVariants.{Test}
 use Rattle.run_names.specs.declared.config.CompiledDefaultFilterSection.TheVariants.{Profile}
-use Rattle.run_model.specs.Names.{SkipCounts, TestEvent, planned_stats, reason_rank, TestInstanceId, RunStats, ExecutionResultDescription, ChildOutputDescription, LiveSpec, TestOutputDisplay}
-use Rattle.run_model.specs.Names.{StressIndex, Nanos, Attempts, Written, summary_of}
-use Rattle.text_parts.specs.Names.{skip_note, abort_line, theme_of, long_word, display_of, output_timing, timed_listed, is_final_wanted, Settings, summary_text, counted_front, passed_notes}
-use Rattle.text_parts.specs.Names.{passed_front, failed_counts, failed_count, leaky_failed_note, exec_failed_count, timed_out_count, test_text, stress_prefix, counter_prefix, test_name_text}
-use Rattle.text_parts.specs.Names.{bracketed_duration}
+use Rattle.text_parts.specs.Names.{SkipCounts, TestEvent, RunStats, ExecutionResultDescription, ChildOutputDescription, LiveSpec, skip_note, abort_line, theme_of, long_word, display_of, output_timing}
+use Rattle.text_parts.specs.Names.{timed_listed, is_final_wanted, summary_text, counted_front, passed_notes, passed_front, failed_counts, failed_count, leaky_failed_note, exec_failed_count}
+use Rattle.text_parts.specs.Names.{timed_out_count, test_text, stress_prefix, counter_prefix, test_name_text, bracketed_duration}
+use Rattle.run_model.specs.Names.{planned_stats, reason_rank, TestInstanceId, TestOutputDisplay, StressIndex, Nanos, Attempts, Written, summary_of}
+use Rattle.reporter_state.specs.Names.{Settings, ordered_by, put_in, cancel, kept, final_order, test_finish, finished_entry, status_prefix, flaky_failure_line, status_line, StatusLineKind}
 use Rattle.unit_report.specs.declared.unit_output.DisplayerKind.TheVariants.{Live}
 use Rattle.run_model.specs.declared.event.TestEventKind.TheVariants.{TestFinished, RunFinished}
 use Rattle.run_names.specs.declared.abort.AbortDescription.TheVariants.{UnixSignal}
@@ -22,7 +22,6 @@ use Rattle.run_model.specs.declared.status.FlakyResult.TheVariants as flaky
 use Rattle.run_names.specs.declared.config.TestOutputDisplay.TheVariants.{Never}
 use Rattle.run_names.specs.Names.{last_colons}
 use Rattle.report_words.specs.Names.{tests_word_if, binaries_word, hbar_text, paint}
-use Rattle.reporter_state.specs.Names.{ordered_by, put_in, cancel, kept, final_order, test_finish, finished_entry, status_prefix, flaky_failure_line, status_line, StatusLineKind}
 use Rattle.console_reporter.specs.Names.{id_text, run_id_text, profile_text, run_id_line, test_counts_text, starting_line, run_started_text, initial_count_text, run_counts_text, summary_line}
 use Rattle.console_reporter.specs.Names.{run_finished_text}
 use Rattle.run_model.specs.declared.call.ReportCall.TheVariants.{Event}

@@ -3,7 +3,9 @@ use Rattle.std.proofs.Common.{◌≡◌, ◌≤◌, ◌⊎◌, inl, inr, List, [
 use Rattle.std.proofs.lemmas.Result.{on_ok_weaker, IfErr-weaker}
 use Rattle.styled_text.specs.Names.{option_map_or, Text, Meaning, WriterLaws, successor}
 use Rattle.std.specs.Prelude.{slice_get}
-use Rattle.reporter_state.specs.Names.{cancel, refusal_in, RunFault, WriteEventError}
+use Rattle.reporter_state.specs.Names.{cancel, refusal_in}
+use Rattle.reporter_state.specs.declared.faults.RunFault.{RunFault}
+use Rattle.reporter_state.specs.declared.faults.WriteEventError.{WriteEventError}
 use Rattle.console_reporter.specs.Names.{AreAccepted, refusal_at, Configuration, settings_of, Stops, Report, Records, past_at, report, text_at, store_accepts, store_may_refuse, store_meaning}
 use Rattle.console_reporter.specs.Names.{MayGrowAt, StandsAfter, may_grow_in, Runs, absent, stored, stored_at, AreDelivered, IsSameReporter, MayGrowFor, Promises, Tells, TellsRun, past_with}
 use Rattle.console_reporter.specs.Names.{DisplayReporter, Store}

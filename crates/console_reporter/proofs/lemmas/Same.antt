@@ -2,10 +2,9 @@
 use Rattle.std.proofs.Common.{◌≡◌, ℕ, List, [], ◌∷◌, ◌++◌, refl, sym, ap, ap₂, ◌∙◌, max, reverse, append_assoc}
 use Rattle.styled_text.specs.Names.{flat_map, Text}
 use Rattle.std.proofs.lemmas.List.{reverse-append}
-use Rattle.run_model.specs.Names.{TestEvent, ReportCall}
-use Rattle.text_parts.specs.declared.settings.Settings.{Settings}
+use Rattle.text_parts.specs.Names.{TestEvent, ReportCall}
+use Rattle.reporter_state.specs.Names.{Settings, effect_of, entry_of, cancel, kept, prefix}
 use Rattle.console_reporter.specs.Names.{Configuration, settings_of, Known, event_text, known_after, report, text, report_texts}
-use Rattle.reporter_state.specs.Names.{effect_of, entry_of, cancel, kept, prefix}
 use Rattle.run_model.specs.declared.call.ReportCall.TheVariants.{Event, Header, Prefix}
 use Rattle.console_reporter.proofs.lemmas.Texts.{report-joined}
 

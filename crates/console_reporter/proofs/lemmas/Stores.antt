@@ -4,8 +4,10 @@ use Rattle.styled_text.specs.Names.{Appends, AppendsFront, Meaning, WriterLaws, 
 use Rattle.writers.specs.declared.write_str.WriteFault.TheVariants.{Device, Memory as RefusedMemory}
 use Rattle.console_reporter.specs.Names.{Stops, Records, StandsAfter, Configuration, DisplayReporter, IsSameStore, config_of, store_accepts, store_adds, store_delivered, store_failures, store_known}
 use Rattle.console_reporter.specs.Names.{store_may_refuse, store_meaning, store_stops, Store}
-use Rattle.run_model.specs.Names.{ReportCall, reason_rank}
-use Rattle.reporter_state.specs.Names.{ReporterState, WriteEventError}
+use Rattle.run_model.specs.declared.call.ReportCall.{ReportCall}
+use Rattle.run_names.specs.Levels.{reason_rank}
+use Rattle.reporter_state.specs.declared.state.ReporterState.{ReporterState}
+use Rattle.reporter_state.specs.declared.faults.WriteEventError.{WriteEventError}
 use Rattle.reporter_state.specs.declared.faults.WriteEventError.TheVariants.{RetriedSuccess, OutputNotLoaded, Io, Memory, Failed, StoreIo}
 
 pub same-store : {S : Type 0} (a : Option (Store S)) → IsSameStore a a

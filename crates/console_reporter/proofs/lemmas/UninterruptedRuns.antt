@@ -5,12 +5,12 @@ use Rattle.styled_text.specs.Names.{flat_map, option_to_list}
 use Rattle.std.proofs.lemmas.Bool.{false≢true}
 use Rattle.std.proofs.lemmas.Bool.Decides.{nat_tests}
 use Rattle.std.proofs.lemmas.List.{reverse-append}
-use Rattle.run_model.specs.Names.{TestEvent, TestEventKind, ReportCall}
+use Rattle.text_parts.specs.Names.{TestEvent, TestEventKind, ReportCall}
 use Rattle.run_model.specs.declared.event.TestEventKind.TheVariants.{TestFinished, RunFinished}
 use Rattle.text_parts.proofs.lemmas.Finishes.{row_below}
-use Rattle.text_parts.specs.declared.settings.Settings.{Settings}
+use Rattle.reporter_state.specs.Names.{Settings, entry_of, cancel, final_order, kept}
 use Rattle.console_reporter.specs.Names.{AreUninterrupted, carried_reason, is_end_of_run, Configuration, settings_of, Known, event_text, listed_text, text}
-use Rattle.reporter_state.specs.Names.{entry_of, cancel, final_order, kept, FinalOutputEntry}
+use Rattle.reporter_state.specs.declared.final_output.FinalOutputEntry.{FinalOutputEntry}
 use Rattle.run_model.specs.declared.call.ReportCall.TheVariants.{Event, Header, Prefix}
 
 -- parts of uninterrupted calls

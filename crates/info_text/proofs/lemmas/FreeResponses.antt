@@ -1,12 +1,13 @@
 -- The responses of units, without escape characters (for the texts of their events).
 use Rattle.std.proofs.Common.{ℕ, Bool, true, false, refl, Option, None, Some}
 use Rattle.styled_text.specs.Names.{is_some, without_end_spaces, styles_of}
-use Rattle.run_model.specs.Names.{Written, InfoResponse, UnitState, ExecutionResultDescription, NextestRunMode, UnitKind}
+use Rattle.run_model.specs.Names.{Written, NextestRunMode, UnitKind}
+use Rattle.text_parts.specs.Names.{InfoResponse, UnitState, ExecutionResultDescription, IsPlainResult, IsPlainWritten}
 use Rattle.run_model.specs.declared.info.InfoResponse.TheVariants.{SetupScript, Test}
 use Rattle.run_model.specs.declared.info.UnitState.TheVariants.{Running, Exiting, Terminating, Exited, DelayBeforeNextAttempt}
 use Rattle.report_words.specs.PlainTexts.{HoldsIf}
 use Rattle.report_words.proofs.lemmas.PartsInColour.{AreFree}
-use Rattle.text_parts.specs.Names.{IsPlainResult, IsPlainWritten, Settings}
+use Rattle.text_parts.specs.declared.settings.Settings.{Settings}
 use Rattle.unit_report.proofs.lemmas.UnitColourPairs.{IsColourPairOfLayout, colour_pair-label, colour_pair-execution_output}
 use Rattle.text_parts.proofs.lemmas.LineColourPairs.{free-instance_end, free-shown_script}
 use Rattle.text_parts.proofs.lemmas.ResultColourPairs.{free-info_text}

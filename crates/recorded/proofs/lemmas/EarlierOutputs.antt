@@ -9,13 +9,16 @@ use Rattle.recorded.specs.Names.{event_inline, only_place, output_inline, wanted
 use Rattle.recorded.proofs.lemmas.Skipped.{elapsed-with, skips-with}
 use Rattle.recorded.proofs.lemmas.Skips.{skips-same}
 use Rattle.recorded.proofs.lemmas.Unloaded.{unloaded-earlier}
-use Rattle.reporter_state.specs.Names.{unread_call, OutputLoadDecider}
-use Rattle.run_model.specs.Names.{Attempts, attempt_with_output, unloaded_attempt, ReportCall, TestEvent, TestEventKind, ChildOutputDescription, LiveSpec}
+use Rattle.reporter_state.specs.Unread.{unread_call}
+use Rattle.reporter_state.specs.declared.decider.OutputLoadDecider.{OutputLoadDecider}
+use Rattle.run_model.specs.Names.{Attempts, attempt_with_output, unloaded_attempt}
+use Rattle.scene_text.specs.Names.{ReportCall, TestEvent, TestEventKind, ChildOutputDescription, LiveSpec, attempts_with, event_with, IsCallOf, SaysSame, elapsed_in, SceneEvent, TestFinish}
+use Rattle.scene_text.specs.Names.{PlacedOutput}
 use Rattle.run_model.specs.declared.call.ReportCall.TheVariants as call
 use Rattle.run_model.specs.declared.event.TestEventKind.TheVariants as kind
-use Rattle.scene_text.specs.Names.{attempts_with, event_with, IsCallOf, SaysSame, elapsed_in, SceneEvent, TestFinish, PlacedOutput}
 use Rattle.scene_events.specs.declared.scene.event.SceneEvent.TheVariants as scene
-use Rattle.scenes.specs.Names.{outcome_after, run_outcome, RunOutcome}
+use Rattle.scenes.specs.Outcomes.{outcome_after, run_outcome}
+use Rattle.scenes.specs.declared.outcome.RunOutcome.{RunOutcome}
 
 abbrev AttemptsOfRun : Type 0
 AttemptsOfRun = Attempts LiveSpec ChildOutputDescription

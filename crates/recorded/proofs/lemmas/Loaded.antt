@@ -1,9 +1,8 @@
 -- What was loaded of an output is what is at its positions.
 use Rattle.std.proofs.Common.{◌≡◌, ℕ, List, Option, None, Some, IfSome, Ok, ap, ◌∙◌}
 use native.Mathlib.Omega.{arith}
-use Rattle.run_model.specs.declared.output.ChildOutputDescription.{ChildOutputDescription}
+use Rattle.scene_text.specs.Names.{ChildOutputDescription, Reference, PlacedOutput, StoredOutput, StoredStream, event_with, SceneEvent}
 use Rattle.recorded.specs.Names.{bytes_at, stream_at, IsCaptured, captured_at, captured_stream_at, output_inline, stream_inline}
-use Rattle.scene_text.specs.Names.{Reference, PlacedOutput, StoredOutput, StoredStream, event_with, SceneEvent}
 
 -- the bytes of a reference, a stream, and both streams, apart or together
 loaded-bytes : (all : List ℕ) (r : Reference) (bytes : List ℕ) → stream_at all r ≡ Some bytes → bytes ≡ bytes_at all r

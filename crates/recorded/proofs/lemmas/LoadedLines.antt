@@ -6,14 +6,14 @@ use Rattle.std.proofs.Math.ListN.{set}
 use Rattle.std.proofs.Math.Seq.{get_or-append_seam, set-append_seam, take-append_seam}
 use Rattle.std.proofs.lemmas.Bool.Decides.{nat_tests}
 use Rattle.std.proofs.lemmas.List.{append_cancel_left, length-append, nil_from_length, take-set}
-use Rattle.scenes.specs.Names.{fault_of_read, IsUnread, Options, Fault, decider_for}
+use Rattle.scenes.specs.Names.{fault_of_read, IsUnread, Options, Fault, decider_for, LinesRead}
 use Rattle.recorded.specs.Names.{IfDamaged, IsReplayed, event_replayed, needed_of, CountsLine, IsFaultOfLoad, IsLineFault, KeepsRead, LeavesLine, counted, line_replayed, needed_by, needed_for}
 use Rattle.recorded.specs.Names.{LoadEventFault, LoadFault}
 use Rattle.recorded.specs.declared.outputs.LoadFault.TheVariants as load
 use Rattle.reporter_state.specs.declared.decider.OutputLoadDecider.{OutputLoadDecider}
 use Rattle.scene_text.specs.Names.{SceneEvent, LineFault, ReadFault, PlacedOutput, ConfigLine, EventLine, IsNextFault, LeavesLines, LinesBefore, NoEvent, ParsedLine, ParsedLines, ReadsLines}
 use Rattle.scene_text.specs.Names.{RecordedLine, RunLine, before_next, event_line, event_lines, is_begun, line_here, line_read, lines_after, lines_before, lines_with, parsed_lines, recorded_line}
-use Rattle.scene_text.specs.Names.{unread_line, with_line, with_made, LinesRead}
+use Rattle.scene_text.specs.Names.{unread_line, with_line, with_made}
 use Rattle.scene_events.specs.declared.scene.event.SceneEvent.TheVariants as scene
 use Rattle.scene_fields.specs.declared.fault.LineFault.TheVariants as wrong
 use Rattle.scene_fields.specs.declared.fault.ReadFault.TheVariants as fault

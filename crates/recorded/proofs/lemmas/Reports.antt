@@ -2,7 +2,8 @@
 use Rattle.std.proofs.Common.{◌≡◌, ℕ, ◌^◌, ◌-◌, ◌≤◌, List, [], ◌∷◌, map, reverse, Option, Result, Ok, Err, IfOk, OnOk, refl, sym, ap, ◌∙◌, subst, arith, inl, inr}
 use Rattle.std.specs.Io.KnownBytes.{Appends}
 use Rattle.std.specs.List.{AllZip}
-use Rattle.scenes.specs.Names.{Options, Fault, PrintsFollowed, device, run_outcome, OfLines, OfText, configuration_for, report_of, stored_of, decider_for, RunOutcome}
+use Rattle.scenes.specs.Names.{Options, Fault, PrintsFollowed, device, run_outcome, OfLines, OfText, configuration_for, report_of, stored_of, decider_for}
+use Rattle.scenes.specs.declared.outcome.RunOutcome.{RunOutcome}
 use Rattle.console_reporter.proofs.lemmas.Earlier.{call_of_last, calls_of_last, isolated_last}
 use Rattle.console_reporter.proofs.lemmas.Isolation.{isolated}
 use Rattle.recorded.proofs.lemmas.EarlierOutputs.{loaded_call, outcome_last, shown_call}
@@ -10,9 +11,9 @@ use Rattle.recorded.proofs.lemmas.Skipped.{skipped_call}
 use Rattle.recorded.specs.Names.{counted, line_replayed, lines_inline, lines_replayed, needed, ended_lines, IsLeft, AreBytes, scene_spelled}
 use Rattle.recorded.proofs.lemmas.SpelledLines.{scene_law}
 use Rattle.recorded.proofs.lemmas.Inline.{AreInline, IsInline, go_on}
-use Rattle.reporter_state.specs.Names.{first_refused, unread, OutputLoadDecider}
-use Rattle.run_model.specs.declared.call.ReportCall.{ReportCall}
-use Rattle.scene_text.specs.Names.{IsCallOf, SceneConfig, SceneEvent, ParsedLines, RunLine, lines_before, no_lines}
+use Rattle.reporter_state.specs.Names.{first_refused, unread}
+use Rattle.reporter_state.specs.declared.decider.OutputLoadDecider.{OutputLoadDecider}
+use Rattle.scene_text.specs.Names.{ReportCall, IsCallOf, SceneConfig, SceneEvent, ParsedLines, RunLine, lines_before, no_lines}
 use Rattle.scene_text.proofs.lemmas.Tellings.{all_tell, all_told}
 use Rattle.scenes.proofs.lemmas.ReadyCalls.{outcome_unread}
 

@@ -1,10 +1,11 @@
 -- The decider skips an event of a scene just where it skips the event of a reporter that the call has.
 use Rattle.std.proofs.Common.{◌≡◌}
 use native.Mathlib.Omega.{arith}
-use Rattle.run_model.specs.Names.{summary_of, TestEventKind}
-use Rattle.reporter_state.specs.Names.{loads_finish, loads_last, is_skipped, OutputLoadDecider}
+use Rattle.run_model.specs.Statuses.{summary_of}
+use Rattle.scene_text.specs.Names.{TestEventKind, SaysSame, SceneEvent, TestFinish}
+use Rattle.reporter_state.specs.Names.{loads_finish, loads_last, is_skipped}
+use Rattle.reporter_state.specs.declared.decider.OutputLoadDecider.{OutputLoadDecider}
 use Rattle.reporter_state.proofs.lemmas.Metadata.{loads_last-same}
-use Rattle.scene_text.specs.Names.{SaysSame, SceneEvent, TestFinish}
 use Rattle.recorded.specs.Skips.{skips}
 
 -- an event that says the same

@@ -7,9 +7,9 @@ use Rattle.std.proofs.lemmas.List.{length-append, length-map}
 use Rattle.recorded.proofs.lemmas.SpelledOutputs.{attempt_loads, attempt_reads}
 use Rattle.recorded.proofs.lemmas.SpelledPlaces.{Change, Follows, HasNoted, HasOutput, Reads, Same, bind_follows, checked_reads, place_spelled, says_spells, with_put}
 use Rattle.recorded.specs.Names.{output_inline, AreBytes}
-use Rattle.run_model.specs.Names.{Attempt, Attempts, attempt_with_output, ChildOutputDescription, LiveSpec, FlakyResult}
-use Rattle.scene_text.specs.Names.{attempts_with, Noted, Place, none_noted, noted_outputs, with_noted, placed, PlacedOutput, StoredOutput, all_attempts, attempt_fields, attempt_number, attempts_from}
-use Rattle.scene_text.specs.Names.{retry_numbered}
+use Rattle.run_model.specs.Attempts.{Attempt, Attempts, attempt_with_output}
+use Rattle.scene_text.specs.Names.{ChildOutputDescription, LiveSpec, FlakyResult, attempts_with, Noted, Place, none_noted, noted_outputs, with_noted, placed, PlacedOutput, StoredOutput, all_attempts}
+use Rattle.scene_text.specs.Names.{attempt_fields, attempt_number, attempts_from, retry_numbered}
 use Rattle.scene_fields.specs.declared.fault.LineFault.TheVariants.{WrongNumberOfFields}
 
 abbrev pub TestAttempts : Type 0

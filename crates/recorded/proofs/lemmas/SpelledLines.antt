@@ -10,12 +10,13 @@ use Rattle.recorded.proofs.lemmas.SpelledOutputs.{attempt_loads, attempt_reads, 
 use Rattle.recorded.proofs.lemmas.SpelledPlaces.{Change, Follows, HasNoted, HasOutput, Read, Reads, Refused, RowsRead, Same, by_row_reads, either_reads, exactly_reads, fields_read, if_reads, made_reads, next_reads, next_unmarked, output_made_reads, place_spelled, then_spells, turned_follows, with_attempts_reads, with_put}
 use Rattle.recorded.proofs.lemmas.SpelledTexts.{line_fields, line_passed_over, line_utf8, passed_over_line, lines_of_scene}
 use Rattle.recorded.specs.Names.{event_inline, output_inline, ended_lines, line_inline, lines_inline, AreBytes, line_spelled, scene_spelled}
-use Rattle.run_model.specs.Names.{Attempt, UnitState, ChildOutputDescription, ExecutionResultDescription, RunStats, FlakyResult, RetryData, TestOutputDisplay}
-use Rattle.scene_text.specs.Names.{answer_with, attempts_with, event_with, written, SceneConfig, SceneEvent, SceneOutput, SceneTest, UnitAnswer, ◌>>=◌, Line, Place, exactly, none_noted, noted_outputs}
-use Rattle.scene_text.specs.Names.{says, split_on, LineFault, unescaped_after, PlacedOutput, StoredOutput, ConfigKey, placed, all_attempts, attempt_fields, answer_fields, config_line_fields}
-use Rattle.scene_text.specs.Names.{event_line_fields, event_rows, made, other_event_rows, retry_fields, run_event_rows, script_fields, set_field, state_fields, test_fields, unique_prefix_fields}
-use Rattle.scene_text.specs.Names.{unknown, AllRead, ConfigLine, EventLine, LinesBefore, NoEvent, ParsedLine, ParsedLines, config_words, is_passed_over, line_from, line_place, line_read, line_words}
-use Rattle.scene_text.specs.Names.{lines_before, lines_read, lines_with, no_lines, parsed_line, plain_line, recorded_line, text_lines, with_made, words_behind}
+use Rattle.run_model.specs.Names.{Attempt, TestOutputDisplay}
+use Rattle.scene_text.specs.Names.{UnitState, ChildOutputDescription, ExecutionResultDescription, RunStats, FlakyResult, RetryData, answer_with, attempts_with, event_with, written, SceneConfig}
+use Rattle.scene_text.specs.Names.{SceneEvent, SceneOutput, SceneTest, UnitAnswer, ◌>>=◌, Line, Place, exactly, none_noted, noted_outputs, says, split_on, LineFault, unescaped_after, PlacedOutput}
+use Rattle.scene_text.specs.Names.{StoredOutput, ConfigKey, placed, all_attempts, attempt_fields, answer_fields, config_line_fields, event_line_fields, event_rows, made, other_event_rows}
+use Rattle.scene_text.specs.Names.{retry_fields, run_event_rows, script_fields, set_field, state_fields, test_fields, unique_prefix_fields, unknown, AllRead, ConfigLine, EventLine, LinesBefore}
+use Rattle.scene_text.specs.Names.{NoEvent, ParsedLine, ParsedLines, config_words, is_passed_over, line_from, line_place, line_read, line_words, lines_before, lines_read, lines_with, no_lines}
+use Rattle.scene_text.specs.Names.{parsed_line, plain_line, recorded_line, text_lines, with_made, words_behind}
 use Rattle.scene_events.specs.declared.scene.event.SceneEvent.TheVariants as event
 use Rattle.scene_fields.specs.declared.values.ConfigKey.TheVariants as key
 use Rattle.scene_text.proofs.lemmas.Tellings.{all_tell, all_told}

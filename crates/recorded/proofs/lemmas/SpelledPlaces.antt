@@ -3,11 +3,10 @@ use Rattle.std.proofs.Common.{◌≡◌, ℕ, ◌+◌, ◌%◌, Bool, true, fals
 use Rattle.std.specs.Prelude.{nat_le, ⊤}
 use Rattle.std.proofs.lemmas.List.{length-map}
 use Rattle.scene_text.specs.Names.{◌>>=◌, Line, Noted, Place, exactly, field, goes_on, next, none_noted, noted_outputs, says, taken, valued, with_attempts, with_noted, reference_in, LineFault}
-use Rattle.scene_text.specs.Names.{PlacedOutput, StoredOutput, by_row}
+use Rattle.scene_text.specs.Names.{PlacedOutput, StoredOutput, by_row, ChildOutputDescription}
 use Rattle.scene_fields.specs.declared.fault.LineFault.TheVariants.{WrongNumberOfFields}
 use Rattle.recorded.proofs.lemmas.MarkedFields.{MarkedIsNone, marked}
 use Rattle.recorded.specs.Names.{output_inline, field_spelled}
-use Rattle.run_model.specs.declared.output.ChildOutputDescription.{ChildOutputDescription}
 
 -- a place in the line as it is spelled out, where nothing is noted
 abbrev pub place_spelled : List ℕ → Place → Place

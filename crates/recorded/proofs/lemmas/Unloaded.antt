@@ -2,9 +2,8 @@
 use Rattle.std.proofs.Common.{◌≡◌, ℕ, zero, suc, List, [], ◌∷◌, map, refl, ap, sym, ◌∙◌}
 use native.Mathlib.Omega.{arith}
 use Rattle.run_model.specs.Names.{Attempt, Attempts, Written, attempt_with_output, execution_with_output, summary_of, unloaded_attempt, unloaded_attempts, unloaded_output, unloaded_script}
-use Rattle.run_model.specs.Names.{ChildOutputDescription, LiveSpec}
+use Rattle.scene_text.specs.Names.{ChildOutputDescription, LiveSpec, with_output_at, attempts_with, script_status}
 use Rattle.console_reporter.proofs.lemmas.Isolation.{unloaded-summary}
-use Rattle.scene_text.specs.Names.{with_output_at, attempts_with, script_status}
 
 unloaded-execution : (o : Written) (captured : ChildOutputDescription) → unloaded_output (execution_with_output o captured) ≡ unloaded_output o
 unloaded-execution o captured = grind arith

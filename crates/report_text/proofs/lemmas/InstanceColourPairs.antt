@@ -2,9 +2,9 @@
 use Rattle.std.proofs.Common.{◌≡◌, ℕ, ◌+◌, Bool, true, false, Option, None, Some, refl, encode_utf8}
 use Rattle.run_names.specs.Names.{last_colons}
 use Rattle.run_model.specs.Names.{TestInstanceId, StressIndex}
-use Rattle.styled_text.specs.Names.{Text, HasNoEscape, part_texts, list_styles_of, Style}
+use Rattle.styled_text.specs.Names.{Text, HasNoEscape, part_texts, list_styles_of}
+use Rattle.report_words.specs.Names.{Style, IsPlainInstance, IsColourPair}
 use Rattle.report_text.specs.Instance.{HasPlainCounter, test_name_text, stress_parts, stress_text, stress_prefix, counter_text, counter_prefix, test_text, script_text, instance_text}
-use Rattle.report_words.specs.Names.{IsPlainInstance, IsColourPair}
 use Rattle.report_text.specs.declared.helpers.instance.DisplayCounterIndex.{DisplayCounterIndex}
 use Rattle.report_text.specs.declared.helpers.instance.DisplayCounterIndex.TheVariants.{Counter, Padded}
 use Rattle.styled_text.specs.declared.style.Style.TheVariants as style

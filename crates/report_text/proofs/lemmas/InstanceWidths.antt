@@ -1,7 +1,8 @@
 -- A test that is cut to a greatest width, whose words have no escape characters (for `write_within`).
 use Rattle.std.proofs.Common.{◌≡◌, ℕ, ◌+◌, [], ◌∷◌, ◌++◌, refl, sym, Option, None, Some, codes, length, take, drop, take-append-drop, encode_utf8, subst, arith, ◌-◌, ◌<◌, ◌^◌, true, false, Result}
 use Rattle.styled_text.specs.Names.{decimal, repeat, option_map, option_map_or, IsUtf8, non_zero_u32_get, NonZeroU32, Text, right_in, HasNoEscape, saturated, FitsWidth, IsPainted, ArePainted, columns}
-use Rattle.styled_text.specs.Names.{shrunk, shrunk_parts, Meaning, WriterLaws, Puts, WriteFault, Plain, Styled, part_texts, Style, ListStyles}
+use Rattle.styled_text.specs.Names.{shrunk, shrunk_parts, Meaning, WriterLaws, Puts, WriteFault, Plain, Styled, part_texts}
+use Rattle.report_words.specs.Names.{Style, ListStyles}
 use Rattle.run_names.specs.Names.{last_colons}
 use Rattle.run_names.specs.declared.stress.StressIndex.{StressIndex}
 use Rattle.writers.proofs.lemmas.Steps.{puts_then}

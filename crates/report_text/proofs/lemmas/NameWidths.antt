@@ -2,7 +2,8 @@
 use Rattle.std.proofs.Common.{ℕ, zero, suc, ◌+◌, ◌*◌, ◌<◌, ◌≤◌, ◌^◌, [], ◌∷◌, ◌++◌, arith, length, length-append, length-take, length-drop, Option, None, Some, take, drop, codes, ◌-◌, ◌==◌, inl, inr}
 use Rattle.std.proofs.lemmas.Bool.{cases_Bool}
 use Rattle.styled_text.specs.Names.{chars, chars_after, continuation_len, lead_bits, option_map, option_map_or, Text, visible, visible_after, sequence_len, columns, part_text, styled, style_prefix}
-use Rattle.styled_text.specs.Names.{style_suffix, Styled, part_texts, Style, ListStyles}
+use Rattle.styled_text.specs.Names.{style_suffix, Styled, part_texts}
+use Rattle.report_words.specs.Names.{Style, ListStyles}
 use Rattle.run_names.specs.Names.{last_colons}
 use Rattle.report_text.specs.Instance.{name_parts, test_name_text}
 use Rattle.styled_text.specs.declared.style.Style.TheVariants as style

@@ -1,6 +1,7 @@
 -- A name without colours is the name as it is (for `write_test_name`).
 use Rattle.std.proofs.Common.{◌≡◌, ℕ, zero, suc, ◌+◌, Bool, true, false, [], ◌∷◌, ◌++◌, Option, None, Some, take, drop, codes, refl, ap, arith, append-nil, inl, inr}
-use Rattle.styled_text.specs.Names.{option_map, option_map_or, part_texts, styled, Text, ListStyles}
+use Rattle.styled_text.specs.Names.{option_map, option_map_or, part_texts, styled, Text}
+use Rattle.styled_text.specs.declared.style.ListStyles.{ListStyles}
 use Rattle.std.proofs.lemmas.Bool.Decides.{eqb_tells}
 use Rattle.run_names.specs.Names.{begins_with_colons, last_colons, place_after}
 use Rattle.styled_text.specs.declared.style.Style.TheVariants as style

@@ -1,6 +1,7 @@
 -- A text in colour and a plain one (for the lemmas `colour_pair-..` of the texts above).
 use Rattle.std.proofs.Common.{◌≡◌, Bool, true, false, cond, [], ◌∷◌, ◌++◌, refl, sym, ◌∙◌, ap, append_assoc, append-nil}
-use Rattle.styled_text.specs.Names.{Text, IsEqualButEndSpaces, visible_after, sequence_len, visible, HasNoEscape, indent, plain, styled, reset_color, style_prefix, style_suffix, Style}
+use Rattle.styled_text.specs.Names.{Text, IsEqualButEndSpaces, visible_after, sequence_len, visible, HasNoEscape, indent, plain, styled, reset_color, style_prefix, style_suffix}
+use Rattle.styled_text.specs.declared.style.Style.{Style}
 use Rattle.report_words.specs.InColour.{IsInColour, IsColourPair, IsColourPairOfLine}
 use Rattle.styled_text.specs.declared.style.Style.TheVariants as style
 use Rattle.styled_text.proofs.lemmas.IndentedEndSpaces.{IsBlank, alike-front, alike-line, indent-visible, indent-alike, indent-feed}

@@ -3,11 +3,11 @@ use Rattle.std.proofs.Common.{◌≡◌, ℕ, Bool, true, false, not, Option, No
 use Rattle.std.specs.Option.{option_map_or}
 use Rattle.std.proofs.lemmas.Bool.{cases_Bool, false≢true}
 use Rattle.std.proofs.lemmas.Option.{none-some, same_Some}
-use Rattle.run_model.specs.Names.{Attempt, Attempts, Written, has_loaded_output, summary_of, TestOutputDisplay, TestEventKind, TestInstanceId, ChildOutputDescription, LiveSpec, RunStats, StressIndex}
-use Rattle.run_model.specs.Names.{Nanos}
+use Rattle.run_model.specs.Names.{Attempt, Attempts, Written, has_loaded_output, summary_of, TestOutputDisplay, TestInstanceId, StressIndex, Nanos}
+use Rattle.text_parts.specs.Names.{TestEventKind, ChildOutputDescription, LiveSpec, RunStats, display_for, display_of, is_ever_shown, is_level_shown}
 use Rattle.run_model.specs.declared.event.TestEventKind.TheVariants.{SetupScriptFinished, TestAttemptFailedWillRetry, TestFinished, InfoResponse}
 use Rattle.run_names.specs.declared.level.StatusLevel.TheVariants as level
-use Rattle.text_parts.specs.Names.{display_for, display_of, is_ever_shown, is_level_shown, Settings}
+use Rattle.text_parts.specs.declared.settings.Settings.{Settings}
 use Rattle.reporter_state.specs.Names.{StoreConfig, FinishReport, HasShownOutput, test_finish, HasFailedAttemptOutput, is_failed_output_shown, finish_by, decider_by, lacks_output, loads_attempt}
 use Rattle.reporter_state.specs.Names.{loads_finish}
 

@@ -2,7 +2,8 @@
 use Rattle.std.proofs.Common.{◌≡◌, List, [], ◌∷◌, ◌++◌, refl, ◌∙◌, ap, inl, inr}
 use Rattle.std.proofs.lemmas.Bool.{cases_Bool}
 use Rattle.std.proofs.lemmas.Grind.{flat_map-append}
-use Rattle.run_model.specs.Names.{StatusSummary, Written}
+use Rattle.run_model.specs.declared.status.StatusSummary.{StatusSummary}
+use Rattle.run_model.specs.Attempts.{Written}
 use Rattle.styled_text.specs.Texts.{Text}
 use Rattle.text_parts.specs.declared.settings.Settings.{Settings}
 use Rattle.reporter_state.specs.Names.{shown_entries, shown_entry, final_order, is_before, ordered_by, put_in, FinalOutputEntry, KeptTest}

@@ -2,14 +2,15 @@
 use Rattle.std.proofs.Common.{ℕ, Bool, false, List, [], ◌∷◌, Option, None, Some}
 use Rattle.styled_text.specs.Names.{AllByRecursion, HasNoEscape, Text}
 use Rattle.jiff_core.specs.declared.civil.datetime.DateTime.{DateTime}
-use Rattle.run_model.specs.Names.{UniquePrefix, NextestRunMode, OwnedTestInstanceId, NotSeen, TestCounts, ChildOutputDescription, LiveSpec, ReplayHeader, ExecutionResultDescription}
-use Rattle.run_model.specs.Names.{SetupScriptExecuteStatus}
+use Rattle.run_model.specs.Names.{UniquePrefix, NextestRunMode, OwnedTestInstanceId, NotSeen}
+use Rattle.text_parts.specs.Names.{TestCounts, ChildOutputDescription, LiveSpec, ReplayHeader, ExecutionResultDescription, SetupScriptExecuteStatus, IsPlainResult, skipped_tests_in, IsPlainScript}
+use Rattle.text_parts.specs.Names.{Script}
 use Rattle.run_names.specs.declared.unit.UnitKind.TheVariants as unit
 use Rattle.report_words.specs.PlainTexts.{HoldsIf}
 use Rattle.report_words.proofs.lemmas.ColourPairs.{colour_pair-free}
 use Rattle.report_words.proofs.lemmas.FreeWords.{frees, free-last_digits}
 use Rattle.report_words.proofs.lemmas.PartsInColour.{AreFree, AreFreeGiven}
-use Rattle.text_parts.specs.Names.{IsPlainResult, skipped_tests_in, IsPlainScript, Script, Settings}
+use Rattle.text_parts.specs.declared.settings.Settings.{Settings}
 use Rattle.report_text.proofs.lemmas.InstanceColourPairs.{colour_pair-test_text}
 use Rattle.unit_report.proofs.lemmas.FreeSkipCounts.{free-skip_note}
 use Rattle.text_parts.proofs.lemmas.LineColourPairs.{free-shown_script}

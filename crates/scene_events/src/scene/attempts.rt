@@ -78,7 +78,9 @@ impl Model for EarlierAttempts {
 }
 
 impl Model for SceneAttempts {
-    ghost use Rattle.run_model.specs.Names.{Attempts, ChildOutputDescription, LiveSpec};
+    ghost use Rattle.run_model.specs.Attempts.{Attempts};
+    ghost use Rattle.run_model.specs.declared.output.ChildOutputDescription.{ChildOutputDescription};
+    ghost use Rattle.run_model.specs.declared.output.LiveSpec.{LiveSpec};
 
     ghost Value = { Attempts LiveSpec ChildOutputDescription };
 

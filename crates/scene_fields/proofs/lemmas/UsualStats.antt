@@ -8,7 +8,8 @@ use Rattle.std.specs.Str.Parse.{AllDigits, digits_value}
 use Rattle.std.proofs.lemmas.Int.Digits.{digits_value-lt}
 use Rattle.std.proofs.lemmas.Bool.Decides.{nat_tests}
 use Rattle.std.proofs.lemmas.List.{append-nil, take-append-le}
-use Rattle.run_model.specs.Names.{planned_stats, RunStats}
+use Rattle.run_model.specs.Stats.{planned_stats}
+use Rattle.run_model.specs.declared.stats.RunStats.{RunStats}
 use Rattle.scene_fields.specs.Counts.{in_turn, pair_in, row_in, stats_in, stats_rows}
 use Rattle.scene_fields.specs.Numbers.{IsLeadingNumber, IsNumberAfter, IsNumberOrZero, number_in}
 use Rattle.scene_fields.specs.Split.{Lacks, split_on}

@@ -8,7 +8,8 @@ use Rattle.std.proofs.lemmas.Option.{slice_get_cases}
 use Rattle.styled_text.specs.Names.{position, option_and_then, option_map_or, buffer_laws, Appends}
 use Rattle.std.specs.Prelude.{slice_get}
 use Rattle.scenes.proofs.Common.{AllZip, Appends-nil, AreReadyCallsOf, AreWhole, Begins, buffer_meaning, BufferAccepts, common_steps, device, Prints, scene_lines, StandAtOneCall, TextBuffer, IsCallOf, position_or_len, configuration_for, decider_for, false≢true, Fault, fault_at_call, first_refused, HasAtLeast, HasAtMost, HasBeginning, HasFirstCalls, IsSceneRefused, is_some, Meaning, option_map, Options, OutOfMemory, OutputLoadDecider, Records, refusal_by, report, report_of, ReportCall, reverse-append, Scene, SceneConfig, Stops, store_for, stored, stored_of, stored_text, take_all, Text, text, unloaded_for, unread, unread_call, WriteEventError, Io, StoreIo, StoreFailed, WriteFailed}
-use Rattle.console_reporter.specs.Names.{refusal_at, Configuration, configured_in, Report, past_at, text_at, stored_at, DisplayReporterBuilder}
+use Rattle.console_reporter.specs.Names.{refusal_at, Configuration, configured_in, Report, past_at, text_at, stored_at}
+use Rattle.console_reporter.specs.declared.imp.builder.DisplayReporterBuilder.{DisplayReporterBuilder}
 use Rattle.reporter_state.specs.Names.{refusal_at_by, refusal_in, StoreConfig}
 use Rattle.writers.specs.declared.write_str.WriteFault.TheVariants.{Device}
 use Rattle.scenes.specs.Names.{fault_of_first, builder_for, surroundings_of, AreBegun}

@@ -1,9 +1,10 @@
 -- The line of a finished test and its output, without escape characters (for the text of a finished test, and for the entries of a summary).
 use Rattle.std.proofs.Common.{Bool, false}
 use Rattle.run_names.specs.declared.unit.UnitKind.TheVariants as unit
-use Rattle.run_model.specs.Names.{StatusCase, StatusSummary}
+use Rattle.text_parts.specs.Names.{StatusCase, StatusSummary, IsPlainResult, IsPlainWritten}
 use Rattle.run_model.specs.declared.status.StatusCase.TheVariants.{Success, Flaky, Failure}
-use Rattle.text_parts.specs.Names.{IsPlainResult, IsPlainWritten, CountedInstance, Settings}
+use Rattle.text_parts.specs.declared.instance.CountedInstance.{CountedInstance}
+use Rattle.text_parts.specs.declared.settings.Settings.{Settings}
 use Rattle.report_text.proofs.lemmas.InstanceColourPairs.{colour_pair-instance_text}
 use Rattle.report_words.proofs.lemmas.FreeWords.{frees}
 use Rattle.report_words.proofs.lemmas.PartsInColour.{AreFree}

@@ -1,13 +1,15 @@
 -- The lines of tests that have not finished, without escape characters (for the texts of their events).
 use Rattle.std.proofs.Common.{ℕ, Bool, true, false, List, Option}
 use Rattle.styled_text.specs.Names.{AllByRecursion, HasNoEscape, Text}
-use Rattle.run_model.specs.Names.{TestOutputDisplay, TestInstanceId, StressIndex, Attempt, RunStats, RetryData}
+use Rattle.run_model.specs.Names.{TestOutputDisplay, TestInstanceId, StressIndex, Attempt}
+use Rattle.text_parts.specs.Names.{RunStats, RetryData, IsPlainResult, IsPlainWritten}
 use Rattle.run_names.specs.declared.unit.UnitKind.TheVariants as unit
 use Rattle.report_words.specs.PlainTexts.{IsPlainInstance}
 use Rattle.report_words.proofs.lemmas.ColourPairs.{colour_pair-free}
 use Rattle.report_words.proofs.lemmas.FreeWords.{frees}
 use Rattle.report_words.proofs.lemmas.PartsInColour.{AreFree}
-use Rattle.text_parts.specs.Names.{IsPlainResult, IsPlainWritten, CountedInstance, Settings}
+use Rattle.text_parts.specs.declared.instance.CountedInstance.{CountedInstance}
+use Rattle.text_parts.specs.declared.settings.Settings.{Settings}
 use Rattle.report_text.proofs.lemmas.FreeDetails.{free-shell_words}
 use Rattle.text_parts.proofs.lemmas.LineColourPairs.{IsPlainTest, plain-started_counter, plain-padded, free-instance_end, free-untimed_end}
 use Rattle.text_parts.proofs.lemmas.OutputColourPairs.{free-unit_output}

@@ -1,6 +1,7 @@
 -- The tests and setup scripts of lines, without escape characters (for all lines of units).
 use Rattle.std.proofs.Common.{◌≢◌, ◌∷◌, ℕ, Bool, true, false, arith, Option, None, Some}
-use Rattle.run_model.specs.Names.{TestInstanceId, RunStats, StressIndex}
+use Rattle.run_model.specs.Names.{TestInstanceId, StressIndex}
+use Rattle.run_model.specs.declared.stats.RunStats.{RunStats}
 use Rattle.text_parts.specs.Names.{HasPlainCounter, padded_instance, instance_end, untimed_end, IsPlainScript, Script, shown_script, counter_where, finished_counter, next_where, started_counter}
 use Rattle.text_parts.specs.Names.{padded_where, padded_counter, CountedInstance, Settings}
 use Rattle.report_words.specs.Names.{IsPlainInstance, hbar_character}

@@ -1,10 +1,12 @@
 -- The output of an attempt or of a setup script, without escape characters (for the lines that it follows).
 use Rattle.std.proofs.Common.{◌≡◌, Bool, true, false, refl}
-use Rattle.run_model.specs.Names.{ExecutionResultDescription, UnitKind, Written}
+use Rattle.run_model.specs.declared.status.ExecutionResultDescription.{ExecutionResultDescription}
+use Rattle.run_model.specs.Names.{UnitKind, Written}
 use Rattle.run_model.specs.declared.status.ExecutionResultDescription.TheVariants as outcome
 use Rattle.run_model.specs.declared.status.LeakTimeoutResult.TheVariants as leak
 use Rattle.run_model.specs.declared.status.SlowTimeoutResult.TheVariants as slow
-use Rattle.styled_text.specs.Names.{without_end_spaces, styles_of, Style}
+use Rattle.styled_text.specs.Names.{without_end_spaces, styles_of}
+use Rattle.styled_text.specs.declared.style.Style.{Style}
 use Rattle.text_parts.specs.Names.{IsPlainResult, IsPlainWritten, header_style, layout_in, shown_info_line, info_line, unit_output, Settings}
 use Rattle.report_words.specs.declared.theme.ThemeCharacters.{ThemeCharacters}
 use Rattle.styled_text.specs.declared.style.Style.TheVariants as style

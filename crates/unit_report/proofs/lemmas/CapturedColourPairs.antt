@@ -1,7 +1,8 @@
 -- Captured output with its highlight, in colour and plain (for `colour_pair-shown_stream`).
 use Rattle.std.proofs.Common.{◌≡◌, ℕ, ◌<◌, Bool, true, false, List, [], ◌∷◌, ◌++◌, refl, sym, ◌∙◌, ap, ap₂, arith, inl, inr, append_assoc, append-nil, Option, None, Some, length, take, drop, take-append-drop, drop-drop, length-drop, ◌==◌}
 use Rattle.styled_text.specs.Names.{AllByRecursion, flat_map, without_trailing_newline, ends_in_line_feed, visible_after, visible, HasNoEscape, highlight_end, indent, plain, styles_of, reset_color}
-use Rattle.styled_text.specs.Names.{style_suffix, Text, Style, onto_first_line, whole_lines, without_end_spaces}
+use Rattle.styled_text.specs.Names.{style_suffix, Text, onto_first_line, whole_lines, without_end_spaces}
+use Rattle.report_words.specs.Names.{Style, IsColourPair, HoldsIf}
 use Rattle.std.proofs.lemmas.Bool.{cases_Bool, eqb-true}
 use Rattle.run_model.specs.Names.{Part, decoded_text}
 use Rattle.unit_report.specs.Captured.{plain_output, reset_output, highlighted_output, is_valid, highlight_stop, highlighted_by, coloured_output, captured}
@@ -10,7 +11,6 @@ use Rattle.styled_text.proofs.lemmas.Pieces.{free_parts, visible-free}
 use Rattle.styled_text.proofs.lemmas.Widths.{free_both, visible-free_append}
 use Rattle.report_words.proofs.lemmas.FreeWords.{free-take, free-drop, free-indent, free-visible}
 use Rattle.styled_text.proofs.lemmas.IndentedEndSpaces.{IsBlank}
-use Rattle.report_words.specs.Names.{IsColourPair, HoldsIf}
 use Rattle.report_words.proofs.lemmas.ColourPairs.{prefix-append, suffix-append, reset-append, colour_pair-indent}
 use Rattle.unit_report.specs.PlainOutputs.{IsInside, IsPlainStream}
 

@@ -1,6 +1,7 @@
 -- What a run skips, for a profile name without escape characters (for the line of its start).
 use Rattle.std.proofs.Common.{ℕ, Bool, codes, refl}
-use Rattle.run_model.specs.Names.{CompiledDefaultFilter, CompiledDefaultFilterSection, NextestRunMode, SkipCounts}
+use Rattle.run_model.specs.Names.{CompiledDefaultFilter, CompiledDefaultFilterSection, NextestRunMode}
+use Rattle.run_model.specs.declared.event.SkipCounts.{SkipCounts}
 use Rattle.run_names.specs.declared.config.CompiledDefaultFilterSection.TheVariants.{Profile, Override}
 use Rattle.styled_text.specs.Names.{Text, HasNoEscape}
 use Rattle.styled_text.proofs.lemmas.Widths.{free_both}

@@ -4,7 +4,8 @@ use Rattle.std.proofs.Math.Seq.{drop-cons}
 use Rattle.std.proofs.lemmas.Bool.{cases_Bool, and_parts}
 use Rattle.std.proofs.lemmas.Bool.Decides.{nat_tests}
 use Rattle.std.proofs.lemmas.Str.{IsCharBoundary-end}
-use Rattle.styled_text.specs.Names.{IsCharBoundary, whole_lines, Text, Style}
+use Rattle.styled_text.specs.Names.{IsCharBoundary, whole_lines, Text}
+use Rattle.styled_text.specs.declared.style.Style.{Style}
 use Rattle.unit_report.specs.HighlightedLines.{closes_line, is_line_end, body_len, highlighted_line, highlighted_lines}
 
 pub whole_lines-nil : (t : Text) → length t ≡ 0 → whole_lines t ≡ []

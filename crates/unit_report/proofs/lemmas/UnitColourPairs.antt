@@ -1,10 +1,15 @@
 -- The output of a unit, in colour and plain (for the output of attempts and of responses).
 use Rattle.std.proofs.Common.{◌≡◌, ℕ, Bool, true, false, refl, List, [], ◌∷◌, Option, None, Some, codes}
-use Rattle.styled_text.specs.Names.{AllByRecursion, flat_map, option_and_then, Text, HasNoEscape, styles_of, Style, Styles}
-use Rattle.run_model.specs.Names.{MessageAndCauses, Part, stdout_part, stderr_part, ChildExecutionOutputDescription, ChildOutputDescription, Highlight, LiveSpec}
+use Rattle.styled_text.specs.Names.{AllByRecursion, flat_map, option_and_then, Text, HasNoEscape, styles_of}
+use Rattle.report_words.specs.Names.{Style, Styles, IsColourPair, EndsLine, drawn_given, words, ◌⧺◌, HoldsIf, IsPlainChain}
+use Rattle.run_model.specs.Names.{MessageAndCauses, Part, stdout_part, stderr_part}
+use Rattle.run_model.specs.declared.output.ChildExecutionOutputDescription.{ChildExecutionOutputDescription}
+use Rattle.run_model.specs.declared.output.ChildOutputDescription.{ChildOutputDescription}
+use Rattle.run_model.specs.declared.output.Highlight.{Highlight}
+use Rattle.run_model.specs.declared.output.LiveSpec.{LiveSpec}
 use Rattle.run_model.specs.declared.output.ChildExecutionOutputDescription.TheVariants.{Output, StartError}
 use Rattle.run_model.specs.declared.output.ChildOutputDescription.TheVariants.{Split, Combined, NotLoaded}
-use Rattle.report_words.specs.Names.{ThemeCharacters, IsColourPair, EndsLine, drawn_given, words, ◌⧺◌, HoldsIf, IsPlainChain}
+use Rattle.report_words.specs.declared.theme.ThemeCharacters.{ThemeCharacters}
 use Rattle.styled_text.specs.declared.style.Style.TheVariants as style
 use Rattle.unit_report.specs.ErrorChain.{cause_text, causes_text, error_chain_text}
 use Rattle.unit_report.specs.Header.{output_name_text, bar_text, header_text}

@@ -1,6 +1,8 @@
 use Rattle.std.proofs.Common.{rules, refl, ap, subst, sym, ◌∙◌, inr, List, Some}
-use Rattle.run_model.specs.Names.{reason_rank, ReportCall}
-use Rattle.reporter_state.specs.Names.{ReporterState, cancel, kept, prefix}
+use Rattle.run_names.specs.Levels.{reason_rank}
+use Rattle.run_model.specs.declared.call.ReportCall.{ReportCall}
+use Rattle.reporter_state.specs.declared.state.ReporterState.{ReporterState}
+use Rattle.reporter_state.specs.Entries.{cancel, kept, prefix}
 use Rattle.console_reporter.proofs.lemmas.Stores.{config-same}
 use Rattle.console_reporter.proofs.lemmas.Calls.{stops_after, stops_error}
 use Rattle.console_reporter.proofs.lemmas.Promises.{promise_broken, promise_failed, promise_told}
