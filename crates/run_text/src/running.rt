@@ -33,7 +33,6 @@ impl Running {
 /// How many run, and of what.
 ///
 /// ```
-/// use writers::text::WriteText;
 /// let running = Running { setup_scripts: 0, tests: 3 };
 /// ShownRunning(&styles, NextestRunMode::Test, running).write_to(&mut out)?;
 /// assert_eq!(out.as_str(), "3 tests");

@@ -12,7 +12,7 @@ use itoa::Buffer;
 /// A text that can be written more than once, each time the same.
 ///
 /// ```
-/// (Decimal(2), " tests", Unless(false, ", of which none failed")).write_to(&mut out)?;
+/// (Decimal(2), " tests", Unless(is_quiet, ", of which none failed")).write_to(&mut out)?;
 /// assert_eq!(out.as_str(), "2 tests, of which none failed");
 /// ```
 pub trait WriteText {
