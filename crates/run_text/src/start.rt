@@ -41,7 +41,7 @@ pub fn write_run_started<W: WriteStr>(
         Toned(styles.count, profile_name.as_str()),
         "\n",
     );
-    let counted = Counted(styles, mode, test_list);
+    let counted = TestsAndBinaries(styles, mode, test_list);
     let starting = Right(12, styles.pass, "Starting");
     let starting = (starting, " ", counted, Skipped(settings, test_list), "\n");
     (BarLine(settings.theme_characters), run_id, starting).write_to(w)

@@ -93,7 +93,6 @@ pub(crate) fn escape_at(escape: &[u8], most: u8) -> Option<(u8, usize)>
 }
 
 // The byte that two hexadecimal digits write.
-#[cold]
 fn hex_byte(high: u8, low: u8) -> Option<u8>
     ensures { SomeIff result ((digit_value high < 16) × (digit_value low < 16)) (16 * digit_value high + digit_value low) }
 {
