@@ -10,7 +10,7 @@ from norigully import TOP
 
 # The parts of a crate that its proof reads.
 PARTS = ("src", "specs", "proofs")
-# What stands in a crate's folder and is no part of what is built of it.
+# What is in a crate's folder and is no part of what is built from it.
 NOT_BUILT_FROM = ("out", "must-fail", "mistakes")
 
 

@@ -46,7 +46,7 @@ MODULES = (
     *("page.py", "page_table.py", "scene_lines.py", "junit.py", "libtest_json.py", "cargo.py"),
 )
 HERE = pathlib.Path(__file__).parent
-# The least that a zip file can tell, and a day for other time zones.
+# The earliest time that a zip file can hold, and a day for other time zones.
 TIME = 315_619_200
 MAIN = "from norigully.installed import main\n\nmain()\n"
 

@@ -16,7 +16,7 @@ from norigully import TOP, kept, kit
 from norigully.crate_list import lines_of, sources_of, with_those_below
 
 PROGRAMS = ("report", "follow", "replay")
-# So many are kept for other checkouts, those last used.
+# How many are kept for other checkouts, those last used.
 MOST = 9
 
 

@@ -23,7 +23,7 @@ STREAMS = {b"split": 2, b"comb": 1}
 MARK = b"\\@"
 # The variable that makes Python's hash of bytes the same in each run, and what keeps its value where a script sets it.
 SEED, OWN_SEED = "PYTHONHASHSEED", "NORIGULLY_PYTHONHASHSEED"
-# Zeros may stand in front of a number, and no file is so large that its numbers have more digits.
+# A number may begin with zeros, and no file is so large that its numbers have more digits.
 REFERENCE = re.compile(rb"\\@0*([0-9]{1,20}):0*([0-9]{1,20}):([0-9a-f]{16})")
 
 
@@ -157,7 +157,7 @@ class Recorder:
             raise Bad(f"cannot write {folder}: {error.strerror}") from error
         self.headers, self.room_at = headers or {}, None
         self.number, self.size = 0, 0
-        # By test: where that stands which its attempts wrote that were tried again.
+        # By test: where the output of its earlier attempts is.
         self.retried = {}
 
     def write(self, line):

@@ -9,7 +9,7 @@ import signal
 from decimal import ROUND_HALF_UP, Decimal
 
 NAMED = {"\n": "\\n", "\t": "\\t", "\r": "\\r", "\x1b": "\\e", "\\": "\\\\"}
-# What does not stand for itself: an outputs' bytes that are not UTF-8 are surrogates in a text of Python.
+# What is escaped: an output's bytes that are not UTF-8 are surrogates in a text of Python.
 SPELLED = re.compile("[\x00-\x1f\x7f\\\\\ud800-\udfff]")
 ESCAPE = re.compile(rb"\\(?:[ntre\\]|x([0-9a-fA-F]{2}))")
 OF_ESCAPES = {escape.encode(): character.encode() for character, escape in NAMED.items()}
