@@ -1,4 +1,4 @@
-"""What crates.txt says: its lines, lowest first, and the crates that one stands on. And the files of a crate.
+"""What crates.txt says: its lines, lowest first, and the crates that one depends on. And the files of a crate.
 
 The scripts read crates.txt here alone, and without a kit, since a built program runs where there is none.
 """

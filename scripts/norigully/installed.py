@@ -57,7 +57,7 @@ def beside(name):
 
 
 def write(target):
-    """Writes the `norigully` that ./build installs: one file, which runs the programs that stand beside it."""
+    """Writes the `norigully` that ./build installs: one file, which runs the programs that are beside it."""
     with tempfile.TemporaryDirectory() as made:
         made = pathlib.Path(made)
         (made / "norigully").mkdir()
@@ -73,7 +73,7 @@ def write(target):
 
 
 def program_of(name):
-    """Where a program stands."""
+    """Where a program is."""
     return pathlib.Path(sys.argv[0]).resolve().parent / beside(name)
 
 

@@ -87,7 +87,7 @@ def fields_of(line):
 
 
 def streams_of(fields):
-    """For each output of a line that tells something the places of its streams, counted from 0."""
+    """For each output of a line that says something the places of its streams, counted from 0."""
     if fields[0] not in FIRST_STREAM:
         return []
     step = FIELDS_OF_AN_ATTEMPT if fields[0] == b"done" else len(fields)
@@ -198,7 +198,7 @@ class Recorder:
         return fields
 
     def reference(self, data, known):
-        """A reference to these bytes, which stand there already where the same line or an earlier attempt of its test
+        """A reference to these bytes, which are there already where the same line or an earlier attempt of its test
         has them."""
         key = len(data), sum_of(data)
         offset = known.get(key)
@@ -232,7 +232,7 @@ def held_in(field):
 
 
 class RecordedRun:
-    """A recorded run that is read: its whole lines, without their line feeds, and what stands behind the last."""
+    """A recorded run that is read: its whole lines, without their line feeds, and what follows the last."""
 
     def __init__(self, folder):
         missing = [name for name in (LINES, OUTPUTS) if not os.path.isfile(os.path.join(folder, name))]
