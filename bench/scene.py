@@ -6,7 +6,7 @@ Nine in ten pass; names have the lengths of a large workspace's, and each line c
 run. With --outputs each test has written some lines, coloured as cargo's are; a test that failed shows them at once.
 With --passed every test passes, and the summary lists none. With --kept every test passes and the summary lists it;
 tests finish in the order of the summary (`ordered`), in the opposite one (`reversed`) or in none (`shuffled`). With
---skips all tests are skipped, and the report says nothing of them. With --events the run is told as it goes: a setup
+--skips all tests are skipped, and the report says nothing of them. With --events the run is reported live: a setup
 script, each test's start, slow ones, attempts that are tried again, skipped tests, the state on request, what a test is
 doing, and a pause. With --kind all lines are of that kind: `start`, `retry` or `answer` with an output, or `setup`.
 """

@@ -57,7 +57,7 @@ class CargoWords:
 
 @dataclass(frozen=True)
 class Package:
-    """A package: its name, its folder, and what Cargo tells its tests of it."""
+    """A package: its name, its folder, and what Cargo passes to its tests."""
 
     name: str
     folder: str

@@ -29,7 +29,7 @@ def need_tool(tool):
 
 
 def build_shim(folder):
-    """Builds the library that changes the calls of a program (faults.c), and answers where it stands."""
+    """Builds the library that changes the calls of a program (faults.c), and returns where it is."""
     need_tool("cc")
     made = folder / "faults.so"
     source = TOP / "scripts/norigully/faults.c"
@@ -38,7 +38,7 @@ def build_shim(folder):
 
 
 def case_words(args):
-    """The words of a case, which stand in NAME.args: one a line, `{}` for its scene."""
+    """The words of a case, which are in NAME.args: one a line, `{}` for its scene."""
     return args.read_text().split("\n")[:-1]
 
 

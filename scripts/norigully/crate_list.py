@@ -1,4 +1,4 @@
-"""What crates.txt says: its lines, lowest first, and the crates that one stands on. And the files of a crate.
+"""What crates.txt says: its lines, lowest first, and the crates that one depends on. And the files of a crate.
 
 The scripts read crates.txt here alone, and without a kit, since a built program runs where there is none.
 """
@@ -10,7 +10,7 @@ from norigully import TOP
 
 # The parts of a crate that its proof reads.
 PARTS = ("src", "specs", "proofs")
-# What stands in a crate's folder and is no part of what is built of it.
+# What is in a crate's folder and is no part of what is built from it.
 NOT_BUILT_FROM = ("out", "must-fail", "mistakes")
 
 

@@ -18,7 +18,7 @@ LIBS = pathlib.Path(os.environ.get("LIBS") or TOP).resolve()
 
 
 class Crate:
-    """A line of crates.txt: a crate, its kind if that is told, and the libraries that it names."""
+    """A line of crates.txt: a crate, its kind if it has one, and the libraries that it names."""
 
     def __init__(self, name, line, of, top):
         self.name, self.line, self.named, self.of, self.top = name, line, named_in(line), of, top
@@ -31,7 +31,7 @@ class Crate:
         return [self.of[it] for it in self.named if it in self.of]
 
     def below(self):
-        """All crates of this repository that it stands on, lowest first."""
+        """All crates of this repository that it depends on, lowest first."""
         return [self.of[it] for it in with_those_below([self.name], self.top) if it != self.name]
 
     def rlib(self):
@@ -64,7 +64,7 @@ class Crate:
         return known[self.name]
 
     def why_not_current(self, known=None):
-        """Why what the gate left of it is not of the sources that stand here, or None. Its mark tells; where there is
+        """Why what the gate left of it is not of these sources, or None. Its mark says so; where there is
         none, since `rt ci` was called by hand, the dates do. What is known are sums, as in `sum`."""
         if self.mark().is_file():
             is_same = self.mark().read_text() == self.sum({} if known is None else known)
@@ -79,7 +79,7 @@ class Crate:
         return None
 
     def functions(self):
-        """The names by which rattle calls its functions, as its library tells them. A program tells none."""
+        """The names by which rattle calls its functions, as its library lists them. A program lists none."""
         parts = self.rlib() / "toolchain/checked.json"
         told = parts.read_text() if parts.is_file() else ""
         found = re.findall(rf'"part/Rattle-{self.name}-proofs\.([^"]*)\.Code"', told)

@@ -1,4 +1,4 @@
-"""The functions in a crate's text, as `rt fmt` lays them out: where each begins, where its body stands, and what it is
+"""The functions in a crate's text, as `rt fmt` lays them out: where each begins, where its body is, and what it is
 a method of. For scripts/check-mistakes, which changes, copies and empties them."""
 
 import re
@@ -9,7 +9,7 @@ OWNER = re.compile(r"^(?:pub(?:\([^)]*\))? )?(?:unsafe )?(?:impl|trait)\b([^{]*)
 
 class Function:
     """A function with a body: its name, the place of its `fn` line, of the attributes and comments above it, and of
-    what stands in its body."""
+    what is in its body."""
 
     def __init__(self, found, above, body, end):
         self.indent, self.name = found[1], found[5]
@@ -71,7 +71,7 @@ def owner_of(head):
 
 
 def head_above(text, place):
-    """The head of the impl or trait that a method stands in."""
+    """The head of the impl or trait that a method is in."""
     heads = [it[1] for it in OWNER.finditer(text) if it.start() < place]
     return heads[-1] if heads else ""
 

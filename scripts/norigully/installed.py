@@ -46,7 +46,7 @@ MODULES = (
     *("page.py", "page_table.py", "scene_lines.py", "junit.py", "libtest_json.py", "cargo.py"),
 )
 HERE = pathlib.Path(__file__).parent
-# The least that a zip file can tell, and a day for other time zones.
+# The earliest time that a zip file can hold, and a day for other time zones.
 TIME = 315_619_200
 MAIN = "from norigully.installed import main\n\nmain()\n"
 
@@ -57,7 +57,7 @@ def beside(name):
 
 
 def write(target):
-    """Writes the `norigully` that ./build installs: one file, which runs the programs that stand beside it."""
+    """Writes the `norigully` that ./build installs: one file, which runs the programs that are beside it."""
     with tempfile.TemporaryDirectory() as made:
         made = pathlib.Path(made)
         (made / "norigully").mkdir()
@@ -73,7 +73,7 @@ def write(target):
 
 
 def program_of(name):
-    """Where a program stands."""
+    """Where a program is."""
     return pathlib.Path(sys.argv[0]).resolve().parent / beside(name)
 
 

@@ -13,9 +13,9 @@ import stat
 import tempfile
 import time
 
-# What was not used for so many days goes, and what is beyond the most entries of a folder, the longest unused first.
+# What was not used for this many days is removed, and what is beyond the most entries of a folder, the longest unused first.
 DAYS = 30
-# What a run that was killed left of a file goes after so many seconds.
+# What a killed run left of a file is removed after this many seconds.
 LEFT_OVER = 24 * 3600
 
 

@@ -16,7 +16,7 @@ MEGABYTES_A_CHECK = 3500
 
 @functools.cache
 def folder():
-    """Where the kit stands. It ends the program where there is none."""
+    """Where the kit is. It ends the program where there is none."""
     return pathlib.Path(shutil.which("rt") or sys.exit("there is no rt on the PATH")).resolve().parent.parent
 
 
@@ -52,7 +52,7 @@ def megabytes():
 
 
 def has_memory_for(checks):
-    """Whether so many checks may run side by side."""
+    """Whether this many checks may run side by side."""
     return megabytes() >= checks * MEGABYTES_A_CHECK
 
 

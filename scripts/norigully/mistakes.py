@@ -75,7 +75,7 @@ class Mistake:
         return texts
 
     def is_within_functions(self):
-        """Whether it changes nothing but functions. What stands around them, as a constant, may be read by others, and
+        """Whether it changes nothing but functions. What is around them, as a constant, may be read by others, and
         could make those wrong as well."""
         texts = sources_of(self.crate)
         for path, old, new in self.edits:

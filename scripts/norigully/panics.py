@@ -6,7 +6,7 @@ import re
 # `thread 'main' panicked at src/lib.rs:5:9:`, in newer Rust with the thread's id behind its name.
 PANICKED = re.compile(rb"^thread '[^\n]*?' (?:\(\d+\) )?panicked at ", re.M)
 RETURNED = re.compile(rb"^Error: ", re.M)
-# What stands behind a message: the note on backtraces, or a backtrace.
+# What follows a message: the note on backtraces, or a backtrace.
 BEHIND = re.compile(rb"\n(?:note: |stack backtrace:)")
 DID_NOT_PANIC = re.compile(rb"^note: test did not panic as expected.*$", re.M)
 

@@ -1,4 +1,4 @@
-"""The proved programs: where they stand, and whether one is of the sources here. ./run asks it at each call.
+"""The proved programs: where they are, and whether one was built from these sources. ./run asks it at each call.
 
 A proved program is current where the sums that were written beside it when it was built are those of its sources and of
 its own bytes now. Dates say nothing: a checkout or a `touch` changes them, and no byte. The kit is no part of these
@@ -16,17 +16,17 @@ from norigully import TOP, kept, kit
 from norigully.crate_list import lines_of, sources_of, with_those_below
 
 PROGRAMS = ("report", "follow", "replay")
-# So many are kept for other checkouts, those last used.
+# How many are kept for other checkouts, those last used.
 MOST = 9
 
 
 def program(name, top=TOP):
-    """Where the proved program stands."""
+    """Where the proved program is."""
     return top / "crates" / name / "out" / name
 
 
 def sum_file(name, top=TOP):
-    """Where its sums stand."""
+    """Where its sums are."""
     return program(name, top).with_suffix(".sum")
 
 

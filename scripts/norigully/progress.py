@@ -60,8 +60,8 @@ class Crates(Progress):
                     self.begun[name] = time.monotonic()
 
     def read(self, line):
-        """Says what a line of the kit tells of a crate in the end, and answers its name and whether it is proved. None
-        where the line tells something else."""
+        """Prints what a line of the kit reports of a crate, and returns its name and whether it is proved; None
+        where the line says something else."""
         found = DONE.match(line)
         if not found or found[1] not in self.outs:
             return None

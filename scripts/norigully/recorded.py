@@ -23,7 +23,7 @@ STREAMS = {b"split": 2, b"comb": 1}
 MARK = b"\\@"
 # The variable that makes Python's hash of bytes the same in each run, and what keeps its value where a script sets it.
 SEED, OWN_SEED = "PYTHONHASHSEED", "NORIGULLY_PYTHONHASHSEED"
-# Zeros may stand in front of a number, and no file is so large that its numbers have more digits.
+# A number may begin with zeros, and no file is so large that its numbers have more digits.
 REFERENCE = re.compile(rb"\\@0*([0-9]{1,20}):0*([0-9]{1,20}):([0-9a-f]{16})")
 
 
@@ -87,7 +87,7 @@ def fields_of(line):
 
 
 def streams_of(fields):
-    """For each output of a line that tells something the places of its streams, counted from 0."""
+    """For each output of a line that says something the places of its streams, counted from 0."""
     if fields[0] not in FIRST_STREAM:
         return []
     step = FIELDS_OF_AN_ATTEMPT if fields[0] == b"done" else len(fields)
@@ -157,7 +157,7 @@ class Recorder:
             raise Bad(f"cannot write {folder}: {error.strerror}") from error
         self.headers, self.room_at = headers or {}, None
         self.number, self.size = 0, 0
-        # By test: where that stands which its attempts wrote that were tried again.
+        # By test: where the output of its earlier attempts is.
         self.retried = {}
 
     def write(self, line):
@@ -198,7 +198,7 @@ class Recorder:
         return fields
 
     def reference(self, data, known):
-        """A reference to these bytes, which stand there already where the same line or an earlier attempt of its test
+        """A reference to these bytes, which are there already where the same line or an earlier attempt of its test
         has them."""
         key = len(data), sum_of(data)
         offset = known.get(key)
@@ -232,7 +232,7 @@ def held_in(field):
 
 
 class RecordedRun:
-    """A recorded run that is read: its whole lines, without their line feeds, and what stands behind the last."""
+    """A recorded run that is read: its whole lines, without their line feeds, and what follows the last."""
 
     def __init__(self, folder):
         missing = [name for name in (LINES, OUTPUTS) if not os.path.isfile(os.path.join(folder, name))]

@@ -1,7 +1,7 @@
 """Lines of scenes: what the scripts that make scenes share. No other script knows the format (docs/SCENES.md).
 
 `text` spells a text, `words` a list of them, `attempt` an attempt of a test, and `Run` writes the lines of a run, each
-with the statistics after it. The statistics follow nextest's `RunStats`; each rule stands where it is used.
+with the statistics after it. The statistics follow nextest's `RunStats`; each rule is stated where it is used.
 """
 
 import re
@@ -9,7 +9,7 @@ import signal
 from decimal import ROUND_HALF_UP, Decimal
 
 NAMED = {"\n": "\\n", "\t": "\\t", "\r": "\\r", "\x1b": "\\e", "\\": "\\\\"}
-# What does not stand for itself: an outputs' bytes that are not UTF-8 are surrogates in a text of Python.
+# What is escaped: an output's bytes that are not UTF-8 are surrogates in a text of Python.
 SPELLED = re.compile("[\x00-\x1f\x7f\\\\\ud800-\udfff]")
 ESCAPE = re.compile(rb"\\(?:[ntre\\]|x([0-9a-fA-F]{2}))")
 OF_ESCAPES = {escape.encode(): character.encode() for character, escape in NAMED.items()}
@@ -20,7 +20,7 @@ UNKNOWN_FAILURE = "fail:101"
 
 
 def spelled(character, may_be_byte):
-    """A character that does not stand for itself. Bytes that are not UTF-8 can stand in outputs alone."""
+    """An escaped character. Bytes that are not UTF-8 occur in outputs alone."""
     if character in NAMED:
         return NAMED[character]
     code = ord(character)
@@ -184,7 +184,7 @@ class Run:
             self.count("failed")
 
     def done(self, binary, name, attempts, success="never", failure="immediate", total=None):
-        """A test finished, of whose attempts so many are allowed; as many as were made where that is not known."""
+        """A test finished, of whose attempts this many are allowed; as many as were made where that is not known."""
         self.count_finished(attempts)
         self.line_of(binary, name, attempts, success, failure, total)
 

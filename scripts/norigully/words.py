@@ -33,7 +33,7 @@ class Options:
     given: list = field(default_factory=list)
     store_at: int | None = None
     file: str | None = None
-    # Not a word of the programs: ./run gives them colours on a terminal, unless it is told not to.
+    # Not a word of the programs: ./run gives them colours on a terminal, unless asked not to.
     wants_color: bool = True
 
     @property

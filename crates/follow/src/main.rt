@@ -27,7 +27,7 @@ fn main(rt: HostRuntime) -> ExitCode {
     ExitCode::from(status)
 }
 
-// Answers the status of the run. Of a run that did not end it prints a line.
+// Returns the status of the run. For a run that did not end it prints a line.
 fn end(rt: &HostRuntime, outcome: RunOutcome) -> u8 {
     if outcome == RunOutcome::NotEnded {
         print_error(rt, "follow: the run did not end");

@@ -18,6 +18,6 @@ returns-in-Ok g c =
 
 pub returns-in-Err : goal.returns-in-Err
 returns-in-Err g c =
-    promise_broken g.W.WriteStr.meaning g.S.WriteStr.meaning c.args.self.now _ (Some (Prefix c.args.prefix.now)) (search rules) (record { writer = refl; store = (same-reporter c.args.self.now).store; settings = refl })
+    rw c.fail.ensures.error (rw c.fail.ensures.failed (promise_broken g.W.WriteStr.meaning g.S.WriteStr.meaning c.args.self.now _ (Some (Prefix c.args.prefix.now)) (search rules) (record { writer = refl; store = (same-reporter c.args.self.now).store; settings = refl })
     (λ config past stands. refl) Memory refl
-    (memory_broken g.met.W.WriteStr.laws g.met.S.WriteStr.laws c.args.self.now _ (Prefix c.args.prefix.now) (search rules) refl refl) refl
+    (memory_broken g.met.W.WriteStr.laws g.met.S.WriteStr.laws c.args.self.now _ (Prefix c.args.prefix.now) (search rules) refl refl) refl))

@@ -11,8 +11,8 @@ returns-in-Ok-clause-call g c =
 
 pub returns-in-Err-clause-call : goal.returns-in-Err-clause-call
 returns-in-Err-clause-call g c =
-    promise_broken g.W.WriteStr.meaning g.S.WriteStr.meaning c.args.self.now _ None (search rules) (search rules) (λ config past stands. refl) c.error_of.result c.error_of.ensures.unrefused (search rules) refl
+    rw c.fail.ensures.error (rw c.fail.ensures.failed (promise_broken g.W.WriteStr.meaning g.S.WriteStr.meaning c.args.self.now _ None (search rules) (search rules) (λ config past stands. refl) c.error_of.result c.error_of.ensures.unrefused (search rules) refl))
 
 pub returns-in-Err-flush_store-clause-call : goal.returns-in-Err-flush_store-clause-call
 returns-in-Err-flush_store-clause-call g c =
-    promise_broken g.W.WriteStr.meaning g.S.WriteStr.meaning c.args.self.now _ None (search rules) (search rules) (λ config past stands. refl) c.store_error_of.result c.store_error_of.ensures.unrefused (search rules) refl
+    rw c.fail-in-Err-flush_store.ensures.error (rw c.fail-in-Err-flush_store.ensures.failed (promise_broken g.W.WriteStr.meaning g.S.WriteStr.meaning c.args.self.now _ None (search rules) (search rules) (λ config past stands. refl) c.store_error_of.result c.store_error_of.ensures.unrefused (search rules) refl))

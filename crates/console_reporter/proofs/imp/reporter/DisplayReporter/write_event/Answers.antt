@@ -23,7 +23,7 @@ returns-in-Err g c =
     let none = none_where_not_some c.early_error.result c.in_default.not-Some in
     let same = c.report_and_store.ensures.same in
     let broken = c.in-Err.ensures.err in
-    promise_broken g.W.WriteStr.meaning g.S.WriteStr.meaning c.args.self.now _ (Some (Event c.args.event.now)) (c.early_error.ensures.works none)
+    rw c.fail.ensures.error (rw c.fail.ensures.failed (promise_broken g.W.WriteStr.meaning g.S.WriteStr.meaning c.args.self.now _ (Some (Event c.args.event.now)) (c.early_error.ensures.works none)
     (record { writer = same.writer; store = same.store; settings = same.settings })
     (event_accepted c.args.self.now c.args.event.now (c.early_error.ensures.accepted none))
     c.in-Err.error c.in-Err.ensures.unrefused
@@ -36,4 +36,4 @@ returns-in-Err g c =
       memory = broken.memory;
       delivered = broken.delivered;
     })
-    refl
+    refl))

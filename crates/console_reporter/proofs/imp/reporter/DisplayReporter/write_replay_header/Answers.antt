@@ -35,7 +35,7 @@ returns-in-Ok g c =
 
 pub returns-in-Err : goal.returns-in-Err
 returns-in-Err g c =
-    promise_broken g.W.WriteStr.meaning g.S.WriteStr.meaning c.args.self.now _ (Some (Header c.args.header.now)) (search rules) (search rules) (λ config past stands. refl) c.error_of.result c.error_of.ensures.unrefused
+    rw c.fail.ensures.error (rw c.fail.ensures.failed (promise_broken g.W.WriteStr.meaning g.S.WriteStr.meaning c.args.self.now _ (Some (Header c.args.header.now)) (search rules) (search rules) (λ config past stands. refl) c.error_of.result c.error_of.ensures.unrefused
     (record {
       stopped = λ config past stands.
           stops_error g.W.WriteStr.meaning c.args.self.now.writer.now c.deliver_header.new.w (text config past (Header c.args.header.now)) c.in-Err.fault c.error_of.result c.error_of.ensures.error (rw stands.settings at c.in-Err.ensures.text);
@@ -46,14 +46,14 @@ returns-in-Err g c =
       memory = search rules;
       delivered = search rules;
     })
-    refl
+    refl))
 
 pub returns-in-Err-flush_store : goal.returns-in-Err-flush_store
 returns-in-Err-flush_store g c =
     let told : (config : Configuration) (past : List ReportCall) → StandsAfter config past c.args.self.now → g.W.WriteStr.meaning.accepts c.args.self.now.writer.now (text config past (Header c.args.header.now)) c.flush_store.new.self.writer.now =
     λ config past stands.
     subst (λ w. g.W.WriteStr.meaning.accepts c.args.self.now.writer.now (text config past (Header c.args.header.now)) w) (sym c.flush_store.ensures.writer) (rw stands.settings at c.in_default.ensures.text) in
-    promise_broken g.W.WriteStr.meaning g.S.WriteStr.meaning c.args.self.now _ (Some (Header c.args.header.now)) (search rules) (search rules) (λ config past stands. refl) c.store_error_of.result c.store_error_of.ensures.unrefused
+    rw c.fail-in-Err-flush_store.ensures.error (rw c.fail-in-Err-flush_store.ensures.failed (promise_broken g.W.WriteStr.meaning g.S.WriteStr.meaning c.args.self.now _ (Some (Header c.args.header.now)) (search rules) (search rules) (λ config past stands. refl) c.store_error_of.result c.store_error_of.ensures.unrefused
     (record {
       stopped = λ config past stands.
           stops_after g.W.WriteStr.meaning c.args.self.now.writer.now c.flush_store.new.self.writer.now (text config past (Header c.args.header.now)) c.in-Err-flush_store.fault c.store_error_of.result c.store_error_of.ensures.error (told config past stands);
@@ -64,4 +64,4 @@ returns-in-Err-flush_store g c =
       memory = search rules;
       delivered = search rules;
     })
-    refl
+    refl))
