@@ -51,6 +51,7 @@ def marked(lines, numbers, mark):
 def places_of(report, mark):
     """How many lines of a report are in front of each mark, and a sum of the report without the marks."""
     places, count, found = [], 0, hashlib.sha256()
+    report.seek(0)
     for piece in pieces_of(report):
         at, whole = 0, memoryview(piece)
         while (inside := piece.find(mark, at)) >= 0:

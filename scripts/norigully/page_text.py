@@ -14,6 +14,7 @@ UNSEEN = re.compile(
 
 def lines_of(report):
     """The lines of a file, without what a terminal does not show."""
+    report.seek(0)
     for line in report:
         text = line.decode(errors="replace")
         if len(text) > LONGEST:
@@ -47,7 +48,9 @@ def shortened(report):
 
 
 def write_text(report, file):
-    """Writes the report as text of HTML into a file."""
+    """Writes the report as text of HTML into a file. What stands behind the last line feed is a line only where it is
+    something."""
+    lines = shortened(report)
     with open(file, "wb") as text:
-        for line in shortened(report):
+        for line in lines[:-1] if lines[-1] == "" else lines:
             text.write(html.escape(line, quote=False).encode() + b"\n")

@@ -33,7 +33,7 @@ const put = (parent, pieces) => {
   for (const [text, on, fore, back] of pieces) {
     if (!on && !fore && !back) { parent.append(text); continue; }
     const span = document.createElement("span"), isOwn = fore && !NAMED.test(fore);
-    span.className = [...on, NAMED.test(fore) && `c${fore}`, isOwn && "own", NAMED.test(back) && `g${back}`].filter(Boolean).join(" ");
+    span.className = [...on, NAMED.test(fore) && `c${fore}`, isOwn && !back && "own", NAMED.test(back) && `g${back}`].filter(Boolean).join(" ");
     if (back && !NAMED.test(back)) {
       span.style.background = back;
       span.style.color = isOwn ? readable(fore, back) : ink(back);

@@ -18,6 +18,7 @@ addEventListener("beforeprint", () => {
   const to = $("paper");
   to.replaceChildren();
   if (!paper) {
+    $("summary").textContent = "";
     to.append(new DOMParser().parseFromString(document.querySelector("noscript").textContent, "text/html").body.textContent);
     return;
   }

@@ -81,7 +81,7 @@ const stepFailure = by => {
 const toolsOf = number => {
   const tools = element("span", "tools");
   tools.append(tool("copy name", async () => nameOf(tests[number])));
-  if (tests[number].hasOutput) tools.append(tool("copy output", () => ask("output", { number })));
+  if (tests[number].hasOutput) tools.append(tool("copy output", () => ask("output", { test: number })));
   return tools;
 };
 const tool = (label, text) => {

@@ -30,6 +30,8 @@ const placesOf = ({ level, failure, success }) => {
   return places;
 };
 
+// How many lines a name takes.
+const heightOf = ([binary, name]) => `${binary}${name}`.split("\n").length;
 // The line of each test in a report: the one that told that it finished, and else one of the summary, which has the same
 // time and name.
 const linesOfTests = report => {
@@ -38,17 +40,21 @@ const linesOfTests = report => {
     const number = told[report[n]];
     if (number && lines[number - 1] < 0) lines[number - 1] = n;
   }
-  for (const [k, [, , place]] of about.tests.entries()) if (place >= 0 && lines[k] < 0) others.set(keyOf(place), k);
+  for (const [k, [, , place]] of about.tests.entries()) {
+    if (place >= 0 && lines[k] < 0) others.set(keyOf(place), [...(others.get(keyOf(place)) ?? []), k]);
+  }
   for (let n = 0; others.size && n < report.length; n++) {
-    const k = isOwn(report[n]) ? others.get(keyOf(report[n])) : undefined;
-    if (k !== undefined && lines[k] < 0) lines[k] = n;
+    for (const k of (isOwn(report[n]) && others.get(keyOf(report[n]))) || []) {
+      const isSame = (_, i) => i === 0 || table[report[n + i]] === table[about.tests[k][2] + i];
+      if (lines[k] < 0 && Array.from({ length: heightOf(about.tests[k]) }).every(isSame)) { lines[k] = n; break; }
+    }
   }
   return lines;
 };
 // What a test wrote, as the report shows it, which stands behind its name.
-const outputOf = ([binary, name, place, end]) => {
-  const lines = [];
-  for (let at = place + `${binary}${name}`.split("\n").length; place >= 0 && at < end; at++) lines.push(plainOf(at));
+const outputOf = test => {
+  const [, , place, end] = test, lines = [];
+  for (let at = place + heightOf(test); place >= 0 && at < end; at++) lines.push(plainOf(at));
   return lines.join("\n").replace(/^\n+|\s+$/g, "");
 };
 const timeOf = ([, , place]) => (place < 0 ? "" : /\[[ >]*([\d.]+s)\]/.exec(plainOf(place))?.[1] ?? "");
@@ -81,12 +87,13 @@ const cutLine = place => {
 
 const answers = {
   async start({ packed }) {
-    const [about_, all, lines] = await Promise.all(packed.map(unpacked));
-    about = JSON.parse(about_);
+    const [said, all, lines] = await Promise.all(packed.map(unpacked));
+    about = JSON.parse(said);
     [reports, table] = [all.split("\n"), lines.slice(0, -1).split("\n")];
     told = new Uint32Array(table.length);
     for (const [k, [, , place]] of about.tests.entries()) if (place >= 0) told[place] = k + 1;
-    const tests = about.tests.map(it => ({ binary: it[0], name: it[1], time: timeOf(it), hasOutput: outputOf(it) !== "" }));
+    const failed = new Set(about.lists.failed);
+    const tests = about.tests.map((it, k) => ({ binary: it[0], name: it[1], time: timeOf(it), hasOutput: failed.has(k) && outputOf(it) !== "" }));
     return { tests, lists: about.lists, note: about.note, choices: Object.keys(about.reports) };
   },
   show({ choice }) {
@@ -116,7 +123,7 @@ const answers = {
     const textOf = places => Array.from(places, cutLine).join("\n");
     return { first: textOf(report.subarray(0, first)), last: textOf(report.subarray(first + left)), left };
   },
-  output: ({ number }) => outputOf(about.tests[number]),
+  output: ({ test }) => outputOf(about.tests[test]),
   find({ word }) {
     const wanted = word.toLowerCase(), known = new Uint8Array(table.length), hits = [];
     for (let n = 0; wanted && n < current.report.length; n++) {
