@@ -259,7 +259,17 @@ def write_packed(source, file):
 def can_be_written(path):
     """Whether a file can go there, as far as that is known before it does."""
     at = path if os.path.lexists(path) else os.path.dirname(path) or "."
-    return os.access(at, os.W_OK) and os.path.isdir(at) == (at != path)
+    return path and os.access(at, os.W_OK) and os.path.isdir(at) == (at != path)
+
+
+def opened(path):
+    """The file, or standard output for None."""
+    if path is None:
+        return open(OUTPUT, "wb", closefd=False)
+    try:
+        return open(path, "wb")
+    except OSError as error:
+        raise Bad(f"cannot write {path}") from error
 
 
 def main(words, find):
@@ -273,6 +283,6 @@ def main(words, find):
         made = Path(folder, "page")
         with open(made, "wb") as file:
             make(Run(asked, Path(folder), find), file)
-        with open(OUTPUT, "wb", closefd=False) if asked.to is None else open(asked.to, "wb") as file:
+        with opened(asked.to) as file:
             for piece in entry.pieces_of(made):
                 entry.write(piece, file.fileno())

@@ -137,7 +137,7 @@ GLYPHS = """() => [...document.querySelectorAll("text")].map(it => {
 })"""
 
 
-def check_pictures(checks, browser):
+def check_pictures(checks, _folder, browser):
     """Each character of a picture is in its column: a browser may collapse spaces, and spread what is left."""
     for file in sorted((TOP / "docs").glob("*.svg")):
         if file.name == "diagram.svg":

@@ -1,7 +1,6 @@
 """What a page is told by the lines of a scene: when output is shown, the facts of the run, and the tests that it lists."""
 
 import hashlib
-import re
 from dataclasses import dataclass, field
 
 from norigully.page_table import pieces_of
@@ -12,32 +11,33 @@ PASSED = (b"pass", b"leak", b"tmpass")
 # How many of the slowest tests a page lists.
 SLOWEST = 10
 BATCH = 1 << 20
-# In the lines behind a line feed the words for when output is shown, of successes and of failures, and of failures alone.
-WORDS = re.compile(
-    rb"\n(?:done(?:\t[^\t\n]*){3}\t([^\t\n]*)\t([^\t\n]*)|retry(?:\t[^\t\n]*){6}\t([^\t\n]*))(?=\t)"
-)
+# The field of a line in front of which it is cut, by its first bytes: the words for when output is shown stand before.
+CUTS = {b"done\t": 6, b"retry": 8}
 
 
 def shown(lines, success, failure):
     """The lines of a scene, some at a time, with other words for when output is shown; an empty word leaves those of the
     scene."""
-    words = [(number, word.encode()) for number, word in ((1, success), (2, failure), (3, failure)) if word]
+    success, failure = success.encode(), failure.encode()
     while batch := lines.readlines(BATCH):
-        text = b"".join([b"\n", *batch])
+        parts = [part for line in batch for part in with_words(line, success, failure)]
+        is_long = len(batch[-1]) > BATCH
         del batch
-        yield with_words(text, words)
+        # A long line is not copied once more.
+        yield from parts if is_long else [b"".join(parts)]
 
 
-def with_words(text, words):
-    """The lines behind a line feed, with these words in their places."""
-    at, parts, whole = 1, [], memoryview(text)
-    for found in WORDS.finditer(text) if words else ():
-        for number, word in words:
-            begin, end = found.regs[number]
-            if begin > 0:
-                parts += whole[at:begin], word
-                at = end
-    return b"".join([*parts, whole[at:]])
+def with_words(line, success, failure):
+    """The parts of a line, with these words."""
+    count = CUTS.get(line[:5])
+    fields = line.split(b"\t", count) if count else ()
+    if count == 6 and len(fields) > 6:
+        fields[4:6] = success or fields[4], failure or fields[5]
+    elif count == 8 and len(fields) > 8 and fields[0] == b"retry":
+        fields[7] = failure or fields[7]
+    else:
+        return (line,)
+    return b"\t".join([*fields[:count], b""]), fields[count]
 
 
 def marked(lines, numbers, mark):
@@ -45,7 +45,10 @@ def marked(lines, numbers, mark):
     of the report has one line."""
     line_of_mark = b"setup\t-\t0\t1\t%s\t\t-\n" % mark
     for number, line in enumerate(lines):
-        yield line if number not in numbers else b"".join([line_of_mark, line.removesuffix(b"\n"), b"\n", line_of_mark])
+        if number not in numbers:
+            yield line
+        else:
+            yield from (line_of_mark, line, b"" if line.endswith(b"\n") else b"\n", line_of_mark)
 
 
 def places_of(report, mark):
@@ -131,10 +134,12 @@ class Told:
                 self.facts["Took"] = spoken(number_of(fields[1]))
 
     def read_test(self, number, line):
-        before = line.split(b"\t", FIELDS_BEFORE)
-        of_last = line.rsplit(b"\t", FIELDS_OF_AN_ATTEMPT)
-        was_retried = before[-1].count(b"\t") >= FIELDS_OF_AN_ATTEMPT
-        has_passed, nanos = of_last[1] in PASSED, number_of(of_last[2])
+        # What tests wrote is not copied.
+        at = len(line)
+        for _ in range(FIELDS_OF_AN_ATTEMPT):
+            at = line.rindex(b"\t", 0, at)
+        before, (result, nanos) = line[:at].split(b"\t"), line[at + 1 : at + 99].split(b"\t", 2)[:2]
+        was_retried, has_passed, nanos = len(before) > FIELDS_BEFORE, result in PASSED, number_of(nanos)
         if has_passed and not was_retried and nanos <= self.least:
             return
         test = Test(number, tuple(map(plain, before[2:4])))

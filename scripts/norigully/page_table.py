@@ -5,13 +5,14 @@ import array
 import bisect
 import hashlib
 import io
-import itertools
 import os
 
-# Reports are compared in pieces: the least and the most bytes at a time.
-LEAST, MOST, PIECE = 1 << 8, 1 << 16, 1 << 18
-# So many places behind the last one are looked at before all are.
-NEAR = 16
+# Reports are compared in pieces: a few bytes, of which most lines differ in some, and then more and more of them.
+HEAD, LEAST, MOST, PIECE = 16, 1 << 8, 1 << 16, 1 << 18
+# So many bytes behind the last line are looked through, and so many lines of one text are noted.
+NEAR, SAME = 1 << 12, 8
+# How many lines can be noted at first.
+ROOM = 1 << 12
 STYLE = b"\x1b"
 
 
@@ -24,10 +25,12 @@ class Table:
         """The lines go into this file, which is empty."""
         self.writer, self.reader = open(file, "wb"), open(file, "rb")
         self.count, self.end, self.is_behind_style = 0, 0, False
-        # Of the lines that may be looked up: their sums, where they begin, and how many lines are before them.
+        # Of the lines that may be looked up: their sums, where they begin, and how many lines are before them; and by
+        # their sums which ones these are, counted from 1. There is always room in it.
         self.sums, self.starts, self.numbers = array.array("q"), array.array("Q"), array.array("I")
-        # Those of the first report in the order of their sums, and by their sums those that came later.
-        self.order, self.later = array.array("I"), {}
+        self.slots = array.array("I", bytes(4 * ROOM))
+        # Some of the bytes.
+        self.held_at, self.held = 0, b""
 
     def close(self):
         self.writer.close()
@@ -40,10 +43,12 @@ class Table:
             return self.first(report)
         found, at, place = array.array("q", [0, 0]), 0, 0
         for piece in pieces_of(report):
-            begin, end = 0, self.same(piece, 0, place)
+            begin = 0
             while begin < len(piece):
+                end = self.same(piece, begin, place)
                 if end == begin:
-                    number, place, end = self.place_of(piece, begin, at)
+                    end = piece.index(b"\n", begin) + 1
+                    number, place = self.place_of(piece, begin, end, at, place)
                     if number != at:
                         found.extend((number - at, 0))
                         at = number
@@ -58,30 +63,49 @@ class Table:
             for line in io.BytesIO(piece):
                 self.append(line)
         self.writer.flush()
-        # In parts, by the first four bits: while it is sorted, a place takes twenty times as much memory.
-        for part in range(-8, 8):
-            places = (place for place, key in enumerate(self.sums) if key >> 60 == part)
-            self.order.extend(sorted(places, key=self.sums.__getitem__))
         return array.array("q", [0, self.count])
 
     def append(self, line):
-        """Writes a new line, and returns whether it may be looked up."""
+        """Writes a new line."""
         is_styled = line.startswith(STYLE)
-        is_noted = is_styled or self.is_behind_style
-        if is_noted:
-            self.sums.append(hash(line))
-            self.starts.append(self.end)
-            self.numbers.append(self.count)
+        if is_styled or self.is_behind_style:
+            self.note(hash(line))
         self.writer.write(line)
         self.is_behind_style = is_styled
         self.count += 1
         self.end += len(line)
-        return is_noted
+
+    def note(self, key):
+        """Notes where the line of this sum goes, unless many are the same."""
+        same, slot = self.of_sum(key)
+        if len(same) == SAME:
+            return
+        self.sums.append(key)
+        self.starts.append(self.end)
+        self.numbers.append(self.count)
+        self.slots[slot] = len(self.sums)
+        if 3 * len(self.sums) > 2 * len(self.slots):
+            self.slots = array.array("I", bytes(2 * len(self.slots) * self.slots.itemsize))
+            for number, key in enumerate(self.sums, 1):
+                self.slots[self.of_sum(key)[1]] = number
+
+    def of_sum(self, key):
+        """The lines that are noted of this sum, in their order, and the slot behind them."""
+        sums, slots, last, found = self.sums, self.slots, len(self.slots) - 1, []
+        slot = key & last
+        while number := slots[slot]:
+            if sums[number - 1] == key:
+                found.append(number - 1)
+            slot = (slot + 1) & last
+        return found, slot
 
     def same(self, piece, begin, place):
         """The end of the whole lines from here on that are those at this place of the table."""
+        head = piece[begin : begin + HEAD]
+        if head != self.read(HEAD, place) and b"\n" not in head:
+            return begin
         end, size = begin, LEAST
-        while (here := piece[end : end + size]) and (there := os.pread(self.reader.fileno(), size, place)):
+        while (here := piece[end : end + size]) and (there := self.read(size, place)):
             if here != there:
                 length = min(len(here), len(there))
                 differs = int.from_bytes(here[:length], "little") ^ int.from_bytes(there[:length], "little")
@@ -90,35 +114,28 @@ class Table:
             end, place, size = end + size, place + size, min(4 * size, MOST)
         return max(begin, piece.rfind(b"\n", begin, end) + 1)
 
-    def place_of(self, piece, begin, at):
-        """Where the line that begins here is from here on, or else first, or else where it goes as a new one: how many
-        lines and how many bytes are before it; and the end of the lines that are the same."""
-        end = piece.index(b"\n", begin) + 1
-        line = piece[begin:end]
-        key = hash(line)
-        for it in self.of_sum(key, bisect.bisect_left(self.numbers, at, 0, len(self.order))):
-            same = self.same(piece, begin, self.starts[it])
-            if same != begin:
-                return self.numbers[it], self.starts[it], same
-        self.is_behind_style = piece.startswith(STYLE, piece.rfind(b"\n", 0, max(0, begin - 1)) + 1) and begin > 0
-        number, place = self.count, self.end
-        if self.append(line):
-            self.later.setdefault(key, []).append(len(self.sums) - 1)
-        self.writer.flush()
-        return number, place, end
+    def read(self, size, place):
+        """That many bytes of the table, or those that are there. Much of it is read one after another."""
+        at = place - self.held_at
+        if at < 0 or at + size > len(self.held):
+            self.held_at, self.held, at = place, os.pread(self.reader.fileno(), max(size, MOST), place), 0
+        return self.held[at : at + size]
 
-    def of_sum(self, key, behind):
-        """The lines of this sum: those of the first report from here on, those before, and those that came later."""
-        try:
-            yield self.sums.index(key, behind, min(behind + NEAR, len(self.order)))
-        except ValueError:
-            pass
-        sum_of = self.sums.__getitem__
-        low = bisect.bisect_left(self.order, key, key=sum_of)
-        high = bisect.bisect_right(self.order, key, low, key=sum_of)
-        middle = bisect.bisect_left(self.order, behind, low, high)
-        yield from map(self.order.__getitem__, itertools.chain(range(middle, high), range(low, middle)))
-        yield from self.later.get(key, ())
+    def place_of(self, piece, begin, end, at, place):
+        """Where a line is from here on, or else first, or else where it goes as a new one: how many lines and how many
+        bytes are before it."""
+        line, near = piece[begin:end], self.read(NEAR, place)
+        if inside := near.find(b"\n" + line) + 1:
+            return at + near.count(b"\n", 0, inside), place + inside
+        behind = bisect.bisect_left(self.numbers, at)
+        for it in sorted(self.of_sum(hash(line))[0], key=lambda it: it < behind):
+            if self.read(len(line), self.starts[it]) == line:
+                return self.numbers[it], self.starts[it]
+        self.is_behind_style = begin > 0 and piece.startswith(STYLE, piece.rfind(b"\n", 0, begin - 1) + 1)
+        found = self.count, self.end
+        self.append(line)
+        self.writer.flush()
+        return found
 
 
 def pieces_of(report):
