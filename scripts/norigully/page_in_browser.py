@@ -251,7 +251,7 @@ def check_stretches(checks, folder, browser):
 
 WHERE = """() => {
   const it = document.activeElement;
-  return [it.id || it.getAttribute("aria-label") || "", it.textContent];
+  return [it.id || it.getAttribute("aria-label") || "", it.textContent.slice(0, 80)];
 }"""
 
 
@@ -264,6 +264,7 @@ def check_keyboard(checks, folder, browser):
     of.end(1)
     scene.write_text("".join(made))
     make(checks, file, scene)
+    browser.resize(1200, 800)
     browser.open(f"file://{file}")
 
     def pressed(*keys):
@@ -348,8 +349,13 @@ def check_lists(checks, folder, browser):
     same = [a[:2] == b[:2] and a[2].endswith(b[2]) and b[3] in (a[3], None) for a, b in zip(found, wanted)]
     checks.expect(all(same) and len(found) == len(wanted), f"lists: {[it for it, is_it in zip(found, same) if not is_it]}")
     browser.ask("Browser.grantPermissions", permissions=["clipboardReadWrite", "clipboardSanitizedWrite"])
-    rows = [(0, "lists first\nsecond", "  stdout ---\n\n        FAIL [   0.010s] lists later\n    of the first"), (4, "lists silent", None)]
-    rows += [(2, "lists later", "  stdout ---\n    of the later\n")]
+    rows = [(0, "lists first\nsecond", "FAIL [   0.010s] lists later\n    of the first"), (1, "lists first\nthird", "of the third")]
+    rows += [(2, "lists later", "  stdout ---\n    of the later\n\n    (test failed with exit code 1)"), (4, "lists flaky", None)]
+    numbers = browser.value("[...links()].map(it => Number(it.dataset.test))")
+    for link, name, output in rows:
+        copied = browser.value(f"({COPY})({numbers[link]})")
+        is_right = copied[0] == name and (len(copied) == 1 if output is None else output in copied[1])
+        checks.expect(is_right and "\x1b" not in "".join(copied), f"copied of {name}: {copied}")
     check_levels(checks, browser)
 
 
@@ -395,8 +401,9 @@ def paper_scene():
 
 ON_PAPER = """() => {
   dispatchEvent(new Event("beforeprint"));
-  const lines = $("paper").querySelectorAll("div"), said = [...$("paper").querySelectorAll(":scope > p")].map(it => it.textContent);
-  return [lines.length, lines[0].textContent, lines[lines.length - 1].textContent, ...said];
+  const parts = [...$("paper").querySelectorAll(":scope > :not(p)")], lines = parts.map(it => it.textContent).join("\\n").split("\\n");
+  const said = [...$("paper").querySelectorAll(":scope > p")].map(it => it.textContent);
+  return [lines.length, lines[0], lines[lines.length - 1], ...said];
 }"""
 
 

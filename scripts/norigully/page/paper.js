@@ -2,17 +2,23 @@
 // here before; until the run is read they are those that stand in the page for browsers without scripts.
 let paper = null;
 const takePaper = async () => { paper = await ask("paper", { generation: shown.generation }); };
-// A line that begins with a style and has a time, or that many dashes, begins what is not to be cut in two.
-const BEGINS = /^(?:\x1b\[[^\[]*\x1b\[0m \[|[─-]{12}$)/;
-const put_lines = (to, text, style) => {
-  let part = to;
-  for (const line of text.split("\n")) {
-    if (BEGINS.test(line)) part = to.appendChild(element("section"));
-    const row = part.appendChild(element("div"));
-    put(row, pieces(line, style, Infinity));
-    if (!line) row.append("\n");
-    style = styleAfter(line, style);
+// Browsers take long to print many elements: what is one line each stands together.
+const TOGETHER = 100;
+const putParts = (to, parts) => {
+  let lines = [];
+  const end = () => {
+    if (lines.length) to.append(element("div", "", lines.join("\n")));
+    lines = [];
+  };
+  for (const part of parts) {
+    const at = part.indexOf("\n");
+    if (at < 0) lines.push(part);
+    if (at >= 0 || lines.length === TOGETHER) end();
+    if (at < 0) continue;
+    const whole = to.appendChild(element("section"));
+    whole.append(element("b", "", part.slice(0, at)), part.slice(at));
   }
+  end();
 };
 addEventListener("beforeprint", () => {
   const to = $("paper");
@@ -24,10 +30,10 @@ addEventListener("beforeprint", () => {
   }
   const said = ["level", "failure", "success"].map(id => [$(`${id}-label`).textContent, $(id).selectedOptions[0].textContent].join(": "));
   to.append(element("p", "", said.join(" · ")));
-  put_lines(to, paper.first, PLAIN);
+  putParts(to, paper.first);
   if (!paper.left) return;
   to.append(element("p", "", `… ${paper.left.toLocaleString("en")} lines are not printed: a lower level has fewer …`));
-  put_lines(to, paper.last, PLAIN);
+  putParts(to, paper.last);
 });
 addEventListener("afterprint", () => $("paper").replaceChildren());
 

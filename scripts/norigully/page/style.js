@@ -46,8 +46,8 @@ const styleAfter = (line, style) => {
 };
 
 // The pieces of a line that have one style each, as text and style. What is behind the last that a line may have has its style.
-const pieces = (line, style, longest = LONGEST) => {
-  const made = [], cut = line.length > longest ? line.slice(0, longest) : line;
+const pieces = (line, style) => {
+  const made = [], cut = line.length > LONGEST ? line.slice(0, LONGEST) : line;
   const add = text => {
     const last = made.at(-1);
     if (!text) return;
@@ -64,6 +64,6 @@ const pieces = (line, style, longest = LONGEST) => {
   }
   if (made.length === STRETCHES) made.at(-1)[0] += cut.slice(from).replace(SEQUENCE, "");
   else add(cut.slice(from));
-  if (cut !== line) made.push([` … and ${line.length - longest} characters more`, "i", "8", ""]);
+  if (cut !== line) made.push([` … and ${line.length - LONGEST} characters more`, "i", "8", ""]);
   return made;
 };

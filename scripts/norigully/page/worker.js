@@ -75,14 +75,22 @@ const fitting = (report, most) => {
   let count = 0;
   for (const place of report) {
     if (most <= 0) break;
-    most -= 1 + Math.floor(Math.min(table[place].length, LONGEST) / ON_PAPER);
+    most -= 1 + Math.floor(Math.min(plainOf(place).length, LONGEST) / ON_PAPER);
     count++;
   }
   return count;
 };
-const cutLine = place => {
-  const line = table[place];
-  return line.length > LONGEST ? `${line.slice(0, LONGEST)}\x1b[0m … and ${line.length - LONGEST} characters more` : line;
+// Lines as plain text, each with those behind it that are of one test: a line that begins with a style and has a time, or
+// that many dashes, begins anew.
+const begins = place => (isOwn(place) ? /^[^[\]]{1,14}\[[^\]]*\] /.test(plainOf(place)) : /^[─-]{12}$/.test(table[place]));
+const partsOf = places => {
+  const parts = [];
+  for (const place of places) {
+    const line = plainOf(place), more = line.length - LONGEST;
+    const text = more > 0 ? `${line.slice(0, LONGEST)} … and ${more} characters more` : line;
+    if (!parts.length || begins(place)) parts.push(text); else parts[parts.length - 1] += `\n${text}`;
+  }
+  return parts;
 };
 
 const answers = {
@@ -120,8 +128,7 @@ const answers = {
     if (generation !== current.generation) return null;
     const { report } = current, first = fitting(report, MOST_ON_PAPER / 2);
     const last = fitting(report.slice(first).reverse(), MOST_ON_PAPER / 2), left = report.length - first - last;
-    const textOf = places => Array.from(places, cutLine).join("\n");
-    return { first: textOf(report.subarray(0, first)), last: textOf(report.subarray(first + left)), left };
+    return { first: partsOf(report.subarray(0, first)), last: partsOf(report.subarray(first + left)), left };
   },
   output: ({ test }) => outputOf(about.tests[test]),
   find({ word }) {
