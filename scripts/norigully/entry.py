@@ -96,9 +96,10 @@ def fill_standard_descriptors():
 
 def encoded(text):
     """The bytes of a text, in which bytes that are not UTF-8 are surrogates, whatever the locale is."""
-    with contextlib.suppress(UnicodeEncodeError):
+    try:
         return text.encode()
-    return re.sub("[\ud800-\udc7f\udd00-\udfff]", "\ufffd", text).encode("utf-8", "surrogateescape")
+    except UnicodeEncodeError:
+        return re.sub("[\ud800-\udc7f\udd00-\udfff]", "\ufffd", text).encode("utf-8", "surrogateescape")
 
 
 def fault(name, what, status):

@@ -31,8 +31,8 @@ class Tree:
 
     def __init__(self, file, take):
         self.file, self.take, self.builder, self.within = file, take, tree.TreeBuilder(), [None]
-        # The names of the suites that it is within, each of which may be that of the one around.
-        self.suites = [None]
+        # The elements that it is within, and the names of the suites, each of which may be that of the one around.
+        self.open, self.suites = [], [None]
         self.data = self.builder.data
         self.close = self.builder.close
 
@@ -45,18 +45,18 @@ class Tree:
         if len(self.within) > DEEPEST:
             raise Bad(f"{self.file}: suites in more than {DEEPEST} suites")
         self.within.append(name)
-        self.builder.start(name, attributes)
+        self.open.append(self.builder.start(name, attributes))
         if name == "testsuite":
             self.suites.append(attributes.get("name") or self.suites[-1] if within else attributes.get("name"))
 
     def end(self, _tag):
-        name = self.within.pop()
-        element = self.builder.end(name)
+        name, element = self.within.pop(), self.open.pop()
+        self.builder.end(name)
         if name == "testsuite":
             self.suites.pop()
         elif name == "testcase":
             self.take(self.suites[-1], element)
-            element.clear()
+            del self.open[-1][-1]
 
     def doctype(self, *_):
         raise Bad(f"{self.file}: a document type, which JUnit XML has no use for")
@@ -119,7 +119,7 @@ def failed_attempt(failure, seconds, out, err):
 
 def seconds_of(element):
     time = element.get("time") or "0"
-    return time.replace(",", "" if THOUSANDS.fullmatch(time) else ".")
+    return time.replace(",", "" if THOUSANDS.fullmatch(time) else ".") if "," in time else time
 
 
 def attempts_of(case):
@@ -148,7 +148,7 @@ def place_of(case, suite):
 
 def is_skipped(case):
     """Whether a test did not run: it has an element that says so, or the state by which ctest and GoogleTest say it."""
-    return first(case, "skipped") is not None or case.get("status") in ("disabled", "notrun")
+    return (len(case) and first(case, "skipped") is not None) or case.get("status") in ("disabled", "notrun")
 
 
 class Scene:
@@ -162,13 +162,16 @@ class Scene:
         """Takes a test."""
         binary, name = place_of(case, suite)
         self.binaries.add(binary)
-        self.nanos += int(nanos(seconds_of(case)))
         if is_skipped(case):
             self.skipped += 1
+            self.nanos += int(nanos(seconds_of(case)))
             self.run.skip(binary, name)
         else:
             self.total += 1
-            self.run.done(binary, name, attempts_of(case))
+            attempts = attempts_of(case)
+            # Where it has one attempt, that took its time.
+            self.nanos += int(attempts[0].fields[1] if len(attempts) == 1 else nanos(seconds_of(case)))
+            self.run.done(binary, name, attempts)
 
     def lines(self):
         self.run.end(f"{self.nanos // 10**9}.{self.nanos % 10**9:09}")
@@ -188,7 +191,15 @@ def convert(words):
     for word in words:
         if word.startswith("-") and word != "-":
             raise Bad(f"unknown option {word}")
-    return scene_of((name_to_say(it), b"".join(pieces_of(it))) for it in words or ["-"])
+    return scene_of((name_to_say(it), whole(it)) for it in words or ["-"])
+
+
+def whole(path):
+    """All bytes of a file; to join its pieces would take twice the memory."""
+    found = bytearray()
+    for piece in pieces_of(path):
+        found += piece
+    return found
 
 
 def name_to_say(path):

@@ -13,6 +13,7 @@ DOC_TESTS = re.compile(r"\s*Doc-tests (\S+)")
 DIED = "process didn't exit successfully: "
 ENDED_BY = re.compile(r" \((?:signal: (\d{1,9})|exit status: (\d{1,9}))\b", re.A)
 OWN = re.compile(r'\{\s*"type"\s*:\s*"(?:suite|test)"')
+DECODE = json.JSONDecoder().raw_decode
 ENDS = ("ok", "failed", "ignored", "timeout")
 # libtest warns of a test after this time.
 SLOW_AFTER = 60
@@ -98,7 +99,9 @@ def event_in(line):
     if not line.startswith("{"):
         return None
     try:
-        event = json.loads(line)
+        event, end = DECODE(line)
+        if line[end:].strip(" \t\r\n"):
+            raise ValueError(line)
     except (ValueError, RecursionError):
         if OWN.match(line):
             raise

@@ -39,6 +39,8 @@ def text(value, may_be_byte=False):
         return "-"
     if value == "-":
         return "\\x2d"
+    if value.isprintable() and "\\" not in value:
+        return value
     if SPELLED.search(value):
         value = value.replace("\\", NAMED["\\"])
         # An output may be long, and few characters in it are different ones.
@@ -114,12 +116,13 @@ class Attempt:
         highlight=None,
     ):
         self.result, self.is_slow = result, is_slow
-        output = ["split", stream(stdout), stream(stderr)]
-        if combined is not None:
-            output = ["comb", stream(combined), "-"]
         if start_error is not None:
-            output = ["start", words(start_error), "-"]
-        self.fields = [result, nanos(seconds), str(int(is_slow)), *output, words(errors), part(highlight)]
+            output = "start", words(start_error), "-"
+        elif combined is not None:
+            output = "comb", stream(combined), "-"
+        else:
+            output = "split", stream(stdout), stream(stderr)
+        self.fields = [result, nanos(seconds), "1" if is_slow else "0", *output, words(errors), part(highlight)]
 
     def forget(self, errors):
         """Leaves out what it wrote, and says why."""
@@ -130,18 +133,26 @@ class Run:
     """Writes the lines of one run, and counts."""
 
     def __init__(self, write, total, binaries, skipped=0, profile="default"):
-        self.write, self.counts = write, {"initial": total}
+        self.write, self.counts, self.told = write, {}, {}
+        self.count_as("initial", total)
         self.line("run", RUN_ID, profile, str(total), str(binaries), f"tests={skipped}" if skipped else "-")
 
     def line(self, *fields):
         self.write("\t".join(fields) + "\n")
 
     def stats(self):
-        return " ".join(f"{key}={value}" for key, value in self.counts.items() if value) or "-"
+        return " ".join(self.told.values()) or "-"
+
+    def count_as(self, key, value):
+        """What is 0 is left out."""
+        self.counts[key] = value
+        if value:
+            self.told[key] = f"{key}={value}"
 
     def count(self, *keys):
         for key in keys:
-            self.counts[key] = self.counts.get(key, 0) + 1
+            value = self.counts[key] = self.counts.get(key, 0) + 1
+            self.told[key] = f"{key}={value}"
 
     def start(self, binary, name, command):
         self.line("start", "-", text(binary), text(name), self.stats(), words(command))
@@ -153,11 +164,11 @@ class Run:
 
     def cancel(self, running, reason):
         """`RunStats::cancel_reason` is the reason from here on."""
-        self.counts["cancel"] = reason
+        self.count_as("cancel", reason)
         self.line("cancel", "0", str(running), reason)
 
     def kill(self, running, reason):
-        self.counts["cancel"] = reason
+        self.count_as("cancel", reason)
         self.line("kill", "0", str(running), reason)
 
     def slow(self, binary, name, attempt, total, seconds, will_terminate=False):
@@ -174,7 +185,9 @@ class Run:
         """`RunStats::on_test_finished`: the last attempt decides; a test that passed after others is flaky, too."""
         last, is_flaky = attempts[-1], len(attempts) > 1
         self.count("finished")
-        if last.result == "pass":
+        if last.result == "pass" and not last.is_slow and not is_flaky:
+            self.count("passed")
+        elif last.result == "pass":
             self.count("passed", *["slow"] * last.is_slow, *["flaky"] * is_flaky)
         elif last.result == "leak":
             self.count("passed", "leaky", *["slow"] * last.is_slow, *["flaky"] * is_flaky)
@@ -196,19 +209,8 @@ class Run:
 
     def line_of(self, binary, name, attempts, success="never", failure="immediate", total=None):
         """Writes the line of a finished test, which is counted."""
-        fields = [field for attempt in attempts for field in attempt.fields]
-        self.line(
-            "done",
-            "-",
-            text(binary),
-            text(name),
-            success,
-            failure,
-            "pass",
-            self.stats(),
-            str(total or len(attempts)),
-            *fields,
-        )
+        before = f"done\t-\t{text(binary)}\t{text(name)}\t{success}\t{failure}\tpass\t{self.stats()}\t{total or len(attempts)}"
+        self.write("\t".join([before, *("\t".join(it.fields) for it in attempts)]) + "\n")
 
     def end(self, seconds):
         self.line("end", nanos(seconds), self.stats(), "0", "-")
@@ -221,7 +223,8 @@ class WholeRun(Run):
     TOTAL, PIECE = "\0", 1 << 20
 
     def __init__(self):
-        self.kept, self.counts = bytearray(), {"initial": self.TOTAL}
+        self.kept, self.counts, self.told = bytearray(), {}, {}
+        self.count_as("initial", self.TOTAL)
 
     def write(self, line):
         self.kept += encoded(line)
