@@ -50,15 +50,15 @@ class Reader:
 
     def place(self, name):
         """The binary and the test of an event: nextest's JSON has both in the name."""
-        binary, found, test = name.partition("$")
-        if not found:
+        if "$" not in name:
             return self.binary, name
+        binary, _, test = name.partition("$")
         package, _, target = binary.partition("::")
         return (package if target == package else binary), test
 
     def event(self, event):
         kind, what = event.get("type"), event.get("event")
-        if event.get("reason") == "compiler-artifact" and event.get("executable"):
+        if "reason" in event and event["reason"] == "compiler-artifact" and event.get("executable"):
             target, package = event["target"], package_of(text_of(event, "package_id"))
             self.binary_ids[file_in(text_of(event, "executable"))] = binary_id(package, target)
         elif kind == "suite" and what == "started":
@@ -77,7 +77,7 @@ class Reader:
         if what not in ENDS:
             raise ValueError(what)
         # `stdout` has both streams; of a test that passed it is there with --show-output alone.
-        wrote = [text_of(event, it) for it in ("stdout", "message") if event.get(it)]
+        wrote = [text_of(event, it) for it in ("stdout", "message") if it in event and event[it]]
         if what == "timeout":  # a warning: the test goes on
             self.slow.add(place)
             self.run.slow(*place, 1, 1, SLOW_AFTER)
@@ -100,7 +100,7 @@ def event_in(line):
         return None
     try:
         event, end = DECODE(line)
-        if line[end:].strip(" \t\r\n"):
+        if end != len(line) and line[end:].strip(" \t\r\n"):
             raise ValueError(line)
     except (ValueError, RecursionError):
         if OWN.match(line):

@@ -51,6 +51,8 @@ def text(value, may_be_byte=False):
 
 def stream(output):
     """What was captured of a stream, as text or as bytes; None where it was not captured."""
+    if not output:
+        return "-" if output is None else ""
     if isinstance(output, bytes):
         output = output.decode("utf-8", "surrogateescape")
     return text(output, may_be_byte=True)
@@ -122,7 +124,8 @@ class Attempt:
             output = "comb", stream(combined), "-"
         else:
             output = "split", stream(stdout), stream(stderr)
-        self.fields = [result, nanos(seconds), "1" if is_slow else "0", *output, words(errors), part(highlight)]
+        of_end = result, nanos(seconds), "1" if is_slow else "0"
+        self.fields = [*of_end, *output, words(errors) if errors else "-", part(highlight) if highlight else "-"]
 
     def forget(self, errors):
         """Leaves out what it wrote, and says why."""
