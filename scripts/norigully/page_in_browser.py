@@ -3,7 +3,6 @@
 import json
 import re
 import shutil
-import subprocess
 
 from norigully import TOP
 from norigully.browser import OPTIONS
