@@ -131,6 +131,22 @@ class Browser:
             raise OSError(json.dumps(found["exceptionDetails"])[:400])
         return found["result"].get("value")
 
+    def press(self, key, number):
+        """Presses a key, which has this number, and waits until what it leads to is done."""
+        text = {"text": key} if len(key) == 1 else {}
+        for kind in ("keyDown" if text else "rawKeyDown", "keyUp"):
+            of_kind = text if kind == "keyDown" else {}
+            self.ask("Input.dispatchKeyEvent", type=kind, key=key, code=key, windowsVirtualKeyCode=number, **of_kind)
+        self.value("new Promise(it => setTimeout(it, 100))")
+
+    def allow_scripts(self, are_allowed):
+        """Whether pages that are opened from here on may run scripts of their own."""
+        self.ask("Emulation.setScriptExecutionDisabled", value=not are_allowed)
+
+    def printed(self):
+        """The page on paper, as a PDF."""
+        return base64.b64decode(self.ask("Page.printToPDF", preferCSSPageSize=True)["data"])
+
     def resize(self, width, height, dark=False, scale=1, phone=False):
         size = {"width": width, "height": height, "deviceScaleFactor": scale, "mobile": phone}
         self.ask("Emulation.setDeviceMetricsOverride", **size)

@@ -96,7 +96,10 @@ def fill_standard_descriptors():
 
 def encoded(text):
     """The bytes of a text, in which bytes that are not UTF-8 are surrogates, whatever the locale is."""
-    return re.sub("[\ud800-\udc7f\udd00-\udfff]", "\ufffd", text).encode("utf-8", "surrogateescape")
+    try:
+        return text.encode()
+    except UnicodeEncodeError:
+        return re.sub("[\ud800-\udc7f\udd00-\udfff]", "\ufffd", text).encode("utf-8", "surrogateescape")
 
 
 def fault(name, what, status):
@@ -116,6 +119,12 @@ def write(text, to=OUTPUT):
             select.select([], [to], [])
         except OSError as error:
             raise NotWritten(*error.args) from error
+
+
+def write_all(pieces, to=OUTPUT):
+    """Writes these one after another."""
+    for piece in pieces:
+        write(piece, to)
 
 
 def lines_of(path):

@@ -121,7 +121,7 @@ def with_scene(words):
         return words[1:]
     lines = importlib.import_module(CONVERTERS[words[0]]).convert(files)
     with tempfile.TemporaryFile() as scene:
-        entry.write("".join(lines), scene.fileno())
+        entry.write_all(lines, scene.fileno())
         os.lseek(scene.fileno(), 0, os.SEEK_SET)
         os.dup2(scene.fileno(), INPUT)
     return [*words[1:at], "-"]

@@ -43,7 +43,8 @@ from norigully.front import start
 # What it is made of.
 MODULES = (
     *("__init__.py", "entry.py", "front.py", "installed.py", "words.py"),
-    *("page.py", "page_table.py", "scene_lines.py", "junit.py", "libtest_json.py", "cargo.py"),
+    *("page.py", "page_scene.py", "page_table.py", "page_text.py"),
+    *("scene_lines.py", "junit.py", "libtest_json.py", "cargo.py"),
 )
 HERE = pathlib.Path(__file__).parent
 # The earliest time that a zip file can hold, and a day for other time zones.

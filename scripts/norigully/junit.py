@@ -5,7 +5,7 @@ import xml.etree.ElementTree as tree
 from xml.parsers import expat
 
 from norigully.entry import Bad, pieces_of
-from norigully.scene_lines import UNKNOWN_FAILURE, Attempt, Run, nanos
+from norigully.scene_lines import UNKNOWN_FAILURE, Attempt, WholeRun, nanos
 
 CODE = re.compile(r"exit (?:code|status):? (-?\d{1,9})\b", re.A)
 SIGNAL = re.compile(r"signal:? (\d{1,9})\b(?:[ (:]+SIG([A-Z0-9]+))?", re.A)
@@ -26,37 +26,48 @@ DEEPEST = 100
 
 
 class Tree:
-    """Builds the elements of a file. What JUnit XML has no use for is refused where it begins, so nothing is expanded."""
+    """Builds the elements of each test of a file, and gives the test to a call when it ends. What JUnit XML has no use for
+    is refused where it begins, so nothing is expanded."""
 
-    def __init__(self, file):
-        self.file, self.builder, self.within = file, tree.TreeBuilder(), [None]
+    def __init__(self, file, take):
+        self.file, self.take, self.builder, self.within = file, take, tree.TreeBuilder(), [None]
+        # The elements that it is within, and the names of the suites, each of which may be that of the one around.
+        self.open, self.suites = [], [None]
         self.data = self.builder.data
         self.close = self.builder.close
 
     def start(self, tag, attributes):
         # Without its namespace.
-        name, within = tag.rsplit("}", 1)[-1], self.within[-1]
+        name, within = tag.rsplit("}", 1)[-1] if "}" in tag else tag, self.within[-1]
         if name not in INSIDE.get(within, ()):
             what = f"an element `{name}` in `{within}`" if within else f"the element `{name}` is no test suite"
             raise Bad(f"{self.file}: {what}")
         if len(self.within) > DEEPEST:
             raise Bad(f"{self.file}: suites in more than {DEEPEST} suites")
         self.within.append(name)
-        self.builder.start(name, attributes)
+        self.open.append(self.builder.start(name, attributes))
+        if name == "testsuite":
+            self.suites.append(attributes.get("name") or self.suites[-1] if within else attributes.get("name"))
 
     def end(self, _tag):
-        self.builder.end(self.within.pop())
+        name, element = self.within.pop(), self.open.pop()
+        self.builder.end(name)
+        if name == "testsuite":
+            self.suites.pop()
+        elif name == "testcase":
+            self.take(self.suites[-1], element)
+            del self.open[-1][-1]
 
     def doctype(self, *_):
         raise Bad(f"{self.file}: a document type, which JUnit XML has no use for")
 
 
-def root_of(file, text):
-    """The root of the XML of a file. It is read at once: an older expat begins anew at each chunk of a long text."""
-    parser = tree.XMLParser(target=Tree(file))
+def read(file, text, take):
+    """Reads the XML of a file. It is read at once: an older expat begins anew at each chunk of a long text."""
+    parser = tree.XMLParser(target=Tree(file, take))
     try:
         parser.feed(text)
-        return parser.close()
+        parser.close()
     except tree.ParseError as error:
         raise Bad(f"{file}: line {error.position[0]}: {expat.ErrorString(error.code)}") from error
     except (LookupError, ValueError, OverflowError) as error:
@@ -108,11 +119,13 @@ def failed_attempt(failure, seconds, out, err):
 
 def seconds_of(element):
     time = element.get("time") or "0"
-    return time.replace(",", "" if THOUSANDS.fullmatch(time) else ".")
+    return time.replace(",", "" if THOUSANDS.fullmatch(time) else ".") if "," in time else time
 
 
 def attempts_of(case):
     """The attempts of a test, in the order in which they were made."""
+    if not len(case):
+        return [Attempt("pass", seconds_of(case))]
     others = [
         failed_attempt(it, seconds_of(it), text_in(it, "system-out"), text_in(it, "system-err"))
         for it in case
@@ -126,48 +139,67 @@ def attempts_of(case):
     return [failed_attempt(failure, seconds_of(case), out, err), *others]
 
 
-def cases_in(element, suite):
-    """(binary, name, case) of each test below an element. A test's binary is its class, else its suite; also its suite
-    where the class is the test's whole name, as jest-junit and ctest write it."""
-    for child in element:
-        if child.tag == "testsuite":
-            yield from cases_in(child, child.get("name") or suite)
-        elif child.tag == "testcase":
-            group, test = child.get("classname") or "", child.get("name") or ""
-            yield (group if group != test else "") or suite or group, test, child
+def place_of(case, suite):
+    """The binary and the name of a test. Its binary is its class, else its suite; also its suite where the class is the
+    test's whole name, as jest-junit and ctest write it."""
+    group, test = case.get("classname") or "", case.get("name") or ""
+    return (group if group != test else "") or suite or group, test
 
 
 def is_skipped(case):
     """Whether a test did not run: it has an element that says so, or the state by which ctest and GoogleTest say it."""
-    return first(case, "skipped") is not None or case.get("status") in ("disabled", "notrun")
+    return (len(case) and first(case, "skipped") is not None) or case.get("status") in ("disabled", "notrun")
 
 
-def cases_of(root):
-    return cases_in(root, root.get("name")) if root.tag == "testsuite" else cases_in(root, None)
+class Scene:
+    """The scene of the tests of some files."""
+
+    def __init__(self):
+        self.run, self.binaries = WholeRun(), set()
+        self.total, self.skipped, self.nanos = 0, 0, 0
+
+    def take(self, suite, case):
+        """Takes a test."""
+        binary, name = place_of(case, suite)
+        self.binaries.add(binary)
+        if is_skipped(case):
+            self.skipped += 1
+            self.nanos += int(nanos(seconds_of(case)))
+            self.run.skip(binary, name)
+        else:
+            self.total += 1
+            attempts = attempts_of(case)
+            # Where it has one attempt, that took its time.
+            self.nanos += int(attempts[0].fields[1] if len(attempts) == 1 else nanos(seconds_of(case)))
+            self.run.done(binary, name, attempts)
+
+    def lines(self):
+        self.run.end(f"{self.nanos // 10**9}.{self.nanos % 10**9:09}")
+        return self.run.lines(self.total, len(self.binaries), self.skipped)
 
 
 def scene_of(texts):
-    """The lines of the scene of these texts, each by the name of its file."""
-    cases = [case for file, text in texts for case in cases_of(root_of(file, text))]
-    skipped = sum(is_skipped(case) for _, _, case in cases)
-    lines = []
-    run = Run(lines.append, len(cases) - skipped, len({binary for binary, _, _ in cases}), skipped)
-    for binary, name, case in cases:
-        if is_skipped(case):
-            run.skip(binary, name)
-        else:
-            run.done(binary, name, attempts_of(case))
-    total = sum(int(nanos(seconds_of(case))) for _, _, case in cases)
-    run.end(f"{total // 10**9}.{total % 10**9:09}")
-    return lines
+    """The lines of the scene of these texts, each by the name of its file; some at a time, once all are read."""
+    scene = Scene()
+    for file, text in texts:
+        read(file, text, scene.take)
+    return scene.lines()
 
 
 def convert(words):
-    """The lines of the scene of the files that the words name, or of standard input."""
+    """The lines of the scene of the files that the words name, or of standard input, some at a time."""
     for word in words:
         if word.startswith("-") and word != "-":
             raise Bad(f"unknown option {word}")
-    return scene_of((name_to_say(it), b"".join(pieces_of(it))) for it in words or ["-"])
+    return scene_of((name_to_say(it), whole(it)) for it in words or ["-"])
+
+
+def whole(path):
+    """All bytes of a file; to join its pieces would take twice the memory."""
+    found = bytearray()
+    for piece in pieces_of(path):
+        found += piece
+    return found
 
 
 def name_to_say(path):

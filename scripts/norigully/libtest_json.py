@@ -2,11 +2,10 @@
 
 import json
 import re
-from dataclasses import dataclass
 
 from norigully.cargo import binary_id, package_of
 from norigully.entry import Bad, lines_of
-from norigully.scene_lines import UNKNOWN_FAILURE, Attempt, Run, nanos, signal_result
+from norigully.scene_lines import UNKNOWN_FAILURE, Attempt, WholeRun, nanos, signal_result
 
 # A test may have printed a line: each of these takes time in proportion to its length. No file has a longer name.
 HASHED = re.compile(r"(.{1,255})-[0-9a-f]{16}(?:\.exe)?")
@@ -14,37 +13,26 @@ DOC_TESTS = re.compile(r"\s*Doc-tests (\S+)")
 DIED = "process didn't exit successfully: "
 ENDED_BY = re.compile(r" \((?:signal: (\d{1,9})|exit status: (\d{1,9}))\b", re.A)
 OWN = re.compile(r'\{\s*"type"\s*:\s*"(?:suite|test)"')
+DECODE = json.JSONDecoder().raw_decode
 ENDS = ("ok", "failed", "ignored", "timeout")
 # libtest warns of a test after this time.
 SLOW_AFTER = 60
 
 
-@dataclass
-class Ended:
-    """How a test ended, or that it takes long: a word of libtest's, and what else is known."""
-
-    place: tuple
-    how: str
-    seconds: object = None
-    wrote: str = ""
-    result: str = UNKNOWN_FAILURE
-
-
 class Reader:
-    """Collects what became of each test, in the order in which they ended."""
+    """Tells what became of each test, in the order in which they ended."""
 
     def __init__(self):
-        self.binary_ids, self.suites, self.tests = {}, [], []
+        self.binary_ids, self.suites, self.run, self.slow = {}, 0, WholeRun(), set()
         self.binary, self.total, self.began = "unknown", 0, {}
-        self.nanos = 0
+        self.nanos, self.ignored = 0, 0
 
     def line(self, line):
-        doc, event = DOC_TESTS.match(line), event_in(line)
-        if event is not None:
+        if (event := event_in(line)) is not None:
             self.event(event)
         elif binary := binary_in(line):
             self.binary = self.binary_ids.get(binary[0], binary[1])
-        elif doc:
+        elif doc := DOC_TESTS.match(line):
             self.binary = f"{doc[1]}::doc"
         elif DIED in line:
             ended = None
@@ -56,24 +44,25 @@ class Reader:
     def died(self, result):
         """Where a test ends its process, each test that had begun is said to have ended so: which one did it is not
         known."""
-        self.tests += [Ended(place, "failed", result=result) for place in self.began]
+        for place in self.began:
+            self.done(place, result, None, "")
         self.began = {}
 
     def place(self, name):
         """The binary and the test of an event: nextest's JSON has both in the name."""
-        binary, found, test = name.partition("$")
-        if not found:
+        if "$" not in name:
             return self.binary, name
+        binary, _, test = name.partition("$")
         package, _, target = binary.partition("::")
         return (package if target == package else binary), test
 
     def event(self, event):
         kind, what = event.get("type"), event.get("event")
-        if event.get("reason") == "compiler-artifact" and event.get("executable"):
+        if "reason" in event and event["reason"] == "compiler-artifact" and event.get("executable"):
             target, package = event["target"], package_of(text_of(event, "package_id"))
             self.binary_ids[file_in(text_of(event, "executable"))] = binary_id(package, target)
         elif kind == "suite" and what == "started":
-            self.suites.append(self.binary)
+            self.suites += 1
             self.total += whole(event["test_count"])
             self.began = {}
         elif kind == "suite":
@@ -88,11 +77,21 @@ class Reader:
         if what not in ENDS:
             raise ValueError(what)
         # `stdout` has both streams; of a test that passed it is there with --show-output alone.
-        wrote = [text_of(event, it) for it in ("stdout", "message") if event.get(it)]
-        self.tests.append(Ended(place, what, event.get("exec_time"), "\n".join(wrote)))
-        self.total -= what == "ignored"
-        if what != "timeout":
-            self.began.pop(place, None)
+        wrote = [text_of(event, it) for it in ("stdout", "message") if it in event and event[it]]
+        if what == "timeout":  # a warning: the test goes on
+            self.slow.add(place)
+            self.run.slow(*place, 1, 1, SLOW_AFTER)
+            return
+        self.began.pop(place, None)
+        if what == "ignored":
+            self.total -= 1
+            self.ignored += 1
+            self.run.skip(*place)
+        else:
+            self.done(place, "pass" if what == "ok" else UNKNOWN_FAILURE, event.get("exec_time"), "\n".join(wrote))
+
+    def done(self, place, result, seconds, wrote):
+        self.run.done(*place, [Attempt(result, seconds, combined=wrote, is_slow=place in self.slow)])
 
 
 def event_in(line):
@@ -100,7 +99,9 @@ def event_in(line):
     if not line.startswith("{"):
         return None
     try:
-        event = json.loads(line)
+        event, end = DECODE(line)
+        if end != len(line) and line[end:].strip(" \t\r\n"):
+            raise ValueError(line)
     except (ValueError, RecursionError):
         if OWN.match(line):
             raise
@@ -152,21 +153,10 @@ def read(lines, name):
 
 
 def scene_of(file, name):
-    """The lines of the scene of the lines of a file with this name."""
-    reader, lines, slow = read(file, name), [], set()
-    ignored = sum(it.how == "ignored" for it in reader.tests)
-    run = Run(lines.append, reader.total, len(reader.suites), ignored)
-    for it in reader.tests:
-        if it.how == "timeout":  # a warning: the test goes on
-            slow.add(it.place)
-            run.slow(*it.place, 1, 1, SLOW_AFTER)
-        elif it.how == "ignored":
-            run.skip(*it.place)
-        else:
-            result = "pass" if it.how == "ok" else it.result
-            run.done(*it.place, [Attempt(result, it.seconds, combined=it.wrote, is_slow=it.place in slow)])
-    run.end(f"{reader.nanos // 10**9}.{reader.nanos % 10**9:09}")
-    return lines
+    """The lines of the scene of the lines of a file with this name, some at a time, once all are read."""
+    reader = read(file, name)
+    reader.run.end(f"{reader.nanos // 10**9}.{reader.nanos % 10**9:09}")
+    return reader.run.lines(reader.total, reader.suites, reader.ignored)
 
 
 def convert(words):

@@ -1,29 +1,28 @@
 """A page of a run: each report of it that can be chosen, as a proved program prints it, in one HTML file."""
 
 import base64
+import collections
+import contextlib
 import hashlib
 import html
 import itertools
 import json
 import os
 import pkgutil
+import re
+import secrets
 import subprocess
 import tempfile
 import zlib
 from dataclasses import dataclass
 from pathlib import Path
 
-from norigully import entry
+from norigully import entry, page_scene, page_text
 from norigully.entry import INPUT, OUTPUT, Bad, is_same_file
 from norigully.page_table import Reports, Table
-from norigully.scene_lines import unescaped
 from norigully.words import FILES_OF_RUN, LEVELS
 
 USAGE = "[--title T] [--choices all|few] [-o FILE] SCENE|--recorded DIR"
-# The field of a line in front of which `shown` cuts it, by its first bytes.
-CUTS = {b"done\t": 6, b"retry": 8}
-FIELDS_OF_AN_ATTEMPT = 8
-PASSED = (b"pass", b"leak", b"tmpass")
 # When output may be shown, of tests that fail and of tests that pass; an empty word is as the run says. What comes
 # first has the most lines.
 FAILURE = ("immediate", "final", "", "never")
@@ -31,6 +30,12 @@ SUCCESS = ("immediate", "", "never")
 # Of more lines than that a page has few choices, unless it is told otherwise: those of successes as the run says.
 LARGE = 32 * 10**6
 PIECE = 3 << 16
+# What a page is made of: its scripts, the facts at its head in their order, and its data.
+SCRIPT = ("style.js", "colours.js", "page.js", "tests.js", "paper.js")
+WORKER, DATA = ("style.js", "worker.js"), ("about", "reports", "table")
+FACTS = ("Profile", "Run", "Started", "Took")
+# The level of a run's own report, and how many reports are printed side by side.
+OWN_LEVEL, SIDE_BY_SIDE = "pass", 3
 # A recorded run that failed is told by the status of `replay`.
 ENDED = {"report": (0,), "replay": (0, 3, 4, 100)}
 
@@ -70,35 +75,6 @@ def asked_by(words):
     return asked if asked.source is not None and asked.choices in (None, "all", "few") else None
 
 
-def shown(lines, success, failure):
-    """The pieces of the lines of a scene, with other words for when output is shown."""
-    for line in lines:
-        count = CUTS.get(line[:5], 0)
-        fields = line.split(b"\t", count) if count else []
-        if count == 6 and len(fields) > 6:
-            fields[4:6] = success.encode() or fields[4], failure.encode() or fields[5]
-        elif count == 8 and len(fields) > 8 and fields[0] == b"retry":
-            fields[7] = failure.encode() or fields[7]
-        else:
-            yield line
-            continue
-        del line
-        yield b"\t".join(fields[:count]) + b"\t"
-        yield fields[count]
-
-
-def failures(lines):
-    """The binary and the name of each test that failed, once."""
-    found = {}
-    for line in lines:
-        fields = line.removesuffix(b"\n").split(b"\t") if line.startswith(b"done\t") else []
-        if len(fields) >= 9 + FIELDS_OF_AN_ATTEMPT:
-            was_tried_again = len(fields) > 9 + FIELDS_OF_AN_ATTEMPT
-            if fields[-FIELDS_OF_AN_ATTEMPT] not in PASSED or (was_tried_again and fields[6] == b"fail"):
-                found[tuple((unescaped(it) or it).decode(errors="replace") for it in fields[2:4])] = None
-    return list(map(list, found))
-
-
 class Run:
     """The run that a page is made of, in a folder of files that go in the end."""
 
@@ -117,32 +93,44 @@ class Run:
             (self.words / FILES_OF_RUN[1]).symlink_to(os.path.abspath(outputs))
         else:
             source = asked.source
-        with open(self.lines, "wb") as copy:
-            for piece in entry.pieces_of(source):
-                copy.write(piece)
+        self.sum = write_pieces(entry.pieces_of(source), self.lines)
         self.size = self.lines.stat().st_size
 
-    def change(self, success, failure):
-        """Writes the lines with these words for when output is shown, and answers a sum of them."""
-        found = hashlib.sha256()
-        with open(self.lines, "rb") as lines, open(self.changed, "wb") as changed:
-            for piece in shown(lines, success, failure):
-                found.update(piece)
-                changed.write(piece)
-        return found.digest()
+    def change(self, lines, success, failure):
+        """Takes lines of the run with these words for when output is shown, and returns a sum of them."""
+        with open(lines, "rb") as file:
+            return write_pieces(page_scene.shown(file, success, failure), self.changed)
 
-    def report(self, level, read):
-        """Has the program print a report, gives its lines to a call, and answers what that does."""
+    def reports(self, levels):
+        """Has the program print the reports of these levels, some side by side, and yields each as a file. Each is whole
+        lines: what stands behind the last line feed is one of its own."""
+        begun = collections.deque()
+        with contextlib.ExitStack() as stack:
+            for level in levels:
+                begun.append(self.begin(level, stack))
+                if len(begun) == SIDE_BY_SIDE:
+                    yield self.ended(*begun.popleft())
+            while begun:
+                yield self.ended(*begun.popleft())
+
+    def begin(self, level, stack):
+        """Begins a report, which ends with the stack."""
         words = [self.program, "--color", "--level", level, str(self.words)]
-        with tempfile.TemporaryFile() as said:
-            with entry.started(words, stdin=subprocess.DEVNULL, stdout=subprocess.PIPE, stderr=said) as ran:
-                found = read(ran.stdout)
-            said.seek(0)
-            fault = said.read().decode(errors="replace").strip()
+        printed, said = (stack.enter_context(tempfile.TemporaryFile(dir=self.folder)) for _ in range(2))
+        how = {"stdin": subprocess.DEVNULL, "stdout": printed, "stderr": said}
+        return stack.enter_context(entry.started(words, **how)), printed, said
+
+    def ended(self, ran, printed, said):
+        """A report, once it is printed."""
+        ran.wait()
+        said.seek(0)
+        fault = said.read().decode(errors="replace").strip()
         if ran.returncode not in ENDED[self.name] or fault:
             fault = fault.removeprefix(f"{self.name}: ").replace(str(self.words), self.asked.source)
             raise Bad(fault or f"{self.name} ended with status {ran.returncode}")
-        return found
+        printed.seek(0, os.SEEK_END)
+        printed.write(b"\n")
+        return printed
 
     def choices(self):
         """The words for when output is shown of which the page has reports, and what it says of others."""
@@ -152,28 +140,68 @@ class Run:
         many, few = (len(it) * len(FAILURE) * len(LEVELS) for it in (SUCCESS, [""]))
         return [""], f"This page{why} has {few} of {many} reports: output of successes as in the run."
 
+    def told(self):
+        """What the lines tell, which were reported."""
+        told = page_scene.Told()
+        with open(self.lines, "rb") as lines:
+            for number, line in enumerate(lines):
+                # The last line of a recorded run may be cut.
+                if line.endswith(b"\n") or not self.asked.is_recorded:
+                    told.read(number, line)
+        return told
+
+    def find_places(self, tests, words, sum_of_first):
+        """Finds where these tests stand in the first report, by a report with marks around them."""
+        mark, of_lines, marked = secrets.token_hex(16).encode(), {it.line: it for it in tests}, self.folder / "marked"
+        with open(self.lines, "rb") as lines:
+            write_pieces(page_scene.marked(lines, of_lines, mark), marked)
+        self.change(marked, *words)
+        with contextlib.closing(self.reports(LEVELS[-1:])) as reports:
+            for report in reports:
+                places, found = page_scene.places_of(report, mark)
+        if found == sum_of_first and len(places) == 2 * len(tests):
+            for number, (_, test) in enumerate(sorted(of_lines.items())):
+                test.place, test.end = places[2 * number : 2 * number + 2]
+
+
+def write_pieces(pieces, file):
+    """Writes these into a file, and returns a sum of them."""
+    found = hashlib.sha256()
+    with open(file, "wb") as to:
+        for piece in pieces:
+            found.update(piece)
+            to.write(piece)
+    return found.digest()
+
 
 def make(run, file):
     """Writes the page of a run into a file."""
     table, reports, numbers, known = Table(run.folder / "table"), Reports(run.folder / "reports"), {}, {}
     successes, note = run.choices()
-    for success, failure in itertools.product(successes, FAILURE):
-        sum_of_lines = run.change(success, failure)
-        for level in reversed(LEVELS):
-            if (sum_of_lines, level) not in known:
-                known[sum_of_lines, level] = reports.number_of(run.report(level, table.stretches_of))
-            numbers[f"{level},{failure},{success}"] = known[sum_of_lines, level]
+    choices = list(itertools.product(successes, FAILURE))
+    for success, failure in choices:
+        lines = run.change(run.lines, success, failure)
+        levels = [it for it in reversed(LEVELS) if (lines, it) not in known]
+        with contextlib.closing(run.reports(levels)) as printed:
+            for level, report in zip(levels, printed):
+                known[lines, level] = reports.number_of(report, table)
+                if (lines, level) == (run.sum, OWN_LEVEL):
+                    page_text.write_text(report, run.folder / "text")
+        numbers |= {f"{level},{failure},{success}": known[lines, level] for level in LEVELS}
     table.close()
     reports.close()
-    with open(run.lines, "rb") as lines:
-        about = {"reports": numbers, "failures": failures(lines), "note": note}
+    told = run.told()
+    tests, lists = told.tests()
+    if tests:
+        run.find_places(tests, choices[0], next(iter(reports.known)))
+    about = {"reports": numbers, "tests": [[*it.name, it.place, it.end] for it in tests], "lists": lists, "note": note}
     (run.folder / "about").write_text(json.dumps(about, separators=(",", ":")))
-    write_page(run.asked.title, {name: run.folder / name for name in ("about", "reports", "table")}, file)
+    write_page(run, told.facts, file)
 
 
-def part(name):
-    """A file that the page is made of, which may stand in an archive."""
-    return pkgutil.get_data("norigully", f"page/{name}").decode()
+def part(*names):
+    """Files that the page is made of, one behind another, which may stand in an archive."""
+    return "".join(pkgutil.get_data("norigully", f"page/{name}").decode() for name in names)
 
 
 def own_source(text):
@@ -181,21 +209,39 @@ def own_source(text):
     return f"'sha256-{base64.b64encode(hashlib.sha256(text.encode()).digest()).decode()}'"
 
 
-def write_page(title, packed, file):
+def escaped(text):
+    """A text as HTML, without what a terminal does not show."""
+    return html.escape(page_text.UNSEEN.sub("", entry.encoded(text).decode(errors="replace")))
+
+
+def write_page(run, facts, file):
     """Writes the page with its data. Its policy lets it run its own script alone, and load nothing."""
-    script, style = f"\n{part('page.js')}", f"\n{part('page.css')}"
+    script, style = (f"\n{part(*it)}" for it in (SCRIPT, ["page.css"]))
     policy = f"default-src 'none'; script-src {own_source(script)}; style-src {own_source(style)}; worker-src blob:"
     policy += "; img-src data:; base-uri 'none'; form-action 'none'"
-    parts = {"POLICY": policy, "TITLE": html.escape(entry.encoded(title).decode(errors="replace")), "STYLE": style, "WORKER": f"\n{part('worker.js')}"}
-    before, data, behind = part("page.html").partition("<!--DATA-->\n")
-    for name, text in {**parts, "SCRIPT": script}.items():
-        before, behind = (it.replace(f"<!--{name}-->", text) for it in (before, behind))
-    file.write(before.encode())
-    for name, source in packed.items():
+    facts = "".join(f"<div><dt>{name}</dt> <dd>{escaped(facts[name])}</dd></div>" for name in FACTS if name in facts)
+    parts = {"POLICY": policy, "TITLE": escaped(run.asked.title), "STYLE": style, "FACTS": facts, "SCRIPT": script}
+    parts["WORKER"] = f"\n{part(*WORKER)}"
+    for number, text in enumerate(re.split("<!--([A-Z]+)-->", part("page.html"))):
+        if number % 2 == 0 or text in parts:
+            file.write((parts[text] if number % 2 else text).encode())
+        elif text == "TEXT":
+            copy_pieces(run.folder / "text", file)
+        else:
+            write_data(run, file)
+
+
+def write_data(run, file):
+    """Writes what the page shows."""
+    for name in DATA:
         file.write(f'<script type="text/plain" id="{name}">'.encode())
-        write_packed(source, file)
+        write_packed(run.folder / name, file)
         file.write(b"</script>\n")
-    file.write(behind.encode())
+
+
+def copy_pieces(source, file):
+    for piece in entry.pieces_of(source):
+        file.write(piece)
 
 
 def write_packed(source, file):
@@ -210,17 +256,33 @@ def write_packed(source, file):
     file.write(base64.b64encode(held + packer.flush()))
 
 
+def can_be_written(path):
+    """Whether a file can go there, as far as that is known before it does."""
+    at = path if os.path.lexists(path) else os.path.dirname(path) or "."
+    return path and os.access(at, os.W_OK) and os.path.isdir(at) == (at != path)
+
+
+def opened(path):
+    """The file, or standard output for None."""
+    if path is None:
+        return open(OUTPUT, "wb", closefd=False)
+    try:
+        return open(path, "wb")
+    except OSError as error:
+        raise Bad(f"cannot write {path}") from error
+
+
 def main(words, find):
     """Makes the page that the words ask for. A call returns the path of a program."""
     asked = asked_by(words)
     if asked is None:
         raise Bad(f"usage: page {USAGE}")
-    if asked.to is not None and any(is_same_file(asked.to, it) for it in asked.files):
+    if asked.to is not None and (not can_be_written(asked.to) or any(is_same_file(asked.to, it) for it in asked.files)):
         raise Bad(f"cannot write {asked.to}")
     with tempfile.TemporaryDirectory(prefix="norigully-") as folder:
         made = Path(folder, "page")
         with open(made, "wb") as file:
             make(Run(asked, Path(folder), find), file)
-        with open(OUTPUT, "wb", closefd=False) if asked.to is None else open(asked.to, "wb") as file:
+        with opened(asked.to) as file:
             for piece in entry.pieces_of(made):
                 entry.write(piece, file.fileno())

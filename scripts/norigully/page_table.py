@@ -4,90 +4,153 @@ memory."""
 import array
 import bisect
 import hashlib
-import itertools
+import io
+import os
+
+# Reports are compared in pieces: a few bytes, of which most lines differ in some, and then more and more of them.
+HEAD, LEAST, MOST, PIECE = 16, 1 << 8, 1 << 16, 1 << 18
+# So many bytes behind the last line are looked through, and so many lines of one text are noted.
+NEAR, SAME = 1 << 12, 8
+# How many lines can be noted at first.
+ROOM = 1 << 12
+STYLE = b"\x1b"
 
 
 class Table:
     """The lines of all reports. Each report is stretches of them, and most leave out lines of the first one, in its
-    order. What stands in memory is a sum and a place for each line."""
+    order. Stretches are compared as bytes. What stands in memory is a sum and a place for each line of which a stretch
+    is likely to begin: one that begins with a style, as those of the report itself do, and the line behind it."""
 
     def __init__(self, file):
         """The lines go into this file, which is empty."""
-        self.path, self.writer, self.reader = file, open(file, "wb"), open(file, "rb")
-        self.sums, self.starts, self.end = array.array("q"), array.array("Q"), 0
-        # The places of the first report in the order of their sums, and by their sums those that came later.
-        self.order, self.later = array.array("I"), {}
+        self.writer, self.reader = open(file, "wb"), open(file, "rb")
+        self.count, self.end, self.is_behind_style = 0, 0, False
+        # Of the lines that may be looked up: their sums, where they begin, and how many lines are before them; and by
+        # their sums which ones these are, counted from 1. There is always room in it.
+        self.sums, self.starts, self.numbers = array.array("q"), array.array("Q"), array.array("I")
+        self.slots = array.array("I", bytes(4 * ROOM))
+        # Some of the bytes.
+        self.held_at, self.held = 0, b""
 
     def close(self):
         self.writer.close()
         self.reader.close()
 
     def stretches_of(self, report):
-        """The stretches of a report, whose lines are read one after another: how far behind the last one each begins,
-        and how many lines it has."""
-        is_first, found, at = not self.sums, array.array("q", [0, 0]), 0
-        self.writer.flush()
-        self.reader.seek(0)
-        for line in with_last(report):
-            if at < len(self.sums) and self.reader.readline() == line:
-                found[-1] += 1
-                at += 1
-                continue
-            place = self.append(line) if is_first else self.place_of(line, at)
-            if place == at:
-                found[-1] += 1
-            else:
-                found.extend((place - at, 1))
-            at = place + 1
-            if at < len(self.sums):
-                self.reader.seek(self.starts[at])
-        if is_first:
-            self.put_in_order()
+        """The stretches of a report, a file of whole lines: how far behind the last one each begins, and how many lines
+        it has."""
+        if not self.count:
+            return self.first(report)
+        found, at, place = array.array("q", [0, 0]), 0, 0
+        for piece in pieces_of(report):
+            begin = 0
+            while begin < len(piece):
+                end = self.same(piece, begin, place)
+                if end == begin:
+                    end = piece.index(b"\n", begin) + 1
+                    number, place = self.place_of(piece, begin, end, at, place)
+                    if number != at:
+                        found.extend((number - at, 0))
+                        at = number
+                count = piece.count(b"\n", begin, end)
+                found[-1] += count
+                at, place, begin = at + count, place + end - begin, end
         return found
 
+    def first(self, report):
+        """The stretch of the first report, whose lines are all new."""
+        for piece in pieces_of(report):
+            for line in io.BytesIO(piece):
+                self.append(line)
+        self.writer.flush()
+        return array.array("q", [0, self.count])
+
     def append(self, line):
-        """Writes a new line, and answers its place."""
-        self.sums.append(hash(line))
-        self.starts.append(self.end)
+        """Writes a new line."""
+        is_styled = line.startswith(STYLE)
+        if is_styled or self.is_behind_style:
+            self.note(hash(line))
         self.writer.write(line)
+        self.is_behind_style = is_styled
+        self.count += 1
         self.end += len(line)
-        return len(self.sums) - 1
 
-    def put_in_order(self):
-        # In parts, by the first four bits: while it is sorted, a place takes twenty times as much memory.
-        for part in range(-8, 8):
-            places = (place for place, key in enumerate(self.sums) if key >> 60 == part)
-            self.order.extend(sorted(places, key=self.sums.__getitem__))
+    def note(self, key):
+        """Notes where the line of this sum goes, unless many are the same."""
+        same, slot = self.of_sum(key)
+        if len(same) == SAME:
+            return
+        self.sums.append(key)
+        self.starts.append(self.end)
+        self.numbers.append(self.count)
+        self.slots[slot] = len(self.sums)
+        if 3 * len(self.sums) > 2 * len(self.slots):
+            self.slots = array.array("I", bytes(2 * len(self.slots) * self.slots.itemsize))
+            for number, key in enumerate(self.sums, 1):
+                self.slots[self.of_sum(key)[1]] = number
 
-    def place_of(self, line, at):
-        """The first place of the line from here on, or else its first one, or else a new one."""
-        key = hash(line)
-        sum_of = self.sums.__getitem__
-        low = bisect.bisect_left(self.order, key, key=sum_of)
-        high = bisect.bisect_right(self.order, key, low, key=sum_of)
-        behind = bisect.bisect_left(self.order, at, low, high)
-        known = itertools.chain(range(behind, high), range(low, behind))
-        for place in itertools.chain(map(self.order.__getitem__, known), self.later.get(key, ())):
-            if self.line_at(place) == line:
-                return place
-        self.later.setdefault(key, []).append(len(self.sums))
-        return self.append(line)
+    def of_sum(self, key):
+        """The lines that are noted of this sum, in their order, and the slot behind them."""
+        sums, slots, last, found = self.sums, self.slots, len(self.slots) - 1, []
+        slot = key & last
+        while number := slots[slot]:
+            if sums[number - 1] == key:
+                found.append(number - 1)
+            slot = (slot + 1) & last
+        return found, slot
 
-    def line_at(self, place):
-        if place >= len(self.order):
-            self.writer.flush()
-        self.reader.seek(self.starts[place])
-        return self.reader.readline()
+    def same(self, piece, begin, place):
+        """The end of the whole lines from here on that are those at this place of the table."""
+        head = piece[begin : begin + HEAD]
+        if head != self.read(HEAD, place) and b"\n" not in head:
+            return begin
+        end, size = begin, LEAST
+        while (here := piece[end : end + size]) and (there := self.read(size, place)):
+            if here != there:
+                length = min(len(here), len(there))
+                differs = int.from_bytes(here[:length], "little") ^ int.from_bytes(there[:length], "little")
+                end += ((differs & -differs).bit_length() - 1) // 8 if differs else length
+                break
+            end, place, size = end + size, place + size, min(4 * size, MOST)
+        return max(begin, piece.rfind(b"\n", begin, end) + 1)
+
+    def read(self, size, place):
+        """That many bytes of the table, or those that are there. Much of it is read one after another."""
+        at = place - self.held_at
+        if at < 0 or at + size > len(self.held):
+            self.held_at, self.held, at = place, os.pread(self.reader.fileno(), max(size, MOST), place), 0
+        return self.held[at : at + size]
+
+    def place_of(self, piece, begin, end, at, place):
+        """Where a line is from here on, or else first, or else where it goes as a new one: how many lines and how many
+        bytes are before it."""
+        line, near = piece[begin:end], self.read(NEAR, place)
+        if inside := near.find(b"\n" + line) + 1:
+            return at + near.count(b"\n", 0, inside), place + inside
+        behind = bisect.bisect_left(self.numbers, at)
+        for it in sorted(self.of_sum(hash(line))[0], key=lambda it: it < behind):
+            if self.read(len(line), self.starts[it]) == line:
+                return self.numbers[it], self.starts[it]
+        self.is_behind_style = begin > 0 and piece.startswith(STYLE, piece.rfind(b"\n", 0, begin - 1) + 1)
+        found = self.count, self.end
+        self.append(line)
+        self.writer.flush()
+        return found
 
 
-def with_last(report):
-    """The lines of a report, each with a line feed, and what stands behind the last one as a line of its own."""
-    last = b"\n"
-    for line in report:
-        if line.endswith(b"\n"):
-            yield line
-        last = line
-    yield b"\n" if last.endswith(b"\n") else last + b"\n"
+def pieces_of(report):
+    """Pieces of whole lines."""
+    while piece := report.read(PIECE):
+        yield piece + report.readline()
+
+
+def sum_of(report):
+    """A sum of all of a file."""
+    found = hashlib.sha256()
+    report.seek(0)
+    while piece := report.read(PIECE):
+        found.update(piece)
+    return found.digest()
 
 
 class Reports:
@@ -99,10 +162,11 @@ class Reports:
     def close(self):
         self.writer.close()
 
-    def number_of(self, stretches):
-        """The number of the line with these stretches."""
-        key = hashlib.sha256(stretches.tobytes()).digest()
+    def number_of(self, report, table):
+        """The number of the line with the stretches of this report, a file."""
+        key = sum_of(report)
         if key not in self.known:
             self.known[key] = len(self.known)
-            self.writer.write(",".join(map(str, stretches)).encode() + b"\n")
+            report.seek(0)
+            self.writer.write(",".join(map(str, table.stretches_of(report))).encode() + b"\n")
         return self.known[key]

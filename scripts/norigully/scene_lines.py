@@ -8,10 +8,14 @@ import re
 import signal
 from decimal import ROUND_HALF_UP, Decimal
 
+from norigully.entry import encoded
+
 NAMED = {"\n": "\\n", "\t": "\\t", "\r": "\\r", "\x1b": "\\e", "\\": "\\\\"}
 # What is escaped: an output's bytes that are not UTF-8 are surrogates in a text of Python.
 SPELLED = re.compile("[\x00-\x1f\x7f\\\\\ud800-\udfff]")
 ESCAPE = re.compile(rb"\\(?:[ntre\\]|x([0-9a-fA-F]{2}))")
+# Seconds as most tools write them.
+USUAL = re.compile(r"(\d{1,18})(?:\.(\d{1,9}))?", re.A)
 OF_ESCAPES = {escape.encode(): character.encode() for character, escape in NAMED.items()}
 # Reports show the id; what is made of another tool's output has none of its own.
 RUN_ID = "00000000-0000-4000-8000-000000000001"
@@ -35,6 +39,8 @@ def text(value, may_be_byte=False):
         return "-"
     if value == "-":
         return "\\x2d"
+    if value.isprintable() and "\\" not in value:
+        return value
     if SPELLED.search(value):
         value = value.replace("\\", NAMED["\\"])
         # An output may be long, and few characters in it are different ones.
@@ -45,6 +51,8 @@ def text(value, may_be_byte=False):
 
 def stream(output):
     """What was captured of a stream, as text or as bytes; None where it was not captured."""
+    if not output:
+        return "-" if output is None else ""
     if isinstance(output, bytes):
         output = output.decode("utf-8", "surrogateescape")
     return text(output, may_be_byte=True)
@@ -79,6 +87,8 @@ def words(values):
 
 def nanos(seconds):
     """Decimal seconds as whole nanoseconds, ties up. What is no number, below 0 or beyond all durations is 0."""
+    if usual := USUAL.fullmatch(str(seconds or 0)):
+        return str(int(usual[1] + (usual[2] or "").ljust(9, "0")))
     try:
         exact = Decimal(str(seconds or 0)) * 1_000_000_000
         rounded = int(exact.to_integral_value(ROUND_HALF_UP)) if abs(exact) < 1 << 128 else 0
@@ -108,12 +118,14 @@ class Attempt:
         highlight=None,
     ):
         self.result, self.is_slow = result, is_slow
-        output = ["split", stream(stdout), stream(stderr)]
-        if combined is not None:
-            output = ["comb", stream(combined), "-"]
         if start_error is not None:
-            output = ["start", words(start_error), "-"]
-        self.fields = [result, nanos(seconds), str(int(is_slow)), *output, words(errors), part(highlight)]
+            output = "start", words(start_error), "-"
+        elif combined is not None:
+            output = "comb", stream(combined), "-"
+        else:
+            output = "split", stream(stdout), stream(stderr)
+        of_end = result, nanos(seconds), "1" if is_slow else "0"
+        self.fields = [*of_end, *output, words(errors) if errors else "-", part(highlight) if highlight else "-"]
 
     def forget(self, errors):
         """Leaves out what it wrote, and says why."""
@@ -124,18 +136,26 @@ class Run:
     """Writes the lines of one run, and counts."""
 
     def __init__(self, write, total, binaries, skipped=0, profile="default"):
-        self.write, self.counts = write, {"initial": total}
+        self.write, self.counts, self.told = write, {}, {}
+        self.count_as("initial", total)
         self.line("run", RUN_ID, profile, str(total), str(binaries), f"tests={skipped}" if skipped else "-")
 
     def line(self, *fields):
         self.write("\t".join(fields) + "\n")
 
     def stats(self):
-        return " ".join(f"{key}={value}" for key, value in self.counts.items() if value) or "-"
+        return " ".join(self.told.values()) or "-"
+
+    def count_as(self, key, value):
+        """What is 0 is left out."""
+        self.counts[key] = value
+        if value:
+            self.told[key] = f"{key}={value}"
 
     def count(self, *keys):
         for key in keys:
-            self.counts[key] = self.counts.get(key, 0) + 1
+            value = self.counts[key] = self.counts.get(key, 0) + 1
+            self.told[key] = f"{key}={value}"
 
     def start(self, binary, name, command):
         self.line("start", "-", text(binary), text(name), self.stats(), words(command))
@@ -147,11 +167,11 @@ class Run:
 
     def cancel(self, running, reason):
         """`RunStats::cancel_reason` is the reason from here on."""
-        self.counts["cancel"] = reason
+        self.count_as("cancel", reason)
         self.line("cancel", "0", str(running), reason)
 
     def kill(self, running, reason):
-        self.counts["cancel"] = reason
+        self.count_as("cancel", reason)
         self.line("kill", "0", str(running), reason)
 
     def slow(self, binary, name, attempt, total, seconds, will_terminate=False):
@@ -168,7 +188,9 @@ class Run:
         """`RunStats::on_test_finished`: the last attempt decides; a test that passed after others is flaky, too."""
         last, is_flaky = attempts[-1], len(attempts) > 1
         self.count("finished")
-        if last.result == "pass":
+        if last.result == "pass" and not last.is_slow and not is_flaky:
+            self.count("passed")
+        elif last.result == "pass":
             self.count("passed", *["slow"] * last.is_slow, *["flaky"] * is_flaky)
         elif last.result == "leak":
             self.count("passed", "leaky", *["slow"] * last.is_slow, *["flaky"] * is_flaky)
@@ -190,19 +212,35 @@ class Run:
 
     def line_of(self, binary, name, attempts, success="never", failure="immediate", total=None):
         """Writes the line of a finished test, which is counted."""
-        fields = [field for attempt in attempts for field in attempt.fields]
-        self.line(
-            "done",
-            "-",
-            text(binary),
-            text(name),
-            success,
-            failure,
-            "pass",
-            self.stats(),
-            str(total or len(attempts)),
-            *fields,
-        )
+        before = f"done\t-\t{text(binary)}\t{text(name)}\t{success}\t{failure}\tpass\t{self.stats()}\t{total or len(attempts)}"
+        self.write("\t".join([before, *("\t".join(it.fields) for it in attempts)]) + "\n")
 
     def end(self, seconds):
         self.line("end", nanos(seconds), self.stats(), "0", "-")
+
+
+class WholeRun(Run):
+    """Writes the lines of a run whose totals are known in its end: until then a byte that no line has is in their place.
+    The lines are kept as bytes, which take a third of the memory of texts."""
+
+    TOTAL, PIECE = "\0", 1 << 20
+
+    def __init__(self):
+        self.kept, self.counts, self.told = bytearray(), {}, {}
+        self.count_as("initial", self.TOTAL)
+
+    def write(self, line):
+        self.kept += encoded(line)
+
+    def lines(self, total, binaries, skipped):
+        """Some of the lines at a time, with the totals."""
+        first = []
+        Run(first.append, total, binaries, skipped)
+        yield encoded(first[0])
+        # Statistics leave out what is 0.
+        told, number = (self.TOTAL, str(total)) if total else (f"initial={self.TOTAL} ", "")
+        at = 0
+        while at < len(self.kept):
+            end = self.kept.find(b"\n", at + self.PIECE) + 1 or len(self.kept)
+            yield bytes(self.kept[at:end]).replace(told.encode(), number.encode())
+            at = end

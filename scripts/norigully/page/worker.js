@@ -1,7 +1,8 @@
-"use strict";
 // What takes long is done here, beside the page: it unpacks the lines, puts reports together, and finds text in them.
-const BLOCK = 200, LONGEST = 20000;
+const BLOCK = 200, MOST_ON_PAPER = 20000, ON_PAPER = 100;
 let table = [], plain = [], reports = [], about = {}, current = { generation: 0, report: [], styles: [] };
+// By the place of a line in the table the number of the test that it tells of, from 1.
+let told = [];
 
 const unpacked = async text => {
   const binary = atob(text), bytes = new Uint8Array(binary.length);
@@ -10,61 +11,9 @@ const unpacked = async text => {
   return new TextDecoder("utf-8", { ignoreBOM: true }).decode(await new Response(stream).arrayBuffer());
 };
 
-// Escape sequences: those of a style change the style, and no other shows anything.
-const SEQUENCE = /\x1b(?:\[([0-9;:]*)([ -/]*[@-~])|\][^\x07\x1b]*(?:\x07|\x1b\\)?|[ -/]*[0-~])|[\x00-\x08\x0b-\x1f\x7f]/g;
-const PLAIN = { on: "", fore: "", back: "" };
-const FLAGS = { 1: "b", 2: "d", 3: "i", 4: "u", 9: "s" }, OFF = { 22: "bd", 23: "i", 24: "u", 29: "s" };
-const LEVELS = [0, 95, 135, 175, 215, 255];
-
-// A colour of 256: one of the eight, which the page names by a digit, or its own.
-const indexed = n => {
-  if (n < 16) return String(n < 8 || n === 8 ? n : n - 8);
-  return `rgb(${n > 231 ? Array(3).fill(8 + 10 * (n - 232)) : [36, 6, 1].map(k => LEVELS[Math.floor((n - 16) / k) % 6])})`;
-};
-// The colour behind 38 or 48, and how many numbers it took.
-const extended = list => {
-  const [kind, ...rest] = list.map(n => Math.min(255, n || 0));
-  return kind === 2 ? [`rgb(${[...rest, 0, 0, 0].slice(0, 3)})`, 4] : kind === 5 ? [indexed(rest[0] || 0), 2] : ["", 1];
-};
-const restyled = (style, codes) => {
-  let { on, fore, back } = style;
-  const list = codes.split(/[;:]/).map(Number);
-  for (let k = 0; k < list.length; k++) {
-    const c = list[k], base = Math.floor(c / 10);
-    if (c === 0) on = fore = back = "";
-    else if (FLAGS[c]) on = on.replace(FLAGS[c], "") + FLAGS[c];
-    else if (OFF[c]) on = [...on].filter(it => !OFF[c].includes(it)).join("");
-    else if (c === 38 || c === 48) {
-      const [colour, count] = extended(list.slice(k + 1));
-      k += count;
-      if (c === 38) fore = colour; else back = colour;
-    } else if (c === 39) fore = "";
-    else if (c === 49) back = "";
-    else if ((base === 3 || base === 9) && c % 10 < 8) fore = String(c === 90 ? 8 : c % 10);
-    else if ((base === 4 || base === 10) && c % 10 < 8) back = String(c === 100 ? 8 : c % 10);
-  }
-  return { on, fore, back };
-};
-const styleAfter = (line, style) => {
-  if (line.includes("\x1b")) for (const found of line.matchAll(SEQUENCE)) if (found[2] === "m") style = restyled(style, found[1]);
-  return style;
-};
-
-// The pieces of a line that have one style each, as text and style.
-const pieces = (line, style) => {
-  const made = [], cut = line.length > LONGEST ? line.slice(0, LONGEST) : line;
-  const add = text => text && made.push([text, style.on, style.fore, style.back]);
-  let from = 0;
-  for (const found of cut.matchAll(SEQUENCE)) {
-    add(cut.slice(from, found.index));
-    from = found.index + found[0].length;
-    if (found[2] === "m") style = restyled(style, found[1]);
-  }
-  add(cut.slice(from));
-  if (cut !== line) made.push([` … and ${line.length - LONGEST} characters more`, "i", "8", ""]);
-  return made;
-};
 const plainOf = place => (plain[place] ??= table[place].replace(SEQUENCE, ""));
+// A line of the report itself begins with a style, and one that a test wrote with spaces.
+const isOwn = place => table[place].startsWith("\x1b[");
 
 // A report is the places of its lines in the table.
 const placesOf = ({ level, failure, success }) => {
@@ -81,49 +30,107 @@ const placesOf = ({ level, failure, success }) => {
   return places;
 };
 
-// The line that tells a failure: the first with its name, but for one that says what was begun or is slow. A line of
-// the report itself begins with a style, and one that a test wrote with spaces.
-const TELLS = /^ *(?:TRY \d+ )?(?!START|SLOW|SKIP|TERMINATING|PASS|LEAK )[A-Z][A-Z0-9 #/+-]*\[[^\]]*\] (?:\([^)]*\) |@[^ ]* )?(.*)$/s;
-const isOwn = place => table[place].startsWith("\x1b[");
-const placesOfFailures = report => {
-  const first = new Map(about.failures.map(it => [it.join(" ").replace(SEQUENCE, ""), -1]));
+// How many lines a name takes.
+const heightOf = ([binary, name]) => `${binary}${name}`.split("\n").length;
+// The line of each test in a report: the one that told that it finished, and else one of the summary, which has the same
+// time and name.
+const linesOfTests = report => {
+  const lines = about.tests.map(() => -1), others = new Map(), keyOf = place => table[place].slice(table[place].indexOf("\x1b[0m ["));
   for (let n = 0; n < report.length; n++) {
-    const found = isOwn(report[n]) && TELLS.exec(plainOf(report[n]));
-    if (found && first.get(found[1]) === -1) first.set(found[1], n);
+    const number = told[report[n]];
+    if (number && lines[number - 1] < 0) lines[number - 1] = n;
   }
-  return about.failures.map(it => first.get(it.join(" ").replace(SEQUENCE, "")));
+  for (const [k, [, , place]] of about.tests.entries()) {
+    if (place >= 0 && lines[k] < 0) others.set(keyOf(place), [...(others.get(keyOf(place)) ?? []), k]);
+  }
+  for (let n = 0; others.size && n < report.length; n++) {
+    for (const k of (isOwn(report[n]) && others.get(keyOf(report[n]))) || []) {
+      const isSame = (_, i) => i === 0 || table[report[n + i]] === table[about.tests[k][2] + i];
+      if (lines[k] < 0 && Array.from({ length: heightOf(about.tests[k]) }).every(isSame)) { lines[k] = n; break; }
+    }
+  }
+  return lines;
+};
+// What a test wrote, as the report shows it, which stands behind its name.
+const outputOf = test => {
+  const [, , place, end] = test, lines = [];
+  for (let at = place + heightOf(test); place >= 0 && at < end; at++) lines.push(plainOf(at));
+  return lines.join("\n").replace(/^\n+|\s+$/g, "");
+};
+const timeOf = ([, , place]) => (place < 0 ? "" : /\[[ >]*([\d.]+s)\]/.exec(plainOf(place))?.[1] ?? "");
+
+// The style in front of a block, from the last line before it that ends a style, or from the last block whose style is known.
+const styleAt = at => {
+  const { report, styles } = current;
+  let from = at * BLOCK;
+  const known = () => from % BLOCK === 0 && styles[from / BLOCK];
+  while (!known() && !table[report[from - 1]].includes("\x1b[0m")) from--;
+  let style = known() || PLAIN;
+  for (from -= known() ? 0 : 1; from < at * BLOCK; from++) style = styleAfter(table[report[from]], style);
+  return (styles[at] = style);
+};
+
+// The first or the last lines that fit on that much paper.
+const fitting = (report, most) => {
+  let count = 0;
+  for (const place of report) {
+    if (most <= 0) break;
+    most -= 1 + Math.floor(Math.min(plainOf(place).length, LONGEST) / ON_PAPER);
+    count++;
+  }
+  return count;
+};
+// Lines as plain text, each with those behind it that are of one test: a line that begins with a style and has a time, or
+// that many dashes, begins anew.
+const begins = place => (isOwn(place) ? /^[^[\]]{1,14}\[[^\]]*\] /.test(plainOf(place)) : /^[─-]{12}$/.test(table[place]));
+const partsOf = places => {
+  const parts = [];
+  for (const place of places) {
+    const line = plainOf(place), more = line.length - LONGEST;
+    const text = more > 0 ? `${line.slice(0, LONGEST)} … and ${more} characters more` : line;
+    if (!parts.length || begins(place)) parts.push(text); else parts[parts.length - 1] += `\n${text}`;
+  }
+  return parts;
 };
 
 const answers = {
   async start({ packed }) {
-    const [told, all, lines] = await Promise.all(packed.map(unpacked));
-    about = JSON.parse(told);
+    const [said, all, lines] = await Promise.all(packed.map(unpacked));
+    about = JSON.parse(said);
     [reports, table] = [all.split("\n"), lines.slice(0, -1).split("\n")];
-    return about;
+    told = new Uint32Array(table.length);
+    for (const [k, [, , place]] of about.tests.entries()) if (place >= 0) told[place] = k + 1;
+    const failed = new Set(about.lists.failed);
+    const tests = about.tests.map((it, k) => ({ binary: it[0], name: it[1], time: timeOf(it), hasOutput: failed.has(k) && outputOf(it) !== "" }));
+    return { tests, lists: about.lists, note: about.note, choices: Object.keys(about.reports) };
   },
   show({ choice }) {
-    let report = placesOf(choice);
+    let report = placesOf(choice), summary = [];
     // What stands behind the last line feed is a line only where it is something.
     if (report.length && table[report.at(-1)] === "") report = report.subarray(0, -1);
-    const styles = [];
-    let style = PLAIN, summary = [];
-    for (let n = 0; n < report.length; n++) {
-      if (n % BLOCK === 0) styles.push(style);
-      if (isOwn(report[n]) && /^ +Summary \[/.test(plainOf(report[n]))) summary = pieces(table[report[n]], style);
-      style = styleAfter(table[report[n]], style);
+    for (let n = report.length - 1; n >= 0 && !summary.length; n--) {
+      if (isOwn(report[n]) && /^ +Summary \[/.test(plainOf(report[n]))) summary = pieces(table[report[n]], PLAIN);
     }
-    current = { generation: current.generation + 1, report, styles };
-    return { generation: current.generation, count: report.length, summary, failures: placesOfFailures(report) };
+    current = { generation: current.generation + 1, report, styles: [PLAIN] };
+    return { generation: current.generation, count: report.length, summary, lines: linesOfTests(report) };
   },
   block({ generation, at }) {
     if (generation !== current.generation) return null;
-    let style = current.styles[at];
+    let style = styleAt(at);
     return Array.from(current.report.subarray(at * BLOCK, (at + 1) * BLOCK), place => {
       const made = pieces(table[place], style);
       style = styleAfter(table[place], style);
       return made;
     });
   },
+  // The lines to print: all, or of a long report the first and the last.
+  paper({ generation }) {
+    if (generation !== current.generation) return null;
+    const { report } = current, first = fitting(report, MOST_ON_PAPER / 2);
+    const last = fitting(report.slice(first).reverse(), MOST_ON_PAPER / 2), left = report.length - first - last;
+    return { first: partsOf(report.subarray(0, first)), last: partsOf(report.subarray(first + left)), left };
+  },
+  output: ({ test }) => outputOf(about.tests[test]),
   find({ word }) {
     const wanted = word.toLowerCase(), known = new Uint8Array(table.length), hits = [];
     for (let n = 0; wanted && n < current.report.length; n++) {
