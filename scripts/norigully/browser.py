@@ -15,7 +15,7 @@ OPTIONS = (
     *("--headless", "--no-sandbox", "--disable-gpu", "--disable-dev-shm-usage"),
     *("--no-first-run", "--disable-background-networking"),
 )
-# A browser has so many seconds for an answer.
+# The seconds that a browser may take to respond.
 LIMIT = 120
 
 
@@ -93,7 +93,7 @@ class Browser:
         return json.loads(message)
 
     def ask(self, method, **words):
-        """What the browser answers; events that come before are noted."""
+        """The response of the browser; events that come before are noted."""
         self.number += 1
         question = {"id": self.number, "method": method, "params": words}
         if self.session:

@@ -27,7 +27,7 @@ USAGE = "[--title T] [--choices all|few] [-o FILE] SCENE|--recorded DIR"
 # first has the most lines.
 FAILURE = ("immediate", "final", "", "never")
 SUCCESS = ("immediate", "", "never")
-# Of more lines than that a page has few choices, unless it is told otherwise: those of successes as the run says.
+# Of more lines than that a page has few choices, unless asked otherwise: those of successes as the run says.
 LARGE = 32 * 10**6
 PIECE = 3 << 16
 # What a page is made of: its scripts, the facts at its head in their order, and its data.
@@ -36,7 +36,7 @@ WORKER, DATA = ("style.js", "worker.js"), ("about", "reports", "table")
 FACTS = ("Profile", "Run", "Started", "Took")
 # The level of a run's own report, and how many reports are printed side by side.
 OWN_LEVEL, SIDE_BY_SIDE = "pass", 3
-# A recorded run that failed is told by the status of `replay`.
+# A recorded run that failed: the status of `replay`.
 ENDED = {"report": (0,), "replay": (0, 3, 4, 100)}
 
 
@@ -103,7 +103,7 @@ class Run:
 
     def reports(self, levels):
         """Has the program print the reports of these levels, some side by side, and yields each as a file. Each is whole
-        lines: what stands behind the last line feed is one of its own."""
+        lines: what follows the last line feed is one of its own."""
         begun = collections.deque()
         with contextlib.ExitStack() as stack:
             for level in levels:
@@ -151,7 +151,7 @@ class Run:
         return told
 
     def find_places(self, tests, words, sum_of_first):
-        """Finds where these tests stand in the first report, by a report with marks around them."""
+        """Finds where these tests are in the first report, by a report with marks around them."""
         mark, of_lines, marked = secrets.token_hex(16).encode(), {it.line: it for it in tests}, self.folder / "marked"
         with open(self.lines, "rb") as lines:
             write_pieces(page_scene.marked(lines, of_lines, mark), marked)
@@ -200,12 +200,12 @@ def make(run, file):
 
 
 def part(*names):
-    """Files that the page is made of, one behind another, which may stand in an archive."""
+    """Files that the page is made of, one after another, which may be in an archive."""
     return "".join(pkgutil.get_data("norigully", f"page/{name}").decode() for name in names)
 
 
 def own_source(text):
-    """How a policy names a script or a style that stands in the page."""
+    """How a policy names a script or a style that is in the page."""
     return f"'sha256-{base64.b64encode(hashlib.sha256(text.encode()).digest()).decode()}'"
 
 

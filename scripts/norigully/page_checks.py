@@ -26,7 +26,7 @@ def changed(scene, success, failure):
 
 
 def large_scene(tests, lines):
-    """A run of tests that each wrote so many lines."""
+    """A run of tests that each wrote this many lines."""
     made = []
     run = Run(made.append, tests, 1)
     for number in range(tests):
@@ -38,7 +38,7 @@ def large_scene(tests, lines):
 
 
 def short_scene(lines):
-    """A failure that wrote so many short lines."""
+    """A failure that wrote this many short lines."""
     made = []
     run = Run(made.append, 1, 1)
     run.done("short", "lines", [Attempt("fail:1", 0.01, b"ab\n" * lines, b"")])

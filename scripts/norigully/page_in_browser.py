@@ -63,7 +63,7 @@ def check_looks(checks, folder, browser):
 
 
 def check_long(checks, folder, browser):
-    """A report of which not all lines stand at a time: the page that `check_memory` made."""
+    """A report of which not all lines are in the page at a time: the page that `check_memory` made."""
     browser.open(f"file://{folder / 'large.html'}")
     scene = folder / "immediate.scene"
     scene.write_bytes(changed((folder / "large.scene").read_bytes(), "immediate", ""))

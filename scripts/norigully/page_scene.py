@@ -1,4 +1,4 @@
-"""What a page is told by the lines of a scene: when output is shown, the facts of the run, and the tests that it lists."""
+"""What a page takes from the lines of a scene: when output is shown, the facts of the run, and the tests that it lists."""
 
 import hashlib
 from dataclasses import dataclass, field
@@ -11,7 +11,7 @@ PASSED = (b"pass", b"leak", b"tmpass")
 # How many of the slowest tests a page lists.
 SLOWEST = 10
 BATCH = 1 << 20
-# The field of a line in front of which it is cut, by its first bytes: the words for when output is shown stand before.
+# The field of a line in front of which it is cut, by its first bytes: the words for when output is shown come before.
 CUTS = {b"done\t": 6, b"retry": 8}
 
 

@@ -9,7 +9,7 @@ import os
 
 # Reports are compared in pieces: a few bytes, of which most lines differ in some, and then more and more of them.
 HEAD, LEAST, MOST, PIECE = 16, 1 << 8, 1 << 16, 1 << 18
-# So many bytes behind the last line are looked through, and so many lines of one text are noted.
+# How many bytes after the last line are looked through, and how many lines of one text are noted.
 NEAR, SAME = 1 << 12, 8
 # How many lines can be noted at first.
 ROOM = 1 << 12
@@ -18,7 +18,7 @@ STYLE = b"\x1b"
 
 class Table:
     """The lines of all reports. Each report is stretches of them, and most leave out lines of the first one, in its
-    order. Stretches are compared as bytes. What stands in memory is a sum and a place for each line of which a stretch
+    order. Stretches are compared as bytes. What is in memory is a sum and a place for each line of which a stretch
     is likely to begin: one that begins with a style, as those of the report itself do, and the line behind it."""
 
     def __init__(self, file):

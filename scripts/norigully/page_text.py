@@ -48,7 +48,7 @@ def shortened(report):
 
 
 def write_text(report, file):
-    """Writes the report as text of HTML into a file. What stands behind the last line feed is a line only where it is
+    """Writes the report as text of HTML into a file. What follows the last line feed is a line only where it is
     something."""
     lines = shortened(report)
     with open(file, "wb") as text:

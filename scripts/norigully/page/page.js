@@ -2,11 +2,11 @@
 const $ = id => document.getElementById(id);
 const BLOCK = 200, LINE = 20, NEAR = "1500px";
 const report = $("report"), narrow = matchMedia("(max-width: 800px)");
-// So many blocks stand at a time: browsers scroll no further than some 800,000 lines.
+// How many blocks are in the page at a time: browsers scroll no further than some 800,000 lines.
 let most = 2500, base = 0;
 let shown = { generation: 0, count: 0, lines: [], tests: new Map() }, hits = [], at = -1, marked = -1, searches = 0;
 
-// Questions to the worker, and their answers.
+// Questions to the worker, and its responses.
 const worker = new Worker(URL.createObjectURL(new Blob([$("worker").textContent], { type: "text/javascript" })));
 worker.onerror = () => { $("summary").textContent = "This run cannot be shown: the browser runs no worker here"; };
 const waiting = new Map();
@@ -21,7 +21,7 @@ worker.onmessage = ({ data }) => {
   if (data.fault === undefined) resolve(data.answer); else reject(new Error(data.fault));
 };
 
-// The report stands in blocks of lines. A block has its lines while it is near what is seen, and else its height alone.
+// The report is in blocks of lines. A block has its lines while it is near what is seen, and else its height alone.
 const blocks = () => report.children;
 const fill = async block => {
   const number = Number(block.dataset.number), lines = block.filled ? null : await ask("block", { generation: shown.generation, at: number });

@@ -1,8 +1,8 @@
-// What is printed: the report that is shown, which stands on paper alone. A browser asks for it at once, so its lines are
-// here before; until the run is read they are those that stand in the page for browsers without scripts.
+// What is printed: the report that is shown, which is on paper alone. A browser asks for it at once, so its lines are
+// here before; until the run is read they are those that are in the page for browsers without scripts.
 let paper = null;
 const takePaper = async () => { paper = await ask("paper", { generation: shown.generation }); };
-// Browsers take long to print many elements: what is one line each stands together.
+// Browsers take long to print many elements: what is one line each is together.
 const TOGETHER = 100;
 const putParts = (to, parts) => {
   let lines = [];

@@ -1,7 +1,7 @@
 // What takes long is done here, beside the page: it unpacks the lines, puts reports together, and finds text in them.
 const BLOCK = 200, MOST_ON_PAPER = 20000, ON_PAPER = 100;
 let table = [], plain = [], reports = [], about = {}, current = { generation: 0, report: [], styles: [] };
-// By the place of a line in the table the number of the test that it tells of, from 1.
+// By the place of a line in the table the number of the test that it reports, from 1.
 let told = [];
 
 const unpacked = async text => {
@@ -32,7 +32,7 @@ const placesOf = ({ level, failure, success }) => {
 
 // How many lines a name takes.
 const heightOf = ([binary, name]) => `${binary}${name}`.split("\n").length;
-// The line of each test in a report: the one that told that it finished, and else one of the summary, which has the same
+// The line of each test in a report: the one that reports its end, or else one of the summary, which has the same
 // time and name.
 const linesOfTests = report => {
   const lines = about.tests.map(() => -1), others = new Map(), keyOf = place => table[place].slice(table[place].indexOf("\x1b[0m ["));
@@ -51,7 +51,7 @@ const linesOfTests = report => {
   }
   return lines;
 };
-// What a test wrote, as the report shows it, which stands behind its name.
+// What a test wrote, as the report shows it, which follows its name.
 const outputOf = test => {
   const [, , place, end] = test, lines = [];
   for (let at = place + heightOf(test); place >= 0 && at < end; at++) lines.push(plainOf(at));
@@ -106,7 +106,7 @@ const answers = {
   },
   show({ choice }) {
     let report = placesOf(choice), summary = [];
-    // What stands behind the last line feed is a line only where it is something.
+    // What follows the last line feed is a line only where it is something.
     if (report.length && table[report.at(-1)] === "") report = report.subarray(0, -1);
     for (let n = report.length - 1; n >= 0 && !summary.length; n--) {
       if (isOwn(report[n]) && /^ +Summary \[/.test(plainOf(report[n]))) summary = pieces(table[report[n]], PLAIN);
