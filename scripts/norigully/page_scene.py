@@ -1,4 +1,4 @@
-"""What a page takes from the lines of a scene: when output is shown, the facts of the run, and the tests that it lists."""
+"""What a page takes from a scene's lines: when output is shown, the facts of the run, and the tests that it lists."""
 
 import hashlib
 from dataclasses import dataclass, field
