@@ -1,6 +1,6 @@
 -- How a process ended, as text.
 use Rattle.std.specs.Prelude.{ℕ, zero, suc, ◌+◌, ◌/◌, ◌%◌, ℤ, [], ◌∷◌, ◌++◌, Option, None, Some, nat_lt, if◌then◌else◌, codes}
-use Rattle.styled_text.specs.Names.{signed_decimal, cast_unsigned, w32, Text, Plain, part_texts, plain}
+use Rattle.styled_text.specs.Names.{signed_decimal, cast_unsigned, w32, Text, plain}
 use Rattle.run_names.specs.declared.abort.AbortDescription.{AbortDescription}
 use Rattle.run_names.specs.declared.abort.AbortDescription.TheVariants.{UnixSignal, WindowsNtStatus, WindowsJobObject}
 use Rattle.report_text.specs.declared.helpers.failure.ExitDescription.{ExitDescription}
@@ -26,12 +26,12 @@ nt_status_text code = hex_text (cast_unsigned w32 code)
 -- a signal's name between parentheses, if it is known
 unfoldable pub signal_name_text : Option Text → Text
 signal_name_text None = []
-signal_name_text (Some name) = part_texts (Plain (codes " (SIG") ∷ Plain name ∷ Plain (codes ")") ∷ [])
+signal_name_text (Some name) = plain (codes " (SIG") ++ (plain name ++ plain (codes ")"))
 
 -- the message of a status, if it is known
 unfoldable pub message_text : Option Text → Text
 message_text None = []
-message_text (Some message) = part_texts (Plain (codes ": ") ∷ Plain message ∷ [])
+message_text (Some message) = plain (codes ": ") ++ plain message
 
 -- the first words about a process that was aborted
 unfoldable pub abort_words : AbortDescription → Text

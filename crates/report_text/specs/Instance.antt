@@ -1,6 +1,6 @@
 -- Names, iterations and counters as a report shows them.
 use Rattle.std.specs.Prelude.{◌≢◌, ℕ, ◌+◌, List, [], ◌∷◌, ◌++◌, false, Option, None, Some, length, codes, encode_utf8}
-use Rattle.styled_text.specs.Names.{decimal, NonZeroU32, non_zero_u32_get, repeat, Text, right_in, HasNoEscape, shrunk_parts, PartText, Plain, Styled, part_texts}
+use Rattle.styled_text.specs.Names.{decimal, NonZeroU32, non_zero_u32_get, repeat, Text, right_in, HasNoEscape, shrunk_parts, plain, styled}
 use Rattle.report_words.specs.Names.{Style, ListStyles, Parts, Open, drawn_given}
 use Rattle.run_names.specs.Names.{module_path_of, last_name_of}
 use Rattle.run_model.specs.Names.{TestInstanceId, StressIndex}
@@ -9,44 +9,44 @@ use Rattle.report_text.specs.declared.helpers.instance.DisplayCounterIndex.{Disp
 use Rattle.report_text.specs.declared.helpers.instance.DisplayCounterIndex.TheVariants.{Counter, Padded}
 
 -- a name with its module path and its last part
-abbrev pub name_parts : ListStyles → Option Text → Text → List PartText
-name_parts s None last = Styled s.test_name last ∷ []
-name_parts s (Some path) last = Styled s.module_path path ∷ Styled s.module_path (codes "::") ∷ Styled s.test_name last ∷ []
+abbrev pub name_text : ListStyles → Option Text → Text → Text
+name_text s None last = styled s.test_name last
+name_text s (Some path) last = styled s.module_path path ++ (styled s.module_path (codes "::") ++ styled s.test_name last)
 
 -- a test's name
 unfoldable pub test_name_text : ListStyles → Text → Text
-test_name_text s name = part_texts (name_parts s (module_path_of name) (last_name_of name))
+test_name_text s name = name_text s (module_path_of name) (last_name_of name)
 
 -- an iteration's number from 1, and with a total right in its width, before a slash and the total
-abbrev pub stress_parts : Style → ℕ → Option NonZeroU32 → List PartText
-stress_parts s number None = Styled s (decimal number) ∷ []
-stress_parts s number (Some total) =
-    Styled s (right_in (length (decimal (non_zero_u32_get total))) (decimal number)) ∷ Plain (codes "/") ∷ Styled s (decimal (non_zero_u32_get total)) ∷ []
+abbrev pub numbered_iteration : Style → ℕ → Option NonZeroU32 → Text
+numbered_iteration s number None = styled s (decimal number)
+numbered_iteration s number (Some total) =
+    styled s (right_in (length (decimal (non_zero_u32_get total))) (decimal number)) ++ (plain (codes "/") ++ styled s (decimal (non_zero_u32_get total)))
 
 -- an iteration of a stress run
 unfoldable pub stress_text : Style → StressIndex → Text
-stress_text s i = part_texts (stress_parts s (i.current + 1) i.total)
+stress_text s i = numbered_iteration s (i.current + 1) i.total
 
 -- the iteration between brackets and a space, if there is one
 unfoldable pub stress_prefix : Style → Option StressIndex → Text
 stress_prefix s None = []
-stress_prefix s (Some i) = part_texts (Plain (codes "[") ∷ []) ++ (stress_text s i ++ part_texts (Plain (codes "] ") ∷ []))
+stress_prefix s (Some i) = plain (codes "[") ++ (stress_text s i ++ plain (codes "] "))
 
 -- a number right in the width of its total, or one character for each column of that
 unfoldable pub counter_text : DisplayCounterIndex → Text
 counter_text (Counter current total) =
-    part_texts (Plain (codes "(") ∷ Styled style.Plain (right_in (length (decimal total)) (decimal current)) ∷ Plain (codes "/") ∷ Plain (decimal total) ∷ Plain (codes ")") ∷ [])
+    plain (codes "(") ++ (styled style.Plain (right_in (length (decimal total)) (decimal current)) ++ (plain (codes "/") ++ (plain (decimal total) ++ plain (codes ")"))))
 counter_text (Padded character width) =
-    part_texts (Plain (codes "(") ∷ []) ++ (repeat width (encode_utf8 character) ++ (repeat width (encode_utf8 character) ++ (encode_utf8 character ++ part_texts (Plain (codes ")") ∷ []))))
+    plain (codes "(") ++ (repeat width (encode_utf8 character) ++ (repeat width (encode_utf8 character) ++ (encode_utf8 character ++ plain (codes ")"))))
 
 -- the counter and a space, if there is one
 unfoldable pub counter_prefix : Option DisplayCounterIndex → Text
 counter_prefix None = []
-counter_prefix (Some c) = counter_text c ++ part_texts (Plain (codes " ") ∷ [])
+counter_prefix (Some c) = counter_text c ++ plain (codes " ")
 
 -- a binary's id and a space
 abbrev pub id_prefix : Style → Text → Text
-id_prefix s id = part_texts (Styled s id ∷ Plain (codes " ") ∷ [])
+id_prefix s id = styled s id ++ plain (codes " ")
 
 -- a test: its iteration, its counter, its binary's id with a space and its name
 unfoldable pub test_text : ListStyles → Option StressIndex → Option DisplayCounterIndex → Text → Text → Text
@@ -81,7 +81,7 @@ HasPlainWords counter binary_id name = HasPlainCounter counter × HasNoEscape bi
 -- a setup script: its iteration, its id and its command
 unfoldable pub script_text : Style → Style → Option StressIndex → Text → Text → Text
 script_text id_style count_style stress id command =
-    stress_prefix count_style stress ++ (part_texts (Styled id_style id ∷ Plain (codes ": ") ∷ []) ++ command)
+    stress_prefix count_style stress ++ ((styled id_style id ++ plain (codes ": ")) ++ command)
 
 -- a test and a setup script as parts of a line
 abbrev pub instance_part : Option StressIndex → Option DisplayCounterIndex → TestInstanceId → Parts false Open

@@ -5,30 +5,21 @@ use Rattle.report_words.specs.Names.{Style, ListStyles, tests_word, tests_word_i
 use Rattle.run_model.specs.Names.{NextestRunMode, OwnedTestInstanceId}
 use Rattle.report_text.specs.Instance.{test_text}
 
-unfoldable pub requires_words : Text
-requires_words = codes " requires exactly one "
-
-unfoldable pub selected_words : Text
-selected_words = codes " were selected:"
-
 -- the option, and that it takes one test
 unfoldable pub interceptor_option : Text → NextestRunMode → Text
-interceptor_option name mode = plain (codes "--") ++ (plain name ++ (plain requires_words ++ plain (tests_word_if mode false)))
+interceptor_option name mode = plain (codes "--") ++ (plain name ++ (plain (codes " requires exactly one ") ++ plain (tests_word_if mode false)))
 
 -- how many tests there are
 unfoldable pub selected_text : NextestRunMode → ℕ → Style → Text
-selected_text mode count s = plain (codes ", but ") ++ (styled s (decimal count) ++ (plain (codes " ") ++ (plain (tests_word mode count) ++ plain selected_words)))
+selected_text mode count s = plain (codes ", but ") ++ (styled s (decimal count) ++ (plain (codes " ") ++ (plain (tests_word mode count) ++ plain (codes " were selected:"))))
 
 -- a test on a line of its own, after two spaces
 unfoldable pub listed_test : ListStyles → OwnedTestInstanceId → Text
 listed_test s i = plain (codes "\n  ") ++ test_text s None None i.binary_id i.test_name
 
-unfoldable pub and_words : Text
-and_words = codes "\n  ... and "
-
 -- how many tests are not listed
 unfoldable pub rest_text : NextestRunMode → ℕ → Style → Text
-rest_text mode count s = plain and_words ++ (styled s (decimal count) ++ (plain (codes " more ") ++ plain (tests_word mode count)))
+rest_text mode count s = plain (codes "\n  ... and ") ++ (styled s (decimal count) ++ (plain (codes " more ") ++ plain (tests_word mode count)))
 
 -- if there are any
 unfoldable pub unlisted_text : NextestRunMode → ℕ → ℕ → Style → Text

@@ -11,9 +11,8 @@ use run_model::level::StatusLevel;
 use run_model::output::LiveSpec;
 use run_model::status::{ExecutionResultDescription, LeakTimeoutResult, SetupScriptExecuteStatus};
 use run_model::time::Nanos;
-use styled_text::numbers::write_right_joined;
 use styled_text::style::{Style, Styles};
-use styled_text::text::Right;
+use styled_text::text::{Painted, Right, RightJoined};
 use text_parts::attempt_output::write_setup_script_execute_status;
 use text_parts::result_words::spaced_short_status_str;
 use text_parts::script::{ScriptInstance, ShownScript};
@@ -50,9 +49,8 @@ impl WriteText for ScriptCounter {
         let mut number = Buffer::new();
         let mut count = Buffer::new();
         let number = number.format(self.0 as u128 + 1);
-        "[".write_to(w)?;
-        write_right_joined(w, 9, "", number, "/", count.format(self.1))?;
-        "] ".write_to(w)
+        let count = count.format(self.1);
+        ("[", RightJoined(9, "", number, "/", count), "] ").write_to(w)
     }
 }
 
@@ -146,7 +144,7 @@ impl WriteText for ScriptStatus<'_> {
         let mut signal = Buffer::new();
         let word = spaced_short_status_str(outcome, &mut signal);
         let style = script_status_style(styles, outcome);
-        style.write_right_joined(w, 12, "", "SETUP", word.front, word.back)
+        Painted(style, RightJoined(12, "", "SETUP", word.front, word.back)).write_to(w)
     }
 }
 

@@ -53,7 +53,7 @@ unfoldable pub use Rattle.styled_text.specs.Numbers.{seconds, with_point}
 pub use Rattle.styled_text.specs.Piece.{piece_text}
 pub use Rattle.styled_text.specs.Scanner.{StepCounts, advanced, begun, final_step_of, is_before_backslash, mode_after, mode_after_step, rest_len, short_step_of, step_of}
 unfoldable pub use Rattle.styled_text.specs.Scanner.{modes_after}
-pub use Rattle.styled_text.specs.Style.{PartText, Plain, Styled, list_styles_of, painted, painted_part, part_text, part_texts, reset_color, style_prefix, style_suffix, styles_of}
+pub use Rattle.styled_text.specs.Style.{list_styles_of, reset_color, style_prefix, style_suffix, styles_of}
 unfoldable pub use Rattle.styled_text.specs.Style.{plain, styled}
 pub use Rattle.styled_text.specs.Texts.{Text, spaces}
 unfoldable pub use Rattle.styled_text.specs.Texts.{right_in}

@@ -1,12 +1,9 @@
 -- Styles, and texts that are painted in them.
-use Rattle.std.specs.Prelude.{Bool, true, false, List, [], ◌∷◌, ◌++◌, codes}
-use Rattle.std.specs.List.{flat_map}
-use Rattle.styled_text.specs.Texts.{Text, right_in}
+use Rattle.std.specs.Prelude.{Bool, true, false, [], ◌∷◌, ◌++◌, codes}
+use Rattle.styled_text.specs.Texts.{Text}
 unfoldable pub use Rattle.writers.specs.Texts.{plain}
 use Rattle.styled_text.specs.declared.style.Style.{Style}
 use Rattle.styled_text.specs.declared.style.Style.TheVariants as style
-use Rattle.styled_text.specs.declared.style.Part.{Part}
-use Rattle.styled_text.specs.declared.style.Part.TheVariants as part
 use Rattle.styled_text.specs.declared.style.Styles.{Styles}
 use Rattle.styled_text.specs.declared.style.ListStyles.{ListStyles}
 
@@ -36,34 +33,9 @@ abbrev pub style_suffix : Style → Text
 style_suffix style.Plain = []
 style_suffix s = reset_color
 
--- a stretch of a text, as it is or in a style
-pub data PartText : Type 0 where
-  Plain : Text → PartText
-  Styled : Style → Text → PartText
-
 -- a text in a style: a word that a proof treats as a whole
 unfoldable pub styled : Style → Text → Text
 styled s t = style_prefix s ++ (t ++ style_suffix s)
-
--- a part as painted text
-abbrev pub part_text : PartText → Text
-part_text (Plain t) = plain t
-part_text (Styled s t) = styled s t
-
--- the parts as painted text, one after the other
-abbrev pub part_texts : List PartText → Text
-part_texts [] = []
-part_texts (p ∷ ps) = part_text p ++ part_texts ps
-
--- a part of the code, as a part of a definition
-abbrev pub painted_part : Part → PartText
-painted_part (part.Plain t) = Plain t.now
-painted_part (part.Styled s t) = Styled s t.now
-painted_part (part.Right s n t) = Styled s (right_in n t.now)
-
--- the parts of the code as painted text
-abbrev pub painted : List Part → Text
-painted ps = flat_map (λ p. part_text (painted_part p)) ps
 
 -- the styles of a report: all plain, or with colours
 abbrev pub list_styles_of : Bool → ListStyles

@@ -65,7 +65,7 @@ pub fn spaces_str(count: usize) -> &'static str
     }
 }
 
-fn write_spaces<W: WriteStr>(w: &mut W, count: usize) -> Result<(), WriteFault>
+pub(crate) fn write_spaces<W: WriteStr>(w: &mut W, count: usize) -> Result<(), WriteFault>
     ensures { Puts W.meaning w.old (spaces count) result w.new }
 {
     let mut left = count;
@@ -229,33 +229,15 @@ fn write_decimals<W: WriteStr>(w: &mut W, thousandths: u32) -> Result<(), WriteF
     w.write_str(unsafe { str::from_utf8_unchecked(&digits) })
 }
 
-/// Writes four texts joined, right-aligned in the given number of columns, one for each character.
-///
-/// ```
-/// write_right_joined(&mut out, 12, "TRY ", "2", " ", "FAIL")?;
-/// assert_eq!(out.as_str(), "  TRY 2 FAIL");
-/// ```
-#[tactic(auto, unfolding(crate::specs::Texts::right_in))]
-pub fn write_right_joined<W: WriteStr>(
-    w: &mut W,
+// The columns that four texts leave.
+#[tactic(auto, using(crate::proofs::lemmas::Decimals::joined_columns))]
+pub(crate) fn columns_left(
     columns: usize,
     first: &str,
     second: &str,
     third: &str,
     fourth: &str,
-) -> Result<(), WriteFault>
-    ensures { Puts W.meaning w.old (right_in columns (first.now ++ (second.now ++ (third.now ++ fourth.now)))) result w.new }
-{
-    write_spaces(w, columns_left(columns, first, second, third, fourth))?;
-    w.write_str(first)?;
-    w.write_str(second)?;
-    w.write_str(third)?;
-    w.write_str(fourth)
-}
-
-// The columns that four texts leave.
-#[tactic(auto, using(crate::proofs::lemmas::Decimals::joined_columns))]
-fn columns_left(columns: usize, first: &str, second: &str, third: &str, fourth: &str) -> usize
+) -> usize
     ensures { result ≡ columns - length (chars (first.now ++ (second.now ++ (third.now ++ fourth.now)))) }
 {
     columns

@@ -3,10 +3,10 @@
 //! A style is a sequence before a text and one after it. A plain style has neither, so that one function writes both
 //! kinds of report.
 
-ghost use Rattle.std.specs.Prelude.{◌≡◌, ◌++◌, [], true};
-ghost use Rattle.styled_text.specs.Names.{decimal, right_in, PartText, style_prefix, style_suffix, plain, styled, part_text, painted_part, painted, styles_of, list_styles_of, Puts};
+ghost use Rattle.std.specs.Prelude.{◌≡◌, true};
+ghost use Rattle.styled_text.specs.Names.{decimal, right_in, style_prefix, style_suffix, styled, styles_of, list_styles_of, Puts};
 
-use crate::numbers::{write_right, write_right_joined};
+use crate::numbers::write_right;
 use itoa::Buffer;
 use writers::write_str::{WriteFault, WriteStr};
 
@@ -72,20 +72,6 @@ impl Style {
         }
     }
 
-    /// A text in this style, as a part.
-    pub fn paint(self, text: &str) -> Part<'_>
-        ensures { painted_part result ≡ PartText.Styled self text.now }
-    {
-        Part::Styled(self, text)
-    }
-
-    /// A text right-aligned in the given number of columns, as a part. A column holds a character, and the padding is inside the style.
-    pub fn right(self, columns: usize, text: &str) -> Part<'_>
-        ensures { painted_part result ≡ PartText.Styled self (right_in columns text.now) }
-    {
-        Part::Right(self, columns, text)
-    }
-
     /// Writes a text in this style.
     #[tactic(auto, unfolding(crate::specs::Style::styled))]
     #[inline(always)]
@@ -138,108 +124,6 @@ impl Style {
         w.write_str(self.prefix())?;
         write_right(w, columns, text)?;
         w.write_str(self.suffix())
-    }
-
-    /// Writes three texts joined, in this style.
-    ///
-    /// ```
-    /// Style::Bold.write_joined(&mut out, "profile.", "ci", ".overrides")?;
-    /// assert_eq!(out.as_str(), "\x1b[1mprofile.ci.overrides\x1b[0m");
-    /// ```
-    #[tactic(auto, unfolding(crate::specs::Style::styled))]
-    pub fn write_joined<W: WriteStr>(
-        self,
-        w: &mut W,
-        first: &str,
-        second: &str,
-        third: &str,
-    ) -> Result<(), WriteFault>
-        ensures { Puts W.meaning w.old (styled self (first.now ++ (second.now ++ third.now))) result w.new }
-    {
-        w.write_str(self.prefix())?;
-        w.write_str(first)?;
-        w.write_str(second)?;
-        w.write_str(third)?;
-        w.write_str(self.suffix())
-    }
-
-    /// Writes four texts joined, right-aligned in the given number of columns.
-    ///
-    /// ```
-    /// Style::BoldRed.write_right_joined(&mut out, 12, "TRY ", "2", " ", "FAIL")?;
-    /// assert_eq!(out.as_str(), "\x1b[31;1m  TRY 2 FAIL\x1b[0m");
-    /// ```
-    #[tactic(auto, unfolding(crate::specs::Style::styled))]
-    pub fn write_right_joined<W: WriteStr>(
-        self,
-        w: &mut W,
-        columns: usize,
-        first: &str,
-        second: &str,
-        third: &str,
-        fourth: &str,
-    ) -> Result<(), WriteFault>
-        ensures { Puts W.meaning w.old (styled self (right_in columns (first.now ++ (second.now ++ (third.now ++ fourth.now))))) result w.new }
-    {
-        if self == Style::Plain {
-            return write_right_joined(w, columns, first, second, third, fourth);
-        }
-        w.write_str(self.prefix())?;
-        write_right_joined(w, columns, first, second, third, fourth)?;
-        w.write_str(self.suffix())
-    }
-}
-
-/// A stretch of a text.
-#[derive(Clone, Copy)]
-pub enum Part<'a> {
-    /// A text as it is.
-    Plain(&'a str),
-    /// A text in a style.
-    Styled(Style, &'a str),
-    /// A text right-aligned in the given number of columns, one for each character, the padding inside the style.
-    Right(Style, usize, &'a str),
-}
-
-/// A text as it is, as a part.
-pub fn plain(text: &str) -> Part<'_>
-    ensures { painted_part result ≡ PartText.Plain text.now }
-{
-    Part::Plain(text)
-}
-
-/// Writes a text as it is.
-#[tactic(auto, unfolding(crate::specs::Style::plain))]
-pub fn write_plain<W: WriteStr>(w: &mut W, text: &str) -> Result<(), WriteFault>
-    ensures { Puts W.meaning w.old (plain text.now) result w.new }
-{
-    w.write_str(text)
-}
-
-/// Writes the parts in sequence.
-///
-/// ```
-/// write_parts(&mut out, &[styles.pass.right(12, "Starting"), plain(" "), styles.count.paint("2")])?;
-/// assert_eq!(out.as_str(), "    Starting 2");
-/// ```
-pub fn write_parts<W: WriteStr>(w: &mut W, parts: &[Part<'_>]) -> Result<(), WriteFault>
-    ensures { Puts W.meaning w.old (painted parts.now) result w.new }
-{
-    for part in parts {
-        write_part(w, *part)?;
-    }
-    Ok(())
-}
-
-/// Writes a part.
-#[tactic(auto, unfolding(crate::specs::Style::plain))]
-pub fn write_part<W: WriteStr>(w: &mut W, part: Part<'_>) -> Result<(), WriteFault>
-    ensures { Puts W.meaning w.old (part_text (painted_part part.entry)) result w.new }
-{
-    match part {
-        Part::Plain(text) => w.write_str(text),
-        Part::Styled(style, text) => style.write(w, text),
-        Part::Right(style, columns, text) => style.write_right(w, columns, text),
     }
 }
 

@@ -4,7 +4,7 @@ ghost use Rattle.std.specs.Prelude.{◌≡◌, ◌++◌, true, false};
 ghost use Rattle.styled_text.specs.Names.{decimal, indent, seconds, plain, styled, right_in, Puts};
 
 use crate::indenter::indented;
-use crate::numbers::write_seconds;
+use crate::numbers::{columns_left, write_seconds, write_spaces};
 use crate::style::Style;
 use writers::text::WriteText;
 use writers::write_str::{WriteFault, WriteStr};
@@ -59,6 +59,35 @@ impl WriteText for Right<'_> {
 
     fn write_to<W: WriteStr>(&self, w: &mut W) -> Result<(), WriteFault> {
         self.1.write_right(w, self.0, self.2)
+    }
+}
+
+/// Four texts joined, right-aligned in the given number of columns, one for each character.
+///
+/// ```
+/// RightJoined(12, "TRY ", "2", " ", "FAIL").write_to(&mut out)?;
+/// assert_eq!(out.as_str(), "  TRY 2 FAIL");
+/// ```
+#[derive(Clone, Copy)]
+pub struct RightJoined<'a>(
+    pub usize,
+    pub &'a str,
+    pub &'a str,
+    pub &'a str,
+    pub &'a str,
+);
+
+impl WriteText for RightJoined<'_> {
+    ghost text = { λ r. right_in r.0 (r.1.now ++ (r.2.now ++ (r.3.now ++ r.4.now))) };
+
+    #[tactic(auto, unfolding(crate::specs::Texts::right_in))]
+    fn write_to<W: WriteStr>(&self, w: &mut W) -> Result<(), WriteFault> {
+        let RightJoined(columns, first, second, third, fourth) = *self;
+        write_spaces(w, columns_left(columns, first, second, third, fourth))?;
+        w.write_str(first)?;
+        w.write_str(second)?;
+        w.write_str(third)?;
+        w.write_str(fourth)
     }
 }
 

@@ -5,6 +5,7 @@ ghost use Rattle.test_text.specs.StatusLine.{attempt_words};
 
 use itoa::Buffer;
 use styled_text::style::Style;
+use styled_text::text::{Painted, RightJoined};
 use writers::text::WriteText;
 use writers::write_str::{WriteFault, WriteStr};
 
@@ -18,7 +19,6 @@ impl WriteText for Try<'_> {
     fn write_to<W: WriteStr>(&self, w: &mut W) -> Result<(), WriteFault> {
         let mut number = Buffer::new();
         let number = number.format(self.1);
-        self.0
-            .write_right_joined(w, 12, "TRY ", number, " ", self.2)
+        Painted(self.0, RightJoined(12, "TRY ", number, " ", self.2)).write_to(w)
     }
 }

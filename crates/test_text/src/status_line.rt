@@ -7,6 +7,7 @@ ghost use Rattle.text_parts.specs.ResultWords.{long_failure_word, long_word};
 ghost use Rattle.report_words.specs.Parts.{paint, style_of};
 ghost use Rattle.test_text.specs.StatusLine.{is_final_line, shown_summary, flaky_tone, flaky_words, failure_words, success_text, is_flaky_failure, status_prefix, flaky_note, flaky_failure_line, status_line};
 
+use crate::attempt::Try;
 use itoa::Buffer;
 use run_model::output::OutputSpec;
 use run_model::status::{
@@ -14,7 +15,8 @@ use run_model::status::{
     StatusCase, StatusSummary,
 };
 use run_model::time::Nanos;
-use styled_text::style::{Style, Styles, write_plain};
+use styled_text::style::{Style, Styles};
+use styled_text::text::{Painted, RightJoined, Toned};
 use text_parts::abort_line::write_abort_line;
 use text_parts::instance::{CountedInstance, write_instance};
 use text_parts::result_words::{
@@ -117,7 +119,7 @@ fn write_line<W: WriteStr>(
     write_status_prefix(w, styles, kind, line)?;
     DisplayBracketedDuration(line.time_taken).write_to(w)?;
     write_instance(w, styles, test)?;
-    write_plain(w, "\n")?;
+    "\n".write_to(w)?;
     write_abort_line(w, styles, line.result)?;
     write_flaky_failure_line(w, styles, kind, line.case)
 }
@@ -137,7 +139,7 @@ fn write_status_prefix<W: WriteStr>(
         }
         StatusCase::Flaky { result } => {
             write_flaky_word(w, styles, kind, result, line.retry_data)?;
-            write_plain(w, " ")
+            " ".write_to(w)
         }
         StatusCase::Failure => {
             write_failure_word(w, styles, line.retry_data.attempt, line.result)
@@ -165,7 +167,7 @@ fn write_success_word<W: WriteStr>(
             } else {
                 styles.skip.write_right(w, 12, word)?;
             }
-            write_plain(w, " ")
+            " ".write_to(w)
         }
     }
 }
@@ -186,7 +188,7 @@ fn write_word<W: WriteStr>(
         return w.write_str(spaced_word);
     }
     style.write(w, word)?;
-    write_plain(w, " ")
+    " ".write_to(w)
 }
 
 fn write_flaky_word<W: WriteStr>(
@@ -198,25 +200,19 @@ fn write_flaky_word<W: WriteStr>(
 ) -> Result<(), WriteFault>
     ensures { Puts W.meaning w.old (styled (style_of styles.now (flaky_tone flaky_result)) (right_in 12 (flaky_words kind flaky_result retry_data))) result w.new }
 {
-    let mut attempt = Buffer::new();
-    let mut total = Buffer::new();
     let (style, label) = match flaky_result {
         FlakyResult::Pass => (styles.skip, "FLAKY "),
         FlakyResult::Fail => (styles.fail, "FLKY-FL "),
     };
-    let attempt = attempt.format(retry_data.attempt);
     match kind {
-        StatusLineKind::Intermediate => {
-            style.write_right_joined(w, 12, "TRY ", attempt, " ", "PASS")
+        StatusLineKind::Intermediate => Try(style, retry_data.attempt, "PASS").write_to(w),
+        StatusLineKind::Final => {
+            let mut attempt = Buffer::new();
+            let mut total = Buffer::new();
+            let attempt = attempt.format(retry_data.attempt);
+            let total = total.format(retry_data.total_attempts);
+            Painted(style, RightJoined(12, label, attempt, "/", total)).write_to(w)
         }
-        StatusLineKind::Final => style.write_right_joined(
-            w,
-            12,
-            label,
-            attempt,
-            "/",
-            total.format(retry_data.total_attempts),
-        ),
     }
 }
 
@@ -232,7 +228,7 @@ fn write_failure_word<W: WriteStr>(
         return write_word(w, styles.fail, "        FAIL", "        FAIL ");
     }
     write_other_failure(w, styles, attempt, failed)?;
-    write_plain(w, " ")
+    " ".write_to(w)
 }
 
 // Whether the word is plain `FAIL`, which is a constant.
@@ -272,13 +268,13 @@ fn write_other_failure<W: WriteStr>(
     let mut signal = Buffer::new();
     if attempt == 1 {
         let word = status_str(failed, &mut signal);
-        return styles
-            .fail
-            .write_right_joined(w, 12, "", "", word.front, word.back);
+        return Painted(styles.fail, RightJoined(12, "", "", word.front, word.back)).write_to(w);
     }
     let word = spaced_short_status_str(failed, &mut signal);
     let mut number = Buffer::new();
-    styles.fail.write_right_joined(w, 12, "TRY ", number.format(attempt), word.front, word.back)
+    let number = number.format(attempt);
+    let words = RightJoined(12, "TRY ", number, word.front, word.back);
+    Painted(styles.fail, words).write_to(w)
 }
 
 #[tactic(auto, unfolding(crate::specs::StatusLine::flaky_failure_line))]
@@ -307,9 +303,8 @@ fn write_flaky_failure_line<W: WriteStr>(
 fn write_flaky_note<W: WriteStr>(w: &mut W, styles: &Styles) -> Result<(), WriteFault>
     ensures { Puts W.meaning w.old (paint styles.now flaky_note) result w.new }
 {
-    write_plain(w, "           - test configured to ")?;
-    styles.fail.write(w, "fail")?;
-    write_plain(w, " if flaky\n")
+    let configured = "           - test configured to ";
+    (configured, Toned(styles.fail, "fail"), " if flaky\n").write_to(w)
 }
 
 // Whether a success counts as a failure because it came after earlier attempts.

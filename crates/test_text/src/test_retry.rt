@@ -17,6 +17,7 @@ use run_model::status::{ExecuteStatus, ExecutionResultDescription, RetryData};
 use run_model::stress::StressIndex;
 use run_model::time::Nanos;
 use styled_text::style::Style;
+use styled_text::text::{Painted, RightJoined};
 use text_parts::attempt_output::write_test_execute_status;
 use text_parts::instance::InstanceEnd;
 use text_parts::result_words::spaced_short_status_str;
@@ -83,7 +84,9 @@ impl WriteText for AttemptWord<'_> {
         let mut signal = Buffer::new();
         let word = spaced_short_status_str(failed, &mut signal);
         let mut number = Buffer::new();
-        style.write_right_joined(w, 12, "TRY ", number.format(attempt), word.front, word.back)
+        let number = number.format(attempt);
+        let words = RightJoined(12, "TRY ", number, word.front, word.back);
+        Painted(style, words).write_to(w)
     }
 }
 
@@ -129,6 +132,6 @@ impl WriteText for DelayWord {
         let mut total = Buffer::new();
         let next = next.format(retry_data.attempt as u64 + 1);
         let total = total.format(retry_data.total_attempts);
-        style.write_right_joined(w, 12, "DELAY ", next, "/", total)
+        Painted(style, RightJoined(12, "DELAY ", next, "/", total)).write_to(w)
     }
 }

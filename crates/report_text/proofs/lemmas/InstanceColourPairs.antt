@@ -2,9 +2,9 @@
 use Rattle.std.proofs.Common.{◌≡◌, ℕ, ◌+◌, Bool, true, false, Option, None, Some, refl, encode_utf8}
 use Rattle.run_names.specs.Names.{last_colons}
 use Rattle.run_model.specs.Names.{TestInstanceId, StressIndex}
-use Rattle.styled_text.specs.Names.{Text, HasNoEscape, part_texts, list_styles_of}
+use Rattle.styled_text.specs.Names.{Text, HasNoEscape, list_styles_of}
 use Rattle.report_words.specs.Names.{Style, IsPlainInstance, IsColourPair}
-use Rattle.report_text.specs.Instance.{HasPlainCounter, test_name_text, stress_parts, stress_text, stress_prefix, counter_text, counter_prefix, test_text, script_text, instance_text}
+use Rattle.report_text.specs.Instance.{HasPlainCounter, test_name_text, numbered_iteration, stress_text, stress_prefix, counter_text, counter_prefix, test_text, script_text, instance_text}
 use Rattle.report_text.specs.declared.helpers.instance.DisplayCounterIndex.{DisplayCounterIndex}
 use Rattle.report_text.specs.declared.helpers.instance.DisplayCounterIndex.TheVariants.{Counter, Padded}
 use Rattle.styled_text.specs.declared.style.Style.TheVariants as style
@@ -23,7 +23,7 @@ colour_pair-stress_text : (k : Bool) (s : Style) (i : StressIndex) → IsColourP
 unfolding stress_text
 colour_pair-stress_text k s i = go i.total
   where
-    go : (total : _) → IsColourPair k (part_texts (stress_parts s (i.current + 1) total)) (part_texts (stress_parts style.Plain (i.current + 1) total))
+    go : (total : _) → IsColourPair k (numbered_iteration s (i.current + 1) total) (numbered_iteration style.Plain (i.current + 1) total)
     go None = search colour_pairs depth 12
     go (Some total) = search colour_pairs depth 12
 

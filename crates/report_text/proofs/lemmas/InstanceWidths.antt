@@ -1,60 +1,44 @@
 -- A test that is cut to a greatest width, whose words have no escape characters (for `write_within`).
-use Rattle.std.proofs.Common.{◌≡◌, ℕ, ◌+◌, [], ◌∷◌, ◌++◌, refl, sym, Option, None, Some, codes, length, take, drop, take-append-drop, encode_utf8, subst, arith, ◌-◌, ◌<◌, ◌^◌, true, false, Result}
-use Rattle.styled_text.specs.Names.{decimal, repeat, option_map, option_map_or, IsUtf8, non_zero_u32_get, NonZeroU32, Text, right_in, HasNoEscape, saturated, FitsWidth, IsPainted, ArePainted, columns}
-use Rattle.styled_text.specs.Names.{shrunk, shrunk_parts, Meaning, WriterLaws, Puts, WriteFault, Plain, Styled, part_texts}
+use Rattle.std.proofs.Common.{◌≡◌, ℕ, ◌+◌, [], ◌∷◌, ◌++◌, Option, None, Some, take, drop, encode_utf8, arith, ◌-◌, ◌<◌, ◌^◌, true, false, Result}
+use Rattle.styled_text.specs.Names.{option_map, option_map_or, IsUtf8, NonZeroU32, Text, HasNoEscape, saturated, FitsWidth, IsPainted, ArePainted, columns}
+use Rattle.styled_text.specs.Names.{shrunk, shrunk_parts, Meaning, WriterLaws, Puts, WriteFault}
 use Rattle.report_words.specs.Names.{Style, ListStyles}
 use Rattle.run_names.specs.Names.{last_colons}
 use Rattle.run_names.specs.declared.stress.StressIndex.{StressIndex}
 use Rattle.writers.proofs.lemmas.Steps.{puts_then}
-use Rattle.report_text.specs.Instance.{stress_parts, stress_text, stress_prefix, counter_text, counter_prefix, id_prefix, name_parts, test_name_text, HasPlainCounter, HasPlainWords}
-use Rattle.styled_text.proofs.lemmas.Closed.{IsClosedText, closed-append, closed-free, closed-none, paint_closed, decimal_free, right_free, char_free, repeat_free}
-use Rattle.styled_text.proofs.lemmas.Widths.{free_front, free_back, parts-columns, parts-sequences}
-use Rattle.styled_text.specs.declared.style.Style.TheVariants as style
+use Rattle.report_text.specs.Instance.{numbered_iteration, stress_text, stress_prefix, counter_text, counter_prefix, id_prefix, name_text, test_name_text, HasPlainCounter, HasPlainWords}
+use Rattle.styled_text.proofs.lemmas.Closed.{IsClosedText, closed-free, closed-none, closeds, char_free, repeat_free}
+use Rattle.styled_text.proofs.lemmas.Widths.{parts-columns, parts-sequences}
+use Rattle.report_words.proofs.lemmas.FreeWords.{free-take, free-drop}
 use Rattle.report_text.specs.declared.helpers.instance.DisplayCounterIndex.{DisplayCounterIndex}
 use Rattle.report_text.specs.declared.helpers.instance.DisplayCounterIndex.TheVariants.{Counter, Padded}
 
 stress_closed : (s : Style) (o : Option StressIndex) → IsClosedText (stress_prefix s o)
 unfolding stress_prefix stress_text
 stress_closed s None = closed-none
-stress_closed s (Some i) =
-    closed-append (part_texts (Plain (codes "[") ∷ [])) (part_texts (stress_parts s (i.current + 1) i.total) ++ part_texts (Plain (codes "] ") ∷ [])) (paint_closed (Plain (codes "[") ∷ []) (refl, tt))
-    (closed-append (part_texts (stress_parts s (i.current + 1) i.total)) (part_texts (Plain (codes "] ") ∷ [])) (numbers (i.current + 1) i.total) (paint_closed (Plain (codes "] ") ∷ []) (refl, tt)))
+stress_closed s (Some i) = let inside = go i.total in search closeds depth 12
   where
-    numbers : (n : ℕ) (o : Option NonZeroU32) → IsClosedText (part_texts (stress_parts s n o))
-    numbers n None = paint_closed (stress_parts s n None) (decimal_free n, tt)
-    numbers n (Some total) = paint_closed (stress_parts s n (Some total)) (right_free (length (decimal (non_zero_u32_get total))) (decimal n) (decimal_free n), (refl, (decimal_free (non_zero_u32_get total), tt)))
+    go : (o : Option NonZeroU32) → IsClosedText (numbered_iteration s (i.current + 1) o)
+    go None = search closeds depth 12
+    go (Some total) = search closeds depth 12
 
 counter_closed : (o : Option DisplayCounterIndex) → HasPlainCounter o → IsClosedText (counter_prefix o)
 unfolding counter_prefix counter_text
 counter_closed None h = closed-none
-counter_closed (Some (Counter current total)) h =
-    closed-append (counter_text (Counter current total)) (part_texts (Plain (codes " ") ∷ [])) (paint_closed (Plain (codes "(") ∷ Styled style.Plain (right_in (length (decimal total)) (decimal current)) ∷ Plain (codes "/") ∷ Plain (decimal total) ∷ Plain (codes ")") ∷ []) (refl, (right_free (length (decimal total)) (decimal current) (decimal_free current), (refl, (decimal_free total, (refl, tt)))))) (paint_closed (Plain (codes " ") ∷ []) (refl, tt))
+counter_closed (Some (Counter current total)) h = search closeds depth 12
 counter_closed (Some (Padded character width)) h =
-    let one = closed-free (encode_utf8 character) (char_free character h) in
-    let line = closed-free (repeat width (encode_utf8 character)) (repeat_free width (encode_utf8 character) (char_free character h)) in
-    let end = paint_closed (Plain (codes ")") ∷ []) (refl, tt) in
-    closed-append (counter_text (Padded character width)) (part_texts (Plain (codes " ") ∷ []))
-    (closed-append (part_texts (Plain (codes "(") ∷ [])) (repeat width (encode_utf8 character) ++ (repeat width (encode_utf8 character) ++ (encode_utf8 character ++ part_texts (Plain (codes ")") ∷ [])))) (paint_closed (Plain (codes "(") ∷ []) (refl, tt))
-    (closed-append (repeat width (encode_utf8 character)) (repeat width (encode_utf8 character) ++ (encode_utf8 character ++ part_texts (Plain (codes ")") ∷ []))) line
-    (closed-append (repeat width (encode_utf8 character)) (encode_utf8 character ++ part_texts (Plain (codes ")") ∷ [])) line (closed-append (encode_utf8 character) (part_texts (Plain (codes ")") ∷ [])) one end))))
-    (paint_closed (Plain (codes " ") ∷ []) (refl, tt))
+    let one = char_free character h in let many = repeat_free width (encode_utf8 character) one in search (closeds, closed-free) depth 12
 
 id_closed : (s : Style) (id : Text) → HasNoEscape id → IsClosedText (id_prefix s id)
-id_closed s id h = paint_closed (Styled s id ∷ Plain (codes " ") ∷ []) (h, (refl, tt))
+id_closed s id h = search closeds depth 12
 
 name_closed : (s : ListStyles) (name : Text) → HasNoEscape name → IsClosedText (test_name_text s name)
 unfolding test_name_text
 name_closed s name h = go (last_colons name)
   where
-    front : (i : ℕ) → HasNoEscape (take i name)
-    front i = free_front (take i name) (drop i name) (subst HasNoEscape (sym (take-append-drop i name)) h)
-
-    back : (i : ℕ) → HasNoEscape (drop i name)
-    back i = free_back (take i name) (drop i name) (subst HasNoEscape (sym (take-append-drop i name)) h)
-
-    go : (o : Option ℕ) → IsClosedText (part_texts (name_parts s (option_map (λ i. take i name) o) (option_map_or (λ i. drop (i + 2) name) o name)))
-    go None = paint_closed (Styled s.test_name name ∷ []) (h, tt)
-    go (Some i) = paint_closed (name_parts s (Some (take i name)) (drop (i + 2) name)) (front i, (refl, (back (i + 2), tt)))
+    go : (o : Option ℕ) → IsClosedText (name_text s (option_map (λ i. take i name) o) (option_map_or (λ i. drop (i + 2) name) o name))
+    go None = search closeds depth 12
+    go (Some i) = search (closeds, free-take, free-drop) depth 12
 
 -- such a test is within its width
 pub fits_width : (width : ℕ) (count_style id_style : Style) (s : ListStyles) (stress : Option StressIndex) (counter : Option DisplayCounterIndex) (id name : Text)

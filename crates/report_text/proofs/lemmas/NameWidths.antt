@@ -1,11 +1,10 @@
 -- How wide a test's name can be (for `DisplayTestInstance::write_within`).
 use Rattle.std.proofs.Common.{ℕ, zero, suc, ◌+◌, ◌*◌, ◌<◌, ◌≤◌, ◌^◌, [], ◌∷◌, ◌++◌, arith, length, length-append, length-take, length-drop, Option, None, Some, take, drop, codes, ◌-◌, ◌==◌, inl, inr}
 use Rattle.std.proofs.lemmas.Bool.{cases_Bool}
-use Rattle.styled_text.specs.Names.{chars, chars_after, continuation_len, lead_bits, option_map, option_map_or, Text, visible, visible_after, sequence_len, columns, part_text, styled, style_prefix}
-use Rattle.styled_text.specs.Names.{style_suffix, Styled, part_texts}
+use Rattle.styled_text.specs.Names.{chars, chars_after, continuation_len, lead_bits, option_map, option_map_or, Text, visible, visible_after, sequence_len, columns, styled, style_prefix, style_suffix}
 use Rattle.report_words.specs.Names.{Style, ListStyles}
 use Rattle.run_names.specs.Names.{last_colons}
-use Rattle.report_text.specs.Instance.{name_parts, test_name_text}
+use Rattle.report_text.specs.Instance.{name_text, test_name_text}
 use Rattle.styled_text.specs.declared.style.Style.TheVariants as style
 use Rattle.styled_text.proofs.lemmas.Fits.{columns_of-le}
 
@@ -30,7 +29,7 @@ style-le style.BoldMagenta = (omega arith, omega arith)
 style-le style.Cyan = (omega arith, omega arith)
 style-le style.BrightBlack = (omega arith, omega arith)
 
-styled-le : (s : Style) (t : Text) → length (part_text (Styled s t)) ≤ length t + 11
+styled-le : (s : Style) (t : Text) → length (styled s t) ≤ length t + 11
 unfolding styled
 styled-le s t = omega (arith, style-le s, length-append (style_prefix s) (t ++ style_suffix s), length-append t (style_suffix s))
 
@@ -49,12 +48,11 @@ chars-le (b ∷ bs) = omega (arith, chars_after-le (continuation_len b) (lead_bi
 columns-le : (t : Text) → columns t ≤ 3 * length t
 columns-le t = omega (arith, columns_of-le (chars (visible t)), chars-le (visible t), visible_after-le 0 t)
 
-paint-le : (s r : Style) (path last : Text) (n : ℕ) → length path ≤ n → length last ≤ n → length (part_texts (Styled s path ∷ Styled s (codes "::") ∷ Styled r last ∷ [])) ≤ 2 * n + 35
-paint-le s r path last n h k = omega (
+path-le : (s r : Style) (path last : Text) (n : ℕ) → length path ≤ n → length last ≤ n → length (styled s path ++ (styled s (codes "::") ++ styled r last)) ≤ 2 * n + 35
+path-le s r path last n h k = omega (
   arith,
-  length-append (part_text (Styled s path)) (part_text (Styled s (codes "::")) ++ (part_text (Styled r last) ++ [])),
-  length-append (part_text (Styled s (codes "::"))) (part_text (Styled r last) ++ []),
-  length-append (part_text (Styled r last)) [],
+  length-append (styled s path) (styled s (codes "::") ++ styled r last),
+  length-append (styled s (codes "::")) (styled r last),
   styled-le s path,
   styled-le s (codes "::"),
   styled-le r last,
@@ -64,9 +62,9 @@ name-le : (s : ListStyles) (name : Text) → length (test_name_text s name) ≤ 
 unfolding test_name_text
 name-le s name = go (last_colons name)
   where
-    go : (o : Option ℕ) → length (part_texts (name_parts s (option_map (λ i. take i name) o) (option_map_or (λ i. drop (i + 2) name) o name))) ≤ 2 * length name + 35
-    go None = omega (arith, length-append (part_text (Styled s.test_name name)) [], styled-le s.test_name name)
-    go (Some i) = paint-le s.module_path s.test_name (take i name) (drop (i + 2) name) (length name) (omega (arith, length-take i name)) (omega (arith, length-drop (i + 2) name))
+    go : (o : Option ℕ) → length (name_text s (option_map (λ i. take i name) o) (option_map_or (λ i. drop (i + 2) name) o name)) ≤ 2 * length name + 35
+    go None = omega (arith, styled-le s.test_name name)
+    go (Some i) = path-le s.module_path s.test_name (take i name) (drop (i + 2) name) (length name) (omega (arith, length-take i name)) (omega (arith, length-drop (i + 2) name))
 
 -- a name in memory is not that wide
 pub name_columns : (s : ListStyles) (name : Text) → length name < 2 ^ 64 → columns (test_name_text s name) < 2 ^ 127

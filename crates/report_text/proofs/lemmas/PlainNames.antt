@@ -1,11 +1,11 @@
 -- A name without colours is the name as it is (for `write_test_name`).
 use Rattle.std.proofs.Common.{◌≡◌, ℕ, zero, suc, ◌+◌, Bool, true, false, [], ◌∷◌, ◌++◌, Option, None, Some, take, drop, codes, refl, ap, arith, append-nil, inl, inr}
-use Rattle.styled_text.specs.Names.{option_map, option_map_or, part_texts, styled, Text}
+use Rattle.styled_text.specs.Names.{option_map, option_map_or, styled, Text}
 use Rattle.styled_text.specs.declared.style.ListStyles.{ListStyles}
 use Rattle.std.proofs.lemmas.Bool.Decides.{eqb_tells}
 use Rattle.run_names.specs.Names.{begins_with_colons, last_colons, place_after}
 use Rattle.styled_text.specs.declared.style.Style.TheVariants as style
-use Rattle.report_text.specs.Instance.{name_parts, test_name_text}
+use Rattle.report_text.specs.Instance.{name_text, test_name_text}
 
 -- the first two bytes of a text that begins with colons
 two_colons : (t : Text) → begins_with_colons t ≡ true → codes "::" ++ drop 2 t ≡ t
@@ -39,7 +39,7 @@ rejoined [] i h = cc
 rejoined (c ∷ t) i h = rejoined_after c t (begins_with_colons (c ∷ t)) (last_colons t) refl (rejoined t) i h
 
 joined_parts : (s : ListStyles) (name : Text) (o : Option ℕ) → s.module_path ≡ style.Plain → s.test_name ≡ style.Plain → last_colons name ≡ o
-    → part_texts (name_parts s (option_map (λ i. take i name) o) (option_map_or (λ i. drop (i + 2) name) o name)) ≡ name
+    → name_text s (option_map (λ i. take i name) o) (option_map_or (λ i. drop (i + 2) name) o name) ≡ name
 unfolding styled
 joined_parts s name None p q o = rw q (simp append-nil)
 joined_parts s name (Some i) p q o = simp (p, q, append-nil) (rejoined name i o)

@@ -1,7 +1,6 @@
 //! How a process ended, in words.
 
 ghost use Rattle.std.specs.Prelude.{◌≡◌, ◌<◌, ◌∷◌, [], IfOk, string_bytes};
-ghost use Rattle.run_names.specs.Names.{optional_text};
 ghost use Rattle.report_text.specs.Failure.{abort_details, abort_text, abort_words, exit_details, exit_text, exit_words, hex_digit, last_hex_digits, message_text, nt_status_text, signal_name_text};
 ghost use Rattle.writers.specs.Writer.{Puts};
 
@@ -9,7 +8,7 @@ use itoa::Buffer;
 use run_model::abort::{AbortDescription, DescriptionText};
 use run_model::memory::OutOfMemory;
 use std::alloc::Global;
-use styled_text::style::{plain, write_parts, write_plain};
+use writers::text::WriteText;
 use writers::write_str::{WriteFault, WriteStr};
 
 /// How a process ended.
@@ -48,7 +47,7 @@ pub fn display_exited_with(alloc: Global, exit: &ExitDescription) -> Result<Stri
 pub fn write_exited_with<W: WriteStr>(w: &mut W, exit: &ExitDescription) -> Result<(), WriteFault>
     ensures { Puts W.meaning w.old (exit_text exit.now) result w.new }
 {
-    write_plain(w, exit_words(exit))?;
+    exit_words(exit).write_to(w)?;
     write_exit_details(w, exit)
 }
 
@@ -68,10 +67,7 @@ fn write_exit_details<W: WriteStr>(w: &mut W, exit: &ExitDescription) -> Result<
     ensures { Puts W.meaning w.old (exit_details exit.now) result w.new }
 {
     match exit {
-        ExitDescription::Code(code) => {
-            let mut buffer = Buffer::new();
-            write_plain(w, buffer.format(*code))
-        }
+        ExitDescription::Code(code) => Buffer::new().format(*code).write_to(w),
         ExitDescription::Abort(abort) => write_abort_status(w, abort),
         ExitDescription::Unknown => Ok(()),
     }
@@ -107,7 +103,7 @@ pub fn write_abort_status<W: WriteStr>(
 ) -> Result<(), WriteFault>
     ensures { Puts W.meaning w.old (abort_text abort.now) result w.new }
 {
-    write_plain(w, abort_words(abort))?;
+    abort_words(abort).write_to(w)?;
     write_abort_details(w, abort)
 }
 
@@ -128,44 +124,40 @@ fn write_abort_details<W: WriteStr>(w: &mut W, abort: &AbortDescription) -> Resu
 {
     match abort {
         AbortDescription::UnixSignal { signal, name } => {
-            let mut buffer = Buffer::new();
-            write_plain(w, buffer.format(*signal))?;
-            write_signal_name(w, text_of(name))
+            Buffer::new().format(*signal).write_to(w)?;
+            write_signal_name(w, name)
         }
         AbortDescription::WindowsNtStatus { code, message } => {
             write_nt_status(w, *code)?;
-            write_message(w, text_of(message))
+            write_message(w, message)
         }
         AbortDescription::WindowsJobObject => Ok(()),
     }
 }
 
-fn text_of(text: &Option<DescriptionText>) -> Option<&str>
-    ensures { optional_text result ≡ text.now }
-{
-    match text {
-        None => None,
-        Some(text) => Some(text.as_str()),
-    }
-}
-
 #[tactic(auto, unfolding(crate::specs::Failure::signal_name_text))]
-fn write_signal_name<W: WriteStr>(w: &mut W, name: Option<&str>) -> Result<(), WriteFault>
-    ensures { Puts W.meaning w.old (signal_name_text (optional_text name.entry)) result w.new }
+fn write_signal_name<W: WriteStr>(
+    w: &mut W,
+    name: &Option<DescriptionText>,
+) -> Result<(), WriteFault>
+    ensures { Puts W.meaning w.old (signal_name_text name.now) result w.new }
 {
     match name {
         None => Ok(()),
-        Some(name) => write_parts(w, &[plain(" (SIG"), plain(name), plain(")")]),
+        Some(name) => (" (SIG", name.as_str(), ")").write_to(w),
     }
 }
 
 #[tactic(auto, unfolding(crate::specs::Failure::message_text))]
-fn write_message<W: WriteStr>(w: &mut W, message: Option<&str>) -> Result<(), WriteFault>
-    ensures { Puts W.meaning w.old (message_text (optional_text message.entry)) result w.new }
+fn write_message<W: WriteStr>(
+    w: &mut W,
+    message: &Option<DescriptionText>,
+) -> Result<(), WriteFault>
+    ensures { Puts W.meaning w.old (message_text message.now) result w.new }
 {
     match message {
         None => Ok(()),
-        Some(message) => write_parts(w, &[plain(": "), plain(message)]),
+        Some(message) => (": ", message.as_str()).write_to(w),
     }
 }
 
@@ -179,7 +171,7 @@ fn write_message<W: WriteStr>(w: &mut W, message: Option<&str>) -> Result<(), Wr
 pub fn write_nt_status<W: WriteStr>(w: &mut W, code: i32) -> Result<(), WriteFault>
     ensures { Puts W.meaning w.old (nt_status_text code) result w.new }
 {
-    write_plain(w, "0x")?;
+    "0x".write_to(w)?;
     write_hex_digits(w, 8, code.cast_unsigned())
 }
 

@@ -4,15 +4,17 @@ ghost use Rattle.std.specs.Prelude.{◌≡◌, ℕ, None, Some};
 ghost use Rattle.styled_text.specs.Names.{DisplaysOnOk, DisplaysStyledOnOk, FitsWidth, Puts};
 ghost use Rattle.report_text.specs.Instance.{HasPlainWords, counter_prefix, counter_text, front_parts, id_prefix, instance_text, test_name_text, shown_instance, stress_prefix, stress_text};
 
-use crate::helpers::max_width::{CounterPart, IdPart, StressPart, write_within};
+use crate::helpers::max_width::write_within;
 use itoa::Buffer;
-use run_model::name::{TestCaseName, TestInstanceId};
+use run_model::name::{RustBinaryId, TestCaseName, TestInstanceId};
 use run_model::stress::StressIndex;
 use std::fmt;
 use std::fmt::Formatter;
 use styled_text::repeated::write_repeated;
-use styled_text::style::{ListStyles, Style, plain, write_parts, write_plain};
+use styled_text::style::{ListStyles, Style};
+use styled_text::text::{Right, Toned};
 use writers::show_written;
+use writers::text::WriteText;
 use writers::write_str::{WriteFault, WriteStr};
 
 /// A test as a report shows it: its iteration of a stress run and its counter, where there are any, its binary's id and
@@ -68,32 +70,13 @@ impl<'a> DisplayTestInstance<'a> {
         self
     }
 
-    /// Writes the test.
-    pub fn write_to<W: WriteStr>(&self, w: &mut W) -> Result<(), WriteFault>
-        ensures text { Puts W.meaning w.old (shown_instance self.now.max_width self.now.styles self.now.stress_index self.now.counter_index self.now.instance) result w.new }
-        ensures law { (width : ℕ) → self.now.max_width ≡ Some width → HasPlainWords self.now.counter_index self.now.instance.binary_id.now self.now.instance.test_name.now → FitsWidth width (front_parts self.now.styles self.now.stress_index self.now.counter_index self.now.instance.binary_id.now) (test_name_text self.now.styles self.now.instance.test_name.now) }
-    {
-        match self.max_width {
-            None => self.write_whole(w),
-            Some(width) => self.write_within(w, width),
-        }
-    }
-
     fn write_within<W: WriteStr>(&self, w: &mut W, width: usize) -> Result<(), WriteFault>
         ensures text { Puts W.meaning w.old (shown_instance (Some width) self.now.styles self.now.stress_index self.now.counter_index self.now.instance) result w.new }
         ensures law { HasPlainWords self.now.counter_index self.now.instance.binary_id.now self.now.instance.test_name.now → FitsWidth width (front_parts self.now.styles self.now.stress_index self.now.counter_index self.now.instance.binary_id.now) (test_name_text self.now.styles self.now.instance.test_name.now) }
     {
-        let stress = StressPart {
-            count_style: self.styles.count,
-            stress_index: self.stress_index,
-        };
-        let counter = CounterPart {
-            counter_index: self.counter_index,
-        };
-        let id = IdPart {
-            id_style: self.styles.binary_id,
-            binary_id: self.instance.binary_id.as_str(),
-        };
+        let stress = StressPart(&self.styles.count, &self.stress_index);
+        let counter = CounterPart(&self.counter_index);
+        let id = IdPart(&self.styles.binary_id, self.instance.binary_id);
         let name = DisplayTestName::new(self.instance.test_name, &self.styles);
         // The name fits in memory, so its columns are far from the greatest number.
         let _bytes = self.instance.test_name.as_str().len();
@@ -110,6 +93,20 @@ impl<'a> DisplayTestInstance<'a> {
             &self.counter_index,
             self.instance,
         )
+    }
+}
+
+impl WriteText for DisplayTestInstance<'_> {
+    ghost text = { λ t. shown_instance t.max_width t.styles t.stress_index t.counter_index t.instance };
+
+    fn write_to<W: WriteStr>(&self, w: &mut W) -> Result<(), WriteFault>
+        ensures text { Puts W.meaning w.old (shown_instance self.now.max_width self.now.styles self.now.stress_index self.now.counter_index self.now.instance) result w.new }
+        ensures law { (width : ℕ) → self.now.max_width ≡ Some width → HasPlainWords self.now.counter_index self.now.instance.binary_id.now self.now.instance.test_name.now → FitsWidth width (front_parts self.now.styles self.now.stress_index self.now.counter_index self.now.instance.binary_id.now) (test_name_text self.now.styles self.now.instance.test_name.now) }
+    {
+        match self.max_width {
+            None => self.write_whole(w),
+            Some(width) => self.write_within(w, width),
+        }
     }
 }
 
@@ -131,9 +128,9 @@ pub fn write_test_instance<W: WriteStr>(
 ) -> Result<(), WriteFault>
     ensures { Puts W.meaning w.old (instance_text styles.now stress_index.now counter_index.now instance.entry) result w.new }
 {
-    write_stress_prefix(w, styles.count, *stress_index)?;
-    write_counter_prefix(w, counter_index)?;
-    write_id_prefix(w, styles.binary_id, instance.binary_id.as_str())?;
+    StressPart(&styles.count, stress_index).write_to(w)?;
+    CounterPart(counter_index).write_to(w)?;
+    IdPart(&styles.binary_id, instance.binary_id).write_to(w)?;
     write_test_name(instance.test_name, styles, w)
 }
 
@@ -167,27 +164,20 @@ pub struct DisplayStressIndex {
     pub count_style: Style,
 }
 
-impl DisplayStressIndex {
-    /// Writes the iteration.
+impl WriteText for DisplayStressIndex {
+    ghost text = { λ t. stress_text t.count_style t.stress_index };
+
     #[tactic(auto, unfolding(crate::specs::Instance::stress_text))]
-    pub fn write_to<W: WriteStr>(&self, w: &mut W) -> Result<(), WriteFault>
-        ensures { Puts W.meaning w.old (stress_text self.now.count_style self.now.stress_index) result w.new }
-    {
+    fn write_to<W: WriteStr>(&self, w: &mut W) -> Result<(), WriteFault> {
+        let style = self.count_style;
         let mut current = Buffer::new();
         let number = current.format(self.stress_index.current as u64 + 1);
         match self.stress_index.total {
-            None => write_parts(w, &[self.count_style.paint(number)]),
+            None => style.write(w, number),
             Some(total) => {
                 let mut buffer = Buffer::new();
                 let total = buffer.format(total.get());
-                write_parts(
-                    w,
-                    &[
-                        self.count_style.right(total.len(), number),
-                        plain("/"),
-                        self.count_style.paint(total),
-                    ],
-                )
+                (Right(total.len(), style, number), "/", Toned(style, total)).write_to(w)
             }
         }
     }
@@ -201,19 +191,20 @@ impl fmt::Display for DisplayStressIndex {
     }
 }
 
-/// Writes the iteration between brackets and a space, if there is one.
-#[tactic(auto, unfolding(crate::specs::Instance::stress_prefix))]
-#[inline(always)]
-pub fn write_stress_prefix<W: WriteStr>(
-    w: &mut W,
-    count_style: Style,
-    stress_index: Option<StressIndex>,
-) -> Result<(), WriteFault>
-    ensures { Puts W.meaning w.old (stress_prefix count_style stress_index) result w.new }
-{
-    match stress_index {
-        None => Ok(()),
-        Some(stress_index) => write_iteration(w, count_style, stress_index),
+/// The iteration of a stress run between brackets and a space, if there is one, and the style of its numbers.
+#[derive(Clone, Copy)]
+pub(super) struct StressPart<'a>(pub(super) &'a Style, pub(super) &'a Option<StressIndex>);
+
+impl WriteText for StressPart<'_> {
+    ghost text = { λ p. stress_prefix p.0.now p.1.now };
+
+    #[tactic(auto, unfolding(crate::specs::Instance::stress_prefix))]
+    #[inline(always)]
+    fn write_to<W: WriteStr>(&self, w: &mut W) -> Result<(), WriteFault> {
+        match *self.1 {
+            None => Ok(()),
+            Some(stress_index) => write_iteration(w, *self.0, stress_index),
+        }
     }
 }
 
@@ -225,25 +216,31 @@ fn write_iteration<W: WriteStr>(
 ) -> Result<(), WriteFault>
     ensures { Puts W.meaning w.old (stress_prefix count_style (Some stress_index)) result w.new }
 {
-    write_parts(w, &[plain("[")])?;
-    DisplayStressIndex {
+    let iteration = DisplayStressIndex {
         stress_index,
         count_style,
-    }
-    .write_to(w)?;
-    write_parts(w, &[plain("] ")])
+    };
+    ("[", iteration, "] ").write_to(w)
 }
 
-/// Writes a binary's id and a space.
-pub(super) fn write_id_prefix<W: WriteStr>(
-    w: &mut W,
-    id_style: Style,
-    binary_id: &str,
-) -> Result<(), WriteFault>
-    ensures { Puts W.meaning w.old (id_prefix id_style binary_id.now) result w.new }
+/// A binary's id and a space, and the style of the id.
+#[derive(Clone, Copy)]
+pub(super) struct IdPart<'a>(pub(super) &'a Style, pub(super) &'a RustBinaryId);
+
+impl WriteText for IdPart<'_> {
+    ghost text = { λ p. id_prefix p.0.now p.1.now };
+
+    #[inline(always)]
+    fn write_to<W: WriteStr>(&self, w: &mut W) -> Result<(), WriteFault> {
+        write_id(w, *self.0, self.1.as_str())
+    }
+}
+
+// A function, so that the parts around it stay inlined.
+fn write_id<W: WriteStr>(w: &mut W, style: Style, binary_id: &str) -> Result<(), WriteFault>
+    ensures { Puts W.meaning w.old (id_prefix style binary_id.now) result w.new }
 {
-    id_style.write(w, binary_id)?;
-    write_plain(w, " ")
+    (Toned(style, binary_id), " ").write_to(w)
 }
 
 /// The progress of a run, before a test.
@@ -287,35 +284,28 @@ impl DisplayCounterIndex {
     {
         DisplayCounterIndex::Padded { character, width }
     }
+}
 
-    /// Writes the counter.
+impl WriteText for DisplayCounterIndex {
+    ghost text = { λ c. counter_text c };
+
     #[tactic(auto, unfolding(crate::specs::Instance::counter_text))]
-    pub fn write_to<W: WriteStr>(&self, w: &mut W) -> Result<(), WriteFault>
-        ensures { Puts W.meaning w.old (counter_text self.now) result w.new }
-    {
+    fn write_to<W: WriteStr>(&self, w: &mut W) -> Result<(), WriteFault> {
         match *self {
             DisplayCounterIndex::Counter { current, total } => {
                 let mut current_buffer = Buffer::new();
                 let current = current_buffer.format(current);
                 let mut total_buffer = Buffer::new();
                 let total = total_buffer.format(total);
-                write_parts(
-                    w,
-                    &[
-                        plain("("),
-                        Style::Plain.right(total.len(), current),
-                        plain("/"),
-                        plain(total),
-                        plain(")"),
-                    ],
-                )
+                let current = Right(total.len(), Style::Plain, current);
+                ("(", current, "/", total, ")").write_to(w)
             }
             DisplayCounterIndex::Padded { character, width } => {
-                write_parts(w, &[plain("(")])?;
+                "(".write_to(w)?;
                 write_repeated(w, width, character)?;
                 write_repeated(w, width, character)?;
                 w.write_char(character)?;
-                write_parts(w, &[plain(")")])
+                ")".write_to(w)
             }
         }
     }
@@ -329,18 +319,20 @@ impl fmt::Display for DisplayCounterIndex {
     }
 }
 
-/// Writes the counter and a space, if there is one.
-#[tactic(auto, unfolding(crate::specs::Instance::counter_prefix))]
-#[inline(always)]
-pub(super) fn write_counter_prefix<W: WriteStr>(
-    w: &mut W,
-    counter_index: &Option<DisplayCounterIndex>,
-) -> Result<(), WriteFault>
-    ensures { Puts W.meaning w.old (counter_prefix counter_index.now) result w.new }
-{
-    match counter_index {
-        None => Ok(()),
-        Some(counter_index) => write_counter(w, counter_index),
+/// The counter and a space, if there is one.
+#[derive(Clone, Copy)]
+pub(super) struct CounterPart<'a>(pub(super) &'a Option<DisplayCounterIndex>);
+
+impl WriteText for CounterPart<'_> {
+    ghost text = { λ p. counter_prefix p.0.now };
+
+    #[tactic(auto, unfolding(crate::specs::Instance::counter_prefix))]
+    #[inline(always)]
+    fn write_to<W: WriteStr>(&self, w: &mut W) -> Result<(), WriteFault> {
+        match self.0 {
+            None => Ok(()),
+            Some(counter_index) => write_counter(w, counter_index),
+        }
     }
 }
 
@@ -352,7 +344,7 @@ fn write_counter<W: WriteStr>(
     ensures { Puts W.meaning w.old (counter_prefix (Some counter_index.now)) result w.new }
 {
     counter_index.write_to(w)?;
-    write_parts(w, &[plain(" ")])
+    " ".write_to(w)
 }
 
 /// A test's name in these styles.
@@ -379,11 +371,12 @@ impl<'a> DisplayTestName<'a> {
             styles: *styles,
         }
     }
+}
 
-    /// Writes the name.
-    pub fn write_to<W: WriteStr>(&self, w: &mut W) -> Result<(), WriteFault>
-        ensures { Puts W.meaning w.old (test_name_text self.now.styles self.now.name.now) result w.new }
-    {
+impl WriteText for DisplayTestName<'_> {
+    ghost text = { λ t. test_name_text t.styles t.name.now };
+
+    fn write_to<W: WriteStr>(&self, w: &mut W) -> Result<(), WriteFault> {
         write_test_name(self.name, &self.styles, w)
     }
 }

@@ -2,7 +2,7 @@
 
 ghost use Rattle.std.specs.Prelude.{◌≡◌, IfOk, string_bytes};
 ghost use Rattle.styled_text.specs.Names.{flat_map, Puts};
-ghost use Rattle.report_text.specs.Interceptor.{and_words, listed_test, interceptor_option, requires_words, rest_text, selected_text, selected_words, too_many_tests_text, unlisted_text};
+ghost use Rattle.report_text.specs.Interceptor.{listed_test, interceptor_option, selected_text, too_many_tests_text, unlisted_text};
 
 use crate::helpers::instance::DisplayTestInstance;
 use report_words::plural::{tests_plural_if, tests_str};
@@ -10,7 +10,9 @@ use run_model::config::NextestRunMode;
 use run_model::memory::OutOfMemory;
 use run_model::name::OwnedTestInstanceId;
 use std::alloc::Global;
-use styled_text::style::{ListStyles, Style, write_plain};
+use styled_text::style::{ListStyles, Style};
+use styled_text::text::Number;
+use writers::text::{When, WriteText};
 use writers::write_str::{WriteFault, WriteStr};
 
 /// The message if an interceptor would get more than one test: its option, how many tests there are, those that are
@@ -80,17 +82,8 @@ fn write_interceptor_option<W: WriteStr>(
 ) -> Result<(), WriteFault>
     ensures { Puts W.meaning w.old (interceptor_option cli_opt_name.now mode) result w.new }
 {
-    write_plain(w, "--")?;
-    write_plain(w, cli_opt_name)?;
-    write_plain(w, requires_words())?;
-    write_plain(w, tests_plural_if(mode, false))
-}
-
-#[tactic(auto, unfolding(crate::specs::Interceptor::requires_words))]
-fn requires_words() -> &'static str
-    ensures { result.now ≡ requires_words }
-{
-    " requires exactly one "
+    let word = tests_plural_if(mode, false);
+    ("--", cli_opt_name, " requires exactly one ", word).write_to(w)
 }
 
 #[tactic(auto, unfolding(crate::specs::Interceptor::selected_text))]
@@ -102,18 +95,9 @@ fn write_selected<W: WriteStr>(
 ) -> Result<(), WriteFault>
     ensures { Puts W.meaning w.old (selected_text mode test_count count_style) result w.new }
 {
-    write_plain(w, ", but ")?;
-    count_style.write_number(w, test_count as u128)?;
-    write_plain(w, " ")?;
-    write_plain(w, tests_str(mode, test_count))?;
-    write_plain(w, selected_words())
-}
-
-#[tactic(auto, unfolding(crate::specs::Interceptor::selected_words))]
-fn selected_words() -> &'static str
-    ensures { result.now ≡ selected_words }
-{
-    " were selected:"
+    let count = Number(count_style, test_count as u128);
+    let word = tests_str(mode, test_count);
+    (", but ", count, " ", word, " were selected:").write_to(w)
 }
 
 fn write_listed<W: WriteStr>(
@@ -137,11 +121,11 @@ fn write_listed_test<W: WriteStr>(
 ) -> Result<(), WriteFault>
     ensures { Puts W.meaning w.old (listed_test list_styles.now test_instance.now) result w.new }
 {
-    write_plain(w, "\n  ")?;
-    DisplayTestInstance::new(None, None, test_instance.as_ref(), list_styles).write_to(w)
+    let shown = DisplayTestInstance::new(None, None, test_instance.as_ref(), list_styles);
+    ("\n  ", shown).write_to(w)
 }
 
-#[tactic(auto, using(std::proofs::lemmas::Bool::Decides::nat_tests), unfolding(crate::specs::Interceptor::unlisted_text))]
+#[tactic(auto, using(std::proofs::lemmas::Bool::Decides::nat_tests), unfolding(crate::specs::Interceptor::unlisted_text, crate::specs::Interceptor::rest_text))]
 fn write_unlisted<W: WriteStr>(
     w: &mut W,
     mode: NextestRunMode,
@@ -151,30 +135,8 @@ fn write_unlisted<W: WriteStr>(
 ) -> Result<(), WriteFault>
     ensures { Puts W.meaning w.old (unlisted_text mode test_count listed_count count_style) result w.new }
 {
-    if test_count > listed_count {
-        return write_rest(w, mode, test_count - listed_count, count_style);
-    }
-    Ok(())
-}
-
-#[tactic(auto, unfolding(crate::specs::Interceptor::rest_text))]
-fn write_rest<W: WriteStr>(
-    w: &mut W,
-    mode: NextestRunMode,
-    rest_count: usize,
-    count_style: Style,
-) -> Result<(), WriteFault>
-    ensures { Puts W.meaning w.old (rest_text mode rest_count count_style) result w.new }
-{
-    write_plain(w, and_words())?;
-    count_style.write_number(w, rest_count as u128)?;
-    write_plain(w, " more ")?;
-    write_plain(w, tests_str(mode, rest_count))
-}
-
-#[tactic(auto, unfolding(crate::specs::Interceptor::and_words))]
-fn and_words() -> &'static str
-    ensures { result.now ≡ and_words }
-{
-    "\n  ... and "
+    let rest_count = test_count.saturating_sub(listed_count);
+    let count = Number(count_style, rest_count as u128);
+    let rest = ("\n  ... and ", count, " more ", tests_str(mode, rest_count));
+    When(test_count > listed_count, rest).write_to(w)
 }

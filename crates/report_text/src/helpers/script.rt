@@ -5,7 +5,7 @@ ghost use Rattle.report_text.specs.Instance.{script_text};
 ghost use Rattle.report_text.specs.Quoting.{shell_words};
 ghost use Rattle.writers.specs.Writer.{Puts};
 
-use crate::helpers::instance::write_stress_prefix;
+use crate::helpers::instance::StressPart;
 use crate::helpers::quoting::{CommandWord, write_shell_command};
 use run_model::memory::OutOfMemory;
 use run_model::name::ScriptId;
@@ -13,8 +13,10 @@ use run_model::stress::StressIndex;
 use std::alloc::Global;
 use std::fmt;
 use std::fmt::Formatter;
-use styled_text::style::{Style, plain, write_parts};
+use styled_text::style::Style;
+use styled_text::text::Toned;
 use writers::show_written;
+use writers::text::WriteText;
 use writers::write_str::{WriteFault, WriteStr};
 
 /// A setup script as a report shows it: its iteration of a stress run, if there is one, its id and its command as a
@@ -71,20 +73,15 @@ impl DisplayScriptInstance {
             Err(_) => Err(OutOfMemory),
         }
     }
+}
 
-    /// Writes the script.
+impl WriteText for DisplayScriptInstance {
+    ghost text = { λ s. script_text s.script_id_style s.count_style s.stress_index s.script_id (string_bytes s.full_command) };
+
     #[tactic(auto, unfolding(crate::specs::Instance::script_text))]
-    pub fn write_to<W: WriteStr>(&self, w: &mut W) -> Result<(), WriteFault>
-        ensures { Puts W.meaning w.old (script_text self.now.script_id_style self.now.count_style self.now.stress_index self.now.script_id (string_bytes self.now.full_command)) result w.new }
-    {
-        write_stress_prefix(w, self.count_style, self.stress_index)?;
-        write_parts(
-            w,
-            &[
-                self.script_id_style.paint(self.script_id.as_str()),
-                plain(": "),
-            ],
-        )?;
+    fn write_to<W: WriteStr>(&self, w: &mut W) -> Result<(), WriteFault> {
+        StressPart(&self.count_style, &self.stress_index).write_to(w)?;
+        (Toned(self.script_id_style, self.script_id.as_str()), ": ").write_to(w)?;
         w.write_str(self.full_command.as_str())
     }
 }
@@ -110,7 +107,7 @@ pub fn write_script_instance<W: WriteStr, T: CommandWord>(
 ) -> Result<(), WriteFault>
     ensures { Puts W.meaning w.old (script_text script_id_style count_style stress_index script_id.now (shell_words (command.now ∷ map T.text args.now))) result w.new }
 {
-    write_stress_prefix(w, count_style, stress_index)?;
-    write_parts(w, &[script_id_style.paint(script_id.as_str()), plain(": ")])?;
+    StressPart(&count_style, &stress_index).write_to(w)?;
+    (Toned(script_id_style, script_id.as_str()), ": ").write_to(w)?;
     write_shell_command(w, command, args)
 }

@@ -3,8 +3,7 @@ use Rattle.std.proofs.Common.{◌≡◌, ◌≢◌, ℕ, zero, suc, ◌-◌, fal
 use Rattle.std.proofs.lemmas.Bool.{cases_lt}
 use Rattle.std.proofs.lemmas.Bool.Decides.{nat_tests, eqb_tells}
 use Rattle.std.proofs.lemmas.Str.{encode_ascii}
-use Rattle.styled_text.specs.Names.{decimal, digits, digits_onto, digit_glyph, repeat, Text, spaces, right_in, pieces, pieces_after, sequence_len, HasNoEscape, sequences, AreClosed, part_text, plain}
-use Rattle.styled_text.specs.Names.{styled, style_prefix, style_suffix, reset_color, PartText, Plain, Styled, part_texts, Style}
+use Rattle.styled_text.specs.Names.{decimal, digits, digits_onto, digit_glyph, repeat, Text, spaces, right_in, pieces, pieces_after, sequence_len, HasNoEscape, sequences, AreClosed, plain, styled, style_prefix, style_suffix, reset_color, Style}
 use Rattle.styled_text.proofs.lemmas.Marks.{AreHigh, encode-high}
 use Rattle.styled_text.proofs.lemmas.Widths.{free_both, sequences-joined, free_after, sequences-free, closed_both}
 use Rattle.styled_text.proofs.lemmas.Pieces.{joined-pieces}
@@ -39,23 +38,13 @@ suffix_closed : (s : Style) → IsClosedText (style_suffix s)
 suffix_closed style.Plain = closed-none
 suffix_closed _ = reset_closed
 
--- the words of a part
-abbrev pub words_of : PartText → Text
-words_of (Plain t) = t
-words_of (Styled s t) = t
+pub closed-plain : (t : Text) → HasNoEscape t → IsClosedText (plain t)
+unfolding plain
+closed-plain t h = closed-free t h
 
-part_closed : (p : PartText) → HasNoEscape (words_of p) → IsClosedText (part_text p)
-unfolding plain styled
-part_closed (Plain t) h = closed-free t h
-part_closed (Styled s t) h = closed-append (style_prefix s) (t ++ style_suffix s) (prefix_closed s) (closed-append t (style_suffix s) (closed-free t h) (suffix_closed s))
-
-abbrev pub AreFreeParts : List PartText → Type 0
-AreFreeParts [] = Unit {0}
-AreFreeParts (p ∷ ps) = HasNoEscape (words_of p) × AreFreeParts ps
-
-pub paint_closed : (ps : List PartText) → AreFreeParts ps → IsClosedText (part_texts ps)
-paint_closed [] h = closed-none
-paint_closed (p ∷ ps) h = closed-append (part_text p) (part_texts ps) (part_closed p h.0) (paint_closed ps h.1)
+pub closed-styled : (s : Style) (t : Text) → HasNoEscape t → IsClosedText (styled s t)
+unfolding styled
+closed-styled s t h = closed-append (style_prefix s) (t ++ style_suffix s) (prefix_closed s) (closed-append t (style_suffix s) (closed-free t h) (suffix_closed s))
 
 -- words without escape characters
 glyph_free : (d : ℕ) (acc : Text) → HasNoEscape acc → HasNoEscape (digit_glyph false d ∷ acc)
@@ -91,3 +80,6 @@ char_free c h = elim (cases_lt c 128) [
 pub repeat_free : (n : ℕ) (t : Text) → HasNoEscape t → HasNoEscape (repeat n t)
 repeat_free zero t h = refl
 repeat_free (suc n) t h = free_both t (repeat n t) h (repeat_free n t h)
+
+-- what shows that a text is closed if its parts are
+pub ruleset closeds = (closed-none, closed-append, closed-plain, closed-styled, decimal_free, right_free)

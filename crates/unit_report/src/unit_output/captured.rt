@@ -12,7 +12,7 @@ use super::highlighted_lines::write_highlighted_lines;
 use run_model::output::ByteSubslice;
 use styled_text::reporter_helpers::highlight_end;
 use styled_text::stripped::write_stripped_text;
-use styled_text::style::{RESET_COLOR, Style, Styles, write_plain};
+use styled_text::style::{RESET_COLOR, Style, Styles};
 use styled_text::trailing_newline::split_trailing_newline;
 use writers::text::WriteText;
 use writers::write_str::{WriteFault, WriteStr};
@@ -54,7 +54,7 @@ fn write_coloured_output<W: WriteStr>(
         return write_reset_output(w, text);
     };
     w.write_str(front)?;
-    write_plain(w, RESET_COLOR)?;
+    RESET_COLOR.write_to(w)?;
     write_highlighted_lines(w, style, lit)?;
     write_reset_output(w, back)
 }

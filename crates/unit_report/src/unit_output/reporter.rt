@@ -18,7 +18,7 @@ use run_model::output::{
     ErrorChain, Highlight, LiveSpec,
 };
 use run_model::unit::UnitKind;
-use styled_text::style::{Styles, write_plain};
+use styled_text::style::Styles;
 use styled_text::text::{Indent, Toned};
 use writers::text::WriteText;
 use writers::write_str::{WriteFault, WriteStr};
@@ -98,11 +98,11 @@ impl UnitOutputReporter {
             } => {
                 write_errors(w, spec, errors)?;
                 self.write_child_output(styles, spec, output, highlight_of(highlight), w)?;
-                write_plain(w, "\n")
+                "\n".write_to(w)
             }
             ChildExecutionOutputDescription::StartError(error) => {
                 write_errors_block(w, spec, error)?;
-                write_plain(w, "\n")
+                "\n".write_to(w)
             }
         }
     }
