@@ -1,4 +1,5 @@
 pub mod Attempts
+pub mod Captured
 pub mod Decoded
 pub mod Events
 pub mod Infos

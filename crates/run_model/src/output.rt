@@ -49,11 +49,19 @@ impl OutputSpec for RecordingSpec {
 /// ```
 /// let output = ChildSingleOutput::new(alloc, Bytes::from_static(b"a\xffb"))?;
 /// assert_eq!(output.as_str(), "a\u{fffd}b");
-/// assert_eq!(output.as_bytes(), b"a\xffb");
+/// assert_eq!(output.as_bytes(), b"a\xffb".as_slice());
 /// ```
 #[derive(Debug, Drop)]
 pub struct ChildSingleOutput {
-    captured: Option<Arc<CapturedText>>,
+    captured: Captured,
+}
+
+#[derive(Debug, Drop)]
+enum Captured {
+    Nothing,
+    // Alone in its memory, so that it takes the least.
+    Text(Arc<String>),
+    Shared(Arc<CapturedText>),
 }
 
 // The text, and the bytes where they are not UTF-8. Most are.
@@ -119,12 +127,12 @@ impl CapturedText {
 }
 
 impl Model for ChildSingleOutput {
-    ghost use Rattle.std.specs.Prelude.{List, ℕ, []};
-    ghost use Rattle.std.specs.Option.{option_map_or};
+    ghost use Rattle.std.specs.Prelude.{List, ℕ};
+    ghost use Rattle.run_model.specs.Captured.{captured_bytes};
 
     ghost Value = { List ℕ };
 
-    ghost view = { λ output. option_map_or (λ c. c.value) output.captured [] };
+    ghost view = { λ output. captured_bytes output.captured };
 }
 
 impl ChildSingleOutput {
@@ -138,15 +146,31 @@ impl ChildSingleOutput {
         }
         let text = CapturedText::new(alloc, bytes)?;
         Ok(ChildSingleOutput {
-            captured: Some(Arc::new(alloc, text)?),
+            captured: Captured::Shared(Arc::new(alloc, text)?),
         })
+    }
+
+    /// The same, of bytes that nothing else shares. It takes less memory for text.
+    pub fn from_vec(alloc: Global, bytes: Vec<u8>) -> Result<Self, OutOfMemory>
+        ensures { IfOk result (λ output. output ≡ bytes.items) }
+    {
+        let captured = match String::from_utf8(bytes) {
+            Ok(text) => Captured::Text(Arc::new(alloc, text)?),
+            Err(error) => {
+                let text = CapturedText::decode(alloc, Bytes::from_vec(error.into_bytes())?)?;
+                Captured::Shared(Arc::new(alloc, text)?)
+            }
+        };
+        Ok(ChildSingleOutput { captured })
     }
 
     /// The output of no bytes.
     pub fn empty() -> Self
         ensures { result ≡ [] }
     {
-        ChildSingleOutput { captured: None }
+        ChildSingleOutput {
+            captured: Captured::Nothing,
+        }
     }
 
     // Whether it owns no memory. It has no bytes then.
@@ -154,7 +178,7 @@ impl ChildSingleOutput {
     fn owns_nothing(&self) -> bool
         ensures { IsTrue result → self.now ≡ [] }
     {
-        self.captured.is_none()
+        matches!(self.captured, Captured::Nothing)
     }
 
     /// The bytes.
@@ -162,8 +186,9 @@ impl ChildSingleOutput {
         ensures { result.now ≡ self.now }
     {
         match &self.captured {
-            Some(captured) => captured.as_bytes(),
-            None => &[],
+            Captured::Nothing => &[],
+            Captured::Text(text) => text.as_str().as_bytes(),
+            Captured::Shared(captured) => captured.as_bytes(),
         }
     }
 
@@ -180,8 +205,9 @@ impl ChildSingleOutput {
         ensures { result.now ≡ decoded_text self.now }
     {
         match &self.captured {
-            Some(captured) => captured.as_str(),
-            None => "",
+            Captured::Nothing => "",
+            Captured::Text(text) => text.as_str(),
+            Captured::Shared(captured) => captured.as_str(),
         }
     }
 
@@ -199,8 +225,9 @@ impl ChildSingleOutput {
         ensures { IfOk result (λ output. output ≡ self.now) }
     {
         let captured = match &self.captured {
-            Some(captured) => Some(Arc::try_clone(captured)?),
-            None => None,
+            Captured::Nothing => Captured::Nothing,
+            Captured::Text(text) => Captured::Text(Arc::try_clone(text)?),
+            Captured::Shared(captured) => Captured::Shared(Arc::try_clone(captured)?),
         };
         Ok(ChildSingleOutput { captured })
     }
