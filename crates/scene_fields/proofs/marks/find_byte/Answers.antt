@@ -1,5 +1,4 @@
-use Rattle.std.proofs.Common.{arith}
-use Rattle.scene_fields.proofs.lemmas.Marks.{all_left, next_left}
+use Rattle.{std.proofs.Common.arith, scene_fields.proofs.lemmas.Marks.all_left, scene_fields.proofs.lemmas.Marks.next_left}
 use Rattle.scene_fields.proofs.marks.find_byte.Goals as goal
 
 pub returns-then-marks-ne0 : goal.returns-then-marks-ne0

@@ -1,5 +1,4 @@
-use Rattle.std.proofs.Common.{arith, w64}
-use Rattle.std.proofs.lemmas.Nat.Bits.{bit_at-trailing_zeros}
+use Rattle.std.proofs.{Common.arith, Common.w64, lemmas.Nat.Bits.bit_at-trailing_zeros}
 use Rattle.scene_fields.proofs.marks.first_place.Goals as goal
 
 pub returns-clause-bound : goal.returns-clause-bound

@@ -1,5 +1,4 @@
-use Rattle.std.proofs.Common.{arith, eqb, w8}
-use Rattle.std.proofs.lemmas.Simd.{bitmask_splat}
+use Rattle.std.proofs.{Common.arith, Common.eqb, Common.w8, lemmas.Simd.bitmask_splat}
 use Rattle.scene_fields.proofs.marks.match_mask.Goals as goal
 
 pub returns : goal.returns

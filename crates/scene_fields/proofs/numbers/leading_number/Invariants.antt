@@ -1,5 +1,4 @@
-use Rattle.std.proofs.Common.{◌≡◌}
-use Rattle.scene_fields.proofs.lemmas.ShortNumbers.{IsNumberSoFar}
+use Rattle.{std.proofs.Common.◌≡◌, scene_fields.proofs.lemmas.ShortNumbers.IsNumberSoFar}
 use Rattle.scene_fields.proofs.numbers.leading_number.Given as goal
 
 -- the bytes so far are digits, and write the number

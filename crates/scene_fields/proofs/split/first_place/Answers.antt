@@ -1,5 +1,4 @@
-use Rattle.std.proofs.Common.{◌≡◌, ◌<◌, ◌==◌, true, subst, sym, arith}
-use Rattle.std.proofs.lemmas.List.{get_or-take, length-take}
+use Rattle.std.proofs.Common.{◌≡◌, ◌<◌, ◌==◌, true, subst, sym, arith, get_or-take, length-take}
 use Rattle.scene_fields.proofs.split.first_place.Goals as goal
 
 pub returns-in-Some : goal.returns-in-Some

@@ -1,6 +1,4 @@
-use Rattle.std.proofs.Common.{◌≡◌, ◌+◌, ◌-◌, subst, arith}
-use Rattle.std.specs.Str.{IsCharBoundary}
-use Rattle.std.proofs.lemmas.Str.{IsCharBoundary-after_ascii}
+use Rattle.std.{proofs.Common.◌≡◌, proofs.Common.◌+◌, proofs.Common.◌-◌, proofs.Common.subst, proofs.Common.arith, specs.Str.IsCharBoundary, proofs.lemmas.Str.IsCharBoundary-after_ascii}
 use Rattle.scene_fields.proofs.texts.push_stretch.Goals as goal
 
 pub range_from-requires : goal.range_from-requires

@@ -1,5 +1,4 @@
-use Rattle.std.proofs.Common.{◌≡◌, [], rules}
-use Rattle.scene_fields.proofs.lemmas.UsualStats.{usual_pairs}
+use Rattle.{std.proofs.Common.◌≡◌, std.proofs.Common.[], std.proofs.Common.rules, scene_fields.proofs.lemmas.UsualStats.usual_pairs}
 use Rattle.scene_fields.proofs.usual_stats.read_usual_stats.Goals as goal
 
 pub returns : goal.returns

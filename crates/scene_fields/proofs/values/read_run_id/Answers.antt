@@ -1,5 +1,4 @@
-use Rattle.std.proofs.Common.{◌≡◌, Option, None, Some, refl}
-use Rattle.uuid.specs.Text.{parsed}
+use Rattle.{std.proofs.Common.◌≡◌, std.proofs.Common.Option, std.proofs.Common.None, std.proofs.Common.Some, std.proofs.Common.refl, uuid.specs.Text.parsed}
 use Rattle.scene_fields.proofs.values.read_run_id.Goals as goal
 
 -- what is no value is none

@@ -1,9 +1,5 @@
 use Rattle.std.proofs.Common.{◌≡◌, ◌-◌, ◌++◌, ◌∙◌, List, [], ◌∷◌, ℕ, zero, suc, length, take, drop, min, ap, sym, arith}
-use Rattle.std.proofs.lemmas.List.{drop-map, length-map}
-use Rattle.std.specs.Borrow.{Bor, MutBor}
-use Rattle.scene_fields.specs.Split.{field_texts}
-use Rattle.scene_fields.specs.Fields.{Place}
-use Rattle.scene_fields.proofs.lemmas.Cuts.{rest_is}
+use Rattle.{std.proofs.lemmas.List.drop-map, std.proofs.lemmas.List.length-map, std.specs.Borrow.Bor, std.specs.Borrow.MutBor, scene_fields.specs.Split.field_texts, scene_fields.specs.Fields.Place, scene_fields.proofs.lemmas.Cuts.rest_is}
 use Rattle.scene_fields.proofs.fields.Fields.pass.Goals as goal
 
 -- n items of both lists are dropped, of which these are in the first

@@ -1,6 +1,4 @@
-use Rattle.std.proofs.Common.{subst, sym}
-use Rattle.std.specs.Str.{IsUtf8}
-use Rattle.std.proofs.lemmas.Str.{IsUtf8-from_is_utf8}
+use Rattle.std.{proofs.Common.subst, proofs.Common.sym, proofs.lemmas.Str.IsUtf8-from_is_utf8, specs.Str.IsUtf8}
 use Rattle.scene_fields.proofs.owned_text.OwnedText.as_str.Goals as goal
 
 pub unreachable-requires : goal.unreachable-requires
