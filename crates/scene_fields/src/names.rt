@@ -1,6 +1,7 @@
 //! Names as a scene writes them, which are texts. Each function returns None for a bad field.
 
-ghost use Rattle.{std.specs.Prelude.◌≡◌, std.specs.Prelude.IfOk, scene_fields.specs.Texts.text_in};
+ghost use Rattle.std.specs.Prelude.{◌≡◌, IfOk};
+ghost use Rattle.scene_fields.specs.Texts.{text_in};
 
 use super::texts::read_text;
 use run_model::memory::OutOfMemory;

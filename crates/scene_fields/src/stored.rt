@@ -1,6 +1,7 @@
 //! What a recorded run stores of an output, from the fields of a line, and its position in that line.
 
-ghost use Rattle.{std.specs.Prelude.◌≡◌, scene_fields.specs.Stored.field_of, scene_fields.specs.Stored.is_reference, scene_fields.specs.Stored.stored_output_in, scene_fields.specs.Stored.stored_stream_in, scene_fields.specs.Stored.stream_in_field};
+ghost use Rattle.std.specs.Prelude.{◌≡◌};
+ghost use Rattle.scene_fields.specs.Stored.{field_of, is_reference, stored_output_in, stored_stream_in, stream_in_field};
 
 use super::reference::{Reference, read_reference};
 

@@ -3,7 +3,8 @@
 //! Nearly every line of a run has them, and they are the longest field of most. Here each byte is read once: a key is compared as a
 //! whole and its digits are read in place, while `counts` searches the `=` and the space of each pair and then its key.
 
-ghost use Rattle.{std.specs.Prelude.◌≡◌, std.specs.Prelude.Some, std.specs.Prelude.IfSome, std.specs.Prelude.MatchOption, scene_fields.specs.Numbers.HasNoNumberAfter, scene_fields.specs.Numbers.IsNumberAfter, scene_fields.specs.Numbers.IsNumberOrZero, scene_fields.specs.Counts.stats_in};
+ghost use Rattle.std.specs.Prelude.{◌≡◌, Some, IfSome, MatchOption};
+ghost use Rattle.scene_fields.specs.{Numbers.HasNoNumberAfter, Numbers.IsNumberAfter, Numbers.IsNumberOrZero, Counts.stats_in};
 
 use super::numbers::leading_number;
 use run_model::stats::RunStats;

@@ -1,6 +1,7 @@
 //! When a finished test is shown: immediately, and at the end of the run.
 
-ghost use Rattle.{std.specs.Prelude.◌≡◌, std.specs.Prelude.true, run_model.specs.Names.reason_rank, run_model.specs.Names.described_summary};
+ghost use Rattle.std.specs.Prelude.{◌≡◌, true};
+ghost use Rattle.run_model.specs.Names.{reason_rank, described_summary};
 ghost use Rattle.text_parts.specs.Finish.{IsOnlyHidden, IsSameBelowImmediate, display_of, output_timing, is_ever_shown, is_shown_at_end, is_shown_at_once, is_final_wanted, is_line_shown, is_terminated, is_terminated_abort, is_terminated_failure, timed_at_end, timed_at_once, timed_listed};
 
 use crate::settings::Settings;

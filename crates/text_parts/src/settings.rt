@@ -1,6 +1,7 @@
 //! The settings of a reporter, from its configuration.
 
-ghost use Rattle.{std.specs.Prelude.◌≡◌, styled_text.specs.Style.styles_of};
+ghost use Rattle.std.specs.Prelude.{◌≡◌};
+ghost use Rattle.styled_text.specs.Style.{styles_of};
 ghost use Rattle.text_parts.specs.Settings.{counter_width_of, finished_counter, is_level_shown, overrides_by, padded_counter, shows_starts, started_counter, theme_of};
 
 use report_text::helpers::{DisplayCounterIndex, ThemeCharacters, decimal_char_width};
