@@ -1,15 +1,10 @@
 -- The line of a fault, and the status that the program ends with.
 use Rattle.std.specs.Prelude.{ℕ, List, ◌++◌, codes, decimal, ⊤}
-use Rattle.std.specs.declared.io.ErrorKind.{ErrorKind}
+use Rattle.{std.specs.declared.io.ErrorKind.ErrorKind, command_line.specs.Pieces.IsUnread, scene_fields.specs.Faults.line_fault_text, scene_fields.specs.declared.fault.ReadFault.ReadFault}
+use Rattle.command_line.specs.declared.fault.{Fault.Fault, FaultLine.FaultLine, ReportProgram.ReportProgram}
 use Rattle.std.specs.declared.io.ErrorKind.TheVariants as kind
-use Rattle.scene_fields.specs.Faults.{line_fault_text}
-use Rattle.scene_fields.specs.declared.fault.ReadFault.{ReadFault}
 use Rattle.scene_fields.specs.declared.fault.ReadFault.TheVariants as read
-use Rattle.command_line.specs.Pieces.{IsUnread}
-use Rattle.command_line.specs.declared.fault.Fault.{Fault}
 use Rattle.command_line.specs.declared.fault.Fault.TheVariants as fault
-use Rattle.command_line.specs.declared.fault.FaultLine.{FaultLine}
-use Rattle.command_line.specs.declared.fault.ReportProgram.{ReportProgram}
 use Rattle.command_line.specs.declared.fault.ReportProgram.TheVariants as program
 
 -- the name of a program, and what it reads, as the last of the words that it takes

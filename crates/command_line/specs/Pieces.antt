@@ -1,8 +1,7 @@
 -- A text that is read in pieces of whole lines.
 use Rattle.std.specs.Prelude.{◌≡◌, ◌⊎◌, ◌<◌, ℕ, Bool, true, false, List, [], ◌∷◌, ◌++◌, length, Option, Some, ⊤}
-use Rattle.command_line.specs.declared.fault.Fault.{Fault}
+use Rattle.command_line.specs.declared.{fault.Fault.Fault, pieces.Chunk.Chunk}
 use Rattle.command_line.specs.declared.fault.Fault.TheVariants as fault
-use Rattle.command_line.specs.declared.pieces.Chunk.{Chunk}
 use Rattle.command_line.specs.declared.pieces.Chunk.TheVariants as taken
 
 -- what was read of a text: nothing, where it was empty; or a piece that a line feed parts from what is left, or the whole text, where it was not

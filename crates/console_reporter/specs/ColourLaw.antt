@@ -1,11 +1,7 @@
 -- The law of colour: colour adds nothing that is visible, and takes nothing away.
 use Rattle.std.specs.Prelude.{◌≡◌, ℕ, List, Bool, true, false, reverse}
-use Rattle.styled_text.specs.Names.{IsEqualButEndSpaces, visible}
-use Rattle.console_reporter.specs.Configuration.{Configuration}
-use Rattle.console_reporter.specs.PlainCalls.{ArePlain, IsPlainConfiguration}
-use Rattle.console_reporter.specs.Report.{report, text_at}
-use Rattle.console_reporter.specs.Stored.{stored, stored_at}
-use Rattle.run_model.specs.declared.call.ReportCall.{ReportCall}
+use Rattle.{styled_text.specs.Names.IsEqualButEndSpaces, styled_text.specs.Names.visible, run_model.specs.declared.call.ReportCall.ReportCall}
+use Rattle.console_reporter.specs.{Configuration.Configuration, Report.report, Report.text_at, Stored.stored, Stored.stored_at, PlainCalls.ArePlain, PlainCalls.IsPlainConfiguration}
 
 -- the same configuration, in colour or plain
 abbrev pub in_colour : Bool → Configuration → Configuration

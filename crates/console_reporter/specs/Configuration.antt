@@ -1,16 +1,10 @@
 -- The configuration of a reporter, and the settings that it leads to.
-use Rattle.std.specs.Prelude.{ℕ, Bool, false, Option, None, Some}
-use Rattle.run_names.specs.Filters.{default_config_filter}
-use Rattle.run_names.specs.declared.config.NextestRunMode.TheVariants.{Test}
+use Rattle.{std.specs.Prelude.ℕ, std.specs.Prelude.Bool, std.specs.Prelude.false, std.specs.Prelude.Option, std.specs.Prelude.None, std.specs.Prelude.Some, unit_report.specs.declared.config.ShowProgress.TheVariants.Auto, unit_report.specs.declared.unit_output.DisplayerKind.TheVariants.Live}
+use Rattle.{run_names.specs.Filters.default_config_filter, run_names.specs.declared.config.NextestRunMode.TheVariants.Test, styled_text.specs.Style.styles_of, reporter_state.specs.Names.Settings, reporter_state.specs.Names.StoreConfig}
+use Rattle.text_parts.specs.Names.{resolved_display, ResolvedDisplay, OutputDisplayOverrides, counter_width_of, overrides_by, theme_of}
+use Rattle.console_reporter.specs.declared.imp.builder.{DisplayReporterBuilder.DisplayReporterBuilder, Surroundings.Surroundings}
 use Rattle.run_names.specs.declared.level.FinalStatusLevel.TheVariants as final
 use Rattle.run_names.specs.declared.level.StatusLevel.TheVariants as status
-use Rattle.styled_text.specs.Style.{styles_of}
-use Rattle.text_parts.specs.Names.{resolved_display, ResolvedDisplay, OutputDisplayOverrides, counter_width_of, overrides_by, theme_of}
-use Rattle.reporter_state.specs.Names.{Settings, StoreConfig}
-use Rattle.unit_report.specs.declared.config.ShowProgress.TheVariants.{Auto}
-use Rattle.unit_report.specs.declared.unit_output.DisplayerKind.TheVariants.{Live}
-use Rattle.console_reporter.specs.declared.imp.builder.DisplayReporterBuilder.{DisplayReporterBuilder}
-use Rattle.console_reporter.specs.declared.imp.builder.Surroundings.{Surroundings}
 
 -- nextest's defaults, for a run of n tests
 abbrev pub default_builder : ℕ → DisplayReporterBuilder

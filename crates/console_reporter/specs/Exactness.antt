@@ -1,19 +1,9 @@
 -- Exactness: the load decider loads what a report shows or a store keeps, and nothing else.
 use Rattle.std.specs.Prelude.{◌≡◌, ◌≢◌, ◌↔◌, ◌⊎◌, List, ◌∷◌, ◌++◌, reverse, None, Some, codes}
-use Rattle.text_parts.specs.Names.{TestEvent, TestEventKind, ReportCall}
-use Rattle.run_model.specs.Attempts.{Written}
+use Rattle.{text_parts.specs.Names.TestEvent, text_parts.specs.Names.TestEventKind, text_parts.specs.Names.ReportCall, run_model.specs.Attempts.Written, styled_text.specs.Texts.Text, reporter_state.specs.Loads.decision, reporter_state.specs.declared.decider.OutputLoadDecider.OutputLoadDecider}
 use Rattle.run_model.specs.declared.event.TestEventKind.TheVariants.{SetupScriptFinished, TestAttemptFailedWillRetry, TestFinished}
-use Rattle.run_model.specs.declared.output.ChildExecutionOutputDescription.TheVariants.{Output}
-use Rattle.run_model.specs.declared.output.ChildOutputDescription.TheVariants.{Combined}
-use Rattle.run_model.specs.declared.output_event.LoadOutput.TheVariants.{Load}
-use Rattle.styled_text.specs.Texts.{Text}
-use Rattle.console_reporter.specs.Uninterrupted.{AreUninterrupted, EndsRun}
-use Rattle.console_reporter.specs.Configuration.{Configuration}
-use Rattle.reporter_state.specs.Loads.{decision}
-use Rattle.reporter_state.specs.declared.decider.OutputLoadDecider.{OutputLoadDecider}
-use Rattle.console_reporter.specs.Report.{report_texts}
-use Rattle.console_reporter.specs.Stored.{records}
-use Rattle.run_model.specs.declared.call.ReportCall.TheVariants.{Event}
+use Rattle.run_model.specs.declared.{output.ChildExecutionOutputDescription.TheVariants.Output, output.ChildOutputDescription.TheVariants.Combined, output_event.LoadOutput.TheVariants.Load, call.ReportCall.TheVariants.Event}
+use Rattle.console_reporter.specs.{Uninterrupted.AreUninterrupted, Uninterrupted.EndsRun, Configuration.Configuration, Report.report_texts, Stored.records}
 
 -- a combined output, without errors, highlight and result of its own
 abbrev pub combined : Text → Written

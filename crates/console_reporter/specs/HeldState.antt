@@ -1,15 +1,9 @@
 -- What a reporter holds after a past.
 use Rattle.std.specs.Prelude.{◌≡◌, ℕ, List, Bool, true, false, IsTrue, slice_get}
-use Rattle.std.specs.Option.{option_map_or}
-use Rattle.run_names.specs.Levels.{reason_rank}
-use Rattle.text_parts.specs.Names.{TestEvent, ReportCall}
-use Rattle.console_reporter.specs.Configuration.{Configuration, settings_of}
+use Rattle.{std.specs.Option.option_map_or, run_names.specs.Levels.reason_rank, reporter_state.specs.declared.state.ReporterState.ReporterState, text_parts.specs.Names.TestEvent, text_parts.specs.Names.ReportCall}
+use Rattle.console_reporter.specs.{Configuration.Configuration, Configuration.settings_of, Report.Known, Report.past_at, OptionalStore.config_of, declared.imp.reporter.DisplayReporter.DisplayReporter}
 use Rattle.reporter_state.specs.Names.{may_grow_for, cancel, final_order, kept, prefix, Settings}
-use Rattle.reporter_state.specs.declared.state.ReporterState.{ReporterState}
-use Rattle.console_reporter.specs.Report.{Known, past_at}
-use Rattle.console_reporter.specs.OptionalStore.{config_of}
 use Rattle.run_model.specs.declared.call.ReportCall.TheVariants.{Event, Header, Prefix}
-use Rattle.console_reporter.specs.declared.imp.reporter.DisplayReporter.{DisplayReporter}
 
 -- the reporter works, and holds what the texts after this past need: its entries are in their final order; and its store, if it
 -- has one, keeps what the configuration says

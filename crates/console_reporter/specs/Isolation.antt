@@ -1,12 +1,7 @@
 -- Isolation: a replay may skip every captured output that the load decider skips, and no byte changes.
-use Rattle.std.specs.Prelude.{◌≡◌, ℕ, List, reverse}
-use Rattle.reporter_state.specs.Refusals.{AreAcceptedBy, first_refused, refusal_at_by}
-use Rattle.reporter_state.specs.declared.decider.OutputLoadDecider.{OutputLoadDecider}
-use Rattle.console_reporter.specs.Accepted.{decider_of}
-use Rattle.console_reporter.specs.Configuration.{Configuration}
-use Rattle.console_reporter.specs.Report.{report, report_texts}
-use Rattle.console_reporter.specs.Stored.{records, stored}
-use Rattle.run_model.specs.declared.call.ReportCall.{ReportCall}
+use Rattle.{std.specs.Prelude.◌≡◌, std.specs.Prelude.ℕ, std.specs.Prelude.List, std.specs.Prelude.reverse, run_model.specs.declared.call.ReportCall.ReportCall}
+use Rattle.reporter_state.specs.{Refusals.AreAcceptedBy, Refusals.first_refused, Refusals.refusal_at_by, declared.decider.OutputLoadDecider.OutputLoadDecider}
+use Rattle.console_reporter.specs.{Accepted.decider_of, Configuration.Configuration, Report.report, Report.report_texts, Stored.records, Stored.stored}
 
 -- For every configuration with this decider, each position of the calls without their skipped outputs has the text and
 -- the record of that position of the calls, so the report and what is stored are the same; calls that are accepted still are; the first call that is

@@ -1,21 +1,9 @@
 -- What a run of a list of calls promises.
 use Rattle.std.specs.Prelude.{◌≡◌, ◌≤◌, ◌⊎◌, List, [], ◌++◌, None, Result, OnOk, IfErr, length, reverse, take}
-use Rattle.writers.specs.Writer.{Meaning, successor}
-use Rattle.run_model.specs.declared.call.ReportCall.{ReportCall}
-use Rattle.reporter_state.specs.Refusals.{refusal_in}
-use Rattle.reporter_state.specs.declared.faults.RunFault.{RunFault}
+use Rattle.{writers.specs.Writer.Meaning, writers.specs.Writer.successor, run_model.specs.declared.call.ReportCall.ReportCall, reporter_state.specs.Refusals.refusal_in, reporter_state.specs.declared.faults.RunFault.RunFault}
 use Rattle.reporter_state.specs.declared.faults.WriteEventError.TheVariants.{Failed, Io, Memory, StoreIo}
-use Rattle.console_reporter.specs.Accepted.{AreAccepted, refusal_at}
-use Rattle.console_reporter.specs.ColourLaw.{ColourLaw, IsSameStoredInColour}
-use Rattle.console_reporter.specs.Configuration.{Configuration}
-use Rattle.console_reporter.specs.HeldState.{MayGrowAt}
-use Rattle.console_reporter.specs.OrderIndependence.{IsOrderIndependent}
-use Rattle.console_reporter.specs.Outcomes.{Stops}
-use Rattle.console_reporter.specs.Outcomes.Side.{Report, Records}
-use Rattle.console_reporter.specs.PlainLaw.{PlainLaw}
-use Rattle.console_reporter.specs.Report.{past_at, report, text_at}
-use Rattle.console_reporter.specs.Statistics.{IsStatsIndependent}
-use Rattle.console_reporter.specs.Stored.{stored as stored_by, stored_at}
+use Rattle.console_reporter.specs.{Accepted.AreAccepted, Accepted.refusal_at, Configuration.Configuration, HeldState.MayGrowAt, OrderIndependence.IsOrderIndependent, PlainLaw.PlainLaw, Statistics.IsStatsIndependent, Stored.stored as stored_by, Stored.stored_at}
+use Rattle.console_reporter.specs.{ColourLaw.ColourLaw, ColourLaw.IsSameStoredInColour, Report.past_at, Report.report, Report.text_at, Outcomes.Stops, Outcomes.Side.Report, Outcomes.Side.Records}
 
 -- A store that is absent: it takes every text, keeps none and has no device.
 abbrev pub absent : Meaning (Unit {0})

@@ -1,21 +1,11 @@
 -- What one call does to the two writers of a reporter, and what calls in sequence do.
 use Rattle.std.specs.Prelude.{◌≡◌, ◌⊎◌, true, List, [], ◌∷◌, Option, None, Some, Result, Err, OnOk, IfErr}
 use Rattle.styled_text.specs.Names.{is_some, option_and_then, option_map_or, Text, Meaning, successor}
-use Rattle.console_reporter.specs.Configuration.{Configuration}
-use Rattle.console_reporter.specs.Accepted.{refusal}
-use Rattle.report_words.specs.Parts.{IsOfLines}
-use Rattle.console_reporter.specs.Outcomes.{Stops, answered_refusal}
-use Rattle.console_reporter.specs.Outcomes.Side.{Report, Records}
-use Rattle.console_reporter.specs.Report.{report, text}
-use Rattle.console_reporter.specs.OptionalStore.{IsSameStore, store_meaning}
-use Rattle.console_reporter.specs.HeldState.{HasFailed, MayGrowIn, StandsAfter}
-use Rattle.console_reporter.specs.Stored.{stored, stored_text}
-use Rattle.run_model.specs.declared.call.ReportCall.{ReportCall}
-use Rattle.run_model.specs.declared.call.ReportCall.TheVariants.{Event, Header, Prefix}
-use Rattle.reporter_state.specs.Refusals.{refusal_in}
-use Rattle.reporter_state.specs.declared.faults.WriteEventError.{WriteEventError}
+use Rattle.console_reporter.specs.{Configuration.Configuration, Accepted.refusal, declared.imp.reporter.DisplayReporter.DisplayReporter, Report.report, Report.text, Stored.stored, Stored.stored_text, OptionalStore.IsSameStore, OptionalStore.store_meaning}
+use Rattle.{report_words.specs.Parts.IsOfLines, reporter_state.specs.Refusals.refusal_in, reporter_state.specs.declared.faults.WriteEventError.WriteEventError}
+use Rattle.console_reporter.specs.{Outcomes.Stops, Outcomes.answered_refusal, Outcomes.Side.Report, Outcomes.Side.Records, HeldState.HasFailed, HeldState.MayGrowIn, HeldState.StandsAfter}
+use Rattle.run_model.specs.declared.call.ReportCall.{ReportCall, TheVariants.Event, TheVariants.Header, TheVariants.Prefix}
 use Rattle.reporter_state.specs.declared.faults.WriteEventError.TheVariants.{Failed, Io, Memory, StoreIo}
-use Rattle.console_reporter.specs.declared.imp.reporter.DisplayReporter.{DisplayReporter}
 
 -- A call, or the end of a report, which is None: the past after it, what it adds to the report and to the store, and whether the
 -- reporter may allocate for it.

@@ -1,7 +1,6 @@
 //! One error for a program that makes reports.
 
-ghost use Rattle.std.specs.Prelude.{◌≡◌};
-ghost use Rattle.std.specs.IoError.{error_kind};
+ghost use Rattle.std.specs.{Prelude.◌≡◌, IoError.error_kind};
 ghost use Rattle.console_reporter.specs.Names.{error_of_io, error_of_run, error_of_write, ReportError};
 
 use crate::imp::{RunFault, WriteEventError};

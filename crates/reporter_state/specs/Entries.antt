@@ -2,24 +2,15 @@
 use Rattle.std.specs.Prelude.{ℕ, ◌-◌, Bool, false, List, [], ◌∷◌, ◌++◌, Option, Some, None, max}
 use Rattle.styled_text.specs.Names.{option_to_list, Ordering, is_lt, IsSorted, IsStable, Text}
 use Rattle.run_model.specs.Names.{final_rank, reason_rank, final_level_of, stress_key, OwnedTestInstanceId, UniquePrefix, FinalStatusLevel, StressIndex}
-use Rattle.text_parts.specs.Names.{ReportCall, DisplayCounterIndex, attempt_output}
-use Rattle.run_names.specs.declared.level.CancelReason.TheVariants as cause
-use Rattle.run_names.specs.declared.level.FinalStatusLevel.TheVariants as final
-use Rattle.text_parts.specs.declared.instance.CountedInstance.{CountedInstance}
-use Rattle.text_parts.specs.declared.settings.Settings.{Settings}
+use Rattle.text_parts.specs.{Names.ReportCall, Names.DisplayCounterIndex, Names.attempt_output, declared.instance.CountedInstance.CountedInstance, declared.settings.Settings.Settings}
 use Rattle.report_text.specs.declared.helpers.instance.DisplayCounterIndex.TheVariants.{Counter, Padded}
 use Rattle.report_words.specs.Parts.{Parts, Line, Lines, ◌⧺◌, each, paint}
-use Rattle.reporter_state.specs.Effects.{effect_of, entry_of}
-use Rattle.reporter_state.specs.KeptTests.{borrowed_test}
-use Rattle.reporter_state.specs.Order.{key_cmp, ordered_by}
-use Rattle.test_text.specs.TestSkipped.{skip_line}
-use Rattle.test_text.specs.StatusLine.{status_line}
+use Rattle.reporter_state.specs.{Effects.effect_of, Effects.entry_of, KeptTests.borrowed_test, declared.kept_test.KeptTest.KeptTest, Order.key_cmp, Order.ordered_by, declared.final_output.FinalOutput.FinalOutput, declared.final_output.FinalOutputEntry.FinalOutputEntry}
+use Rattle.test_text.specs.{TestSkipped.skip_line, StatusLine.status_line, declared.status_line.StatusLineKind.TheVariants.Final}
 use Rattle.run_model.specs.declared.call.ReportCall.TheVariants.{Event, Header, Prefix}
-use Rattle.reporter_state.specs.declared.final_output.FinalOutput.{FinalOutput}
 use Rattle.reporter_state.specs.declared.final_output.FinalOutput.TheVariants.{Executed, ExecutedWithOutput, Skipped}
-use Rattle.reporter_state.specs.declared.final_output.FinalOutputEntry.{FinalOutputEntry}
-use Rattle.reporter_state.specs.declared.kept_test.KeptTest.{KeptTest}
-use Rattle.test_text.specs.declared.status_line.StatusLineKind.TheVariants.{Final}
+use Rattle.run_names.specs.declared.level.CancelReason.TheVariants as cause
+use Rattle.run_names.specs.declared.level.FinalStatusLevel.TheVariants as final
 
 -- the greatest reason that a call of a past carries; the latest call of a past is its first
 unfoldable pub cancel : List ReportCall → ℕ

@@ -1,14 +1,11 @@
 -- What the summary shows of a test, from its short form.
-use Rattle.std.specs.Prelude.{Bool, ℕ, ℤ, pos, false, if◌then◌else◌}
-use Rattle.std.specs.Ordering.{int_eq}
+use Rattle.std.specs.{Prelude.Bool, Prelude.ℕ, Prelude.ℤ, Prelude.pos, Prelude.false, Prelude.if◌then◌else◌, Ordering.int_eq}
 use Rattle.text_parts.specs.Names.{ExecutionResultDescription, RetryData, StatusCase, StatusSummary}
+use Rattle.reporter_state.specs.declared.{final_output.FinalOutput.FinalOutput, kept_output.OutputForm.OutputForm, kept_output.ShortSummary.ShortSummary}
+use Rattle.reporter_state.specs.declared.kept_output.OutputForm.TheVariants.{Skipped, Line, LineWithOutput, Whole}
 use Rattle.run_model.specs.declared.status.ExecutionResultDescription.TheVariants as outcome
 use Rattle.run_model.specs.declared.status.FailureDescription.TheVariants as failure
-use Rattle.reporter_state.specs.declared.final_output.FinalOutput.{FinalOutput}
 use Rattle.reporter_state.specs.declared.final_output.FinalOutput.TheVariants as output
-use Rattle.reporter_state.specs.declared.kept_output.OutputForm.{OutputForm}
-use Rattle.reporter_state.specs.declared.kept_output.OutputForm.TheVariants.{Skipped, Line, LineWithOutput, Whole}
-use Rattle.reporter_state.specs.declared.kept_output.ShortSummary.{ShortSummary}
 
 -- how an attempt ended, from the exit code of its process, or 0 if it passed
 abbrev pub ended_by : ℤ → ExecutionResultDescription

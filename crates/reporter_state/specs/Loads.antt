@@ -1,16 +1,12 @@
 -- Which captured outputs a report shows or a store keeps, from results, display settings and levels: no output is looked at.
 use Rattle.std.specs.Prelude.{Bool, false, not, ◌&&◌, ◌||◌, nat_le, Option, None, Some, unwrap_or, if◌then◌else◌}
-use Rattle.std.specs.Option.{option_map_or}
+use Rattle.{std.specs.Option.option_map_or, reporter_state.specs.declared.decider.OutputLoadDecider.OutputLoadDecider, store_text.specs.StoredOutput.is_switched_on, store_text.specs.declared.config.StoreConfig.StoreConfig}
 use Rattle.run_model.specs.Names.{is_immediate, has_valid_output, status_rank, has_loaded_output, is_success, is_success_case, summary_of, TestOutputDisplay, Written}
 use Rattle.text_parts.specs.Names.{TestEventKind, InfoResponse as Response, UnitState, LoadOutput, OutputEventKind, ExecutionResultDescription, StatusCase, StatusSummary, display_for, is_ever_shown}
 use Rattle.run_model.specs.declared.event.TestEventKind.TheVariants.{SetupScriptFinished, TestAttemptFailedWillRetry, TestFinished, InfoResponse}
-use Rattle.run_model.specs.declared.info.InfoResponse.TheVariants.{SetupScript, Test}
+use Rattle.run_model.specs.declared.{info.InfoResponse.TheVariants.SetupScript, info.InfoResponse.TheVariants.Test, output_event.LoadOutput.TheVariants.Load, output_event.LoadOutput.TheVariants.Skip}
 use Rattle.run_names.specs.declared.level.StatusLevel.TheVariants as level
-use Rattle.run_model.specs.declared.output_event.LoadOutput.TheVariants.{Load, Skip}
 use Rattle.run_model.specs.declared.output_event.OutputEventKind.TheVariants as decided
-use Rattle.store_text.specs.StoredOutput.{is_switched_on}
-use Rattle.store_text.specs.declared.config.StoreConfig.{StoreConfig}
-use Rattle.reporter_state.specs.declared.decider.OutputLoadDecider.{OutputLoadDecider}
 
 -- a setup script's, unless it succeeded
 abbrev pub loads_script : ExecutionResultDescription → Bool

@@ -1,12 +1,9 @@
 -- The decision about an output from the metadata of its event.
-use Rattle.std.specs.Prelude.{◌≡◌, Bool, ◌||◌}
-use Rattle.run_model.specs.Names.{is_success, TestOutputDisplay}
+use Rattle.{std.specs.Prelude.◌≡◌, std.specs.Prelude.Bool, std.specs.Prelude.◌||◌, run_model.specs.Names.is_success, run_model.specs.Names.TestOutputDisplay}
 use Rattle.text_parts.specs.Names.{OutputEventKind, ExecutionResultDescription, is_ever_shown, display_when}
-use Rattle.run_model.specs.declared.output_event.OutputEventKind.TheVariants as decided
-use Rattle.reporter_state.specs.Loads.{is_asked_of, loads_attempt, loads_script}
-use Rattle.reporter_state.specs.declared.decider.OutputLoadDecider.{OutputLoadDecider}
-use Rattle.reporter_state.specs.declared.decider.OutputMetadata.{OutputMetadata}
+use Rattle.reporter_state.specs.{Loads.is_asked_of, Loads.loads_attempt, Loads.loads_script, declared.decider.OutputLoadDecider.OutputLoadDecider, declared.decider.OutputMetadata.OutputMetadata}
 use Rattle.reporter_state.specs.declared.decider.OutputMetadata.TheVariants.{SetupScriptFinished, TestAttemptFailedWillRetry, TestFinished}
+use Rattle.run_model.specs.declared.output_event.OutputEventKind.TheVariants as decided
 
 -- for a test with this last result: if its setting shows output, immediately or at the end of the run, or a store keeps it
 abbrev pub loads_last : OutputLoadDecider → TestOutputDisplay → TestOutputDisplay → ExecutionResultDescription → Bool

@@ -1,9 +1,8 @@
 //! What the summary keeps of a test.
 
 ghost use Rattle.std.specs.Prelude.{◌≡◌, IfOk, IsOk, false};
-ghost use Rattle.run_model.specs.Statuses.{is_aborted};
+ghost use Rattle.{run_model.specs.Statuses.is_aborted, text_parts.specs.Finish.timed_at_end};
 ghost use Rattle.reporter_state.specs.Names.{HasShownOutput, finish_of, final_output, finished_entry, skipped_entry, final_level_of_output};
-ghost use Rattle.text_parts.specs.Finish.{timed_at_end};
 
 use crate::binary_ids::KeptBinaryIds;
 use crate::finished_attempts::FinishedAttempts;

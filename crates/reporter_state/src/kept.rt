@@ -1,10 +1,8 @@
 //! The entries of a summary, and their order.
 
 ghost use Rattle.std.specs.Prelude.{◌≡◌, List, [], ◌∷◌, ◌++◌, OnOk, OnErr};
-ghost use Rattle.writers.specs.Writer.{Puts};
+ghost use Rattle.{writers.specs.Writer.Puts, report_words.specs.Parts.paint, reporter_state.specs.declared.final_output.FinalOutput.TheVariants.ExecutedWithOutput};
 ghost use Rattle.reporter_state.specs.Names.{status_line, StatusLineKind, final_text, shown_entries, final_order, IsFinalOrder, borrowed_test, FinalOutputEntry};
-ghost use Rattle.report_words.specs.Parts.{paint};
-ghost use Rattle.reporter_state.specs.declared.final_output.FinalOutput.TheVariants.{ExecutedWithOutput};
 
 use crate::entry_key::EntryKey;
 use crate::final_output::{FinalOutput, FinalOutputEntry};
@@ -31,9 +29,7 @@ pub struct KeptEntries {
 }
 
 impl Model for KeptEntries {
-    ghost use Rattle.std.specs.Prelude.{List};
-    ghost use Rattle.std.specs.BTreeMap.{btree_map_len};
-    ghost use Rattle.reporter_state.specs.Names.{ArePlaced, shown_of, FinalOutputEntry};
+    ghost use Rattle.{std.specs.Prelude.List, std.specs.BTreeMap.btree_map_len, reporter_state.specs.Names.ArePlaced, reporter_state.specs.Names.shown_of, reporter_state.specs.Names.FinalOutputEntry};
 
     ghost Value = { List FinalOutputEntry };
 

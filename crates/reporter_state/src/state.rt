@@ -1,10 +1,8 @@
 //! What a reporter knows of the calls before, and how an event changes it.
 
 ghost use Rattle.std.specs.Prelude.{◌≡◌, ◌++◌, ◌∷◌, List, [], OnOk, OnErr, None, max, true, false};
-ghost use Rattle.std.specs.Option.{is_some, option_to_list};
-ghost use Rattle.run_names.specs.Levels.{reason_rank};
-ghost use Rattle.reporter_state.specs.Names.{HasShownOutput, finish_of, FinalOutputEntry, IsFinishOf, TestEnd, effect_of, entry_of, finished_entry, kept_entry, may_grow_for, lacks_output, decider_by};
-ghost use Rattle.reporter_state.specs.Names.{final_order};
+ghost use Rattle.{std.specs.Option.is_some, std.specs.Option.option_to_list, run_names.specs.Levels.reason_rank};
+ghost use Rattle.reporter_state.specs.Names.{HasShownOutput, finish_of, FinalOutputEntry, IsFinishOf, TestEnd, effect_of, entry_of, finished_entry, kept_entry, may_grow_for, lacks_output, decider_by, final_order};
 
 use crate::binary_ids::KeptBinaryIds;
 use crate::faults::WriteEventError;

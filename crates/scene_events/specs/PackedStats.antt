@@ -1,9 +1,6 @@
 -- The statistics of a short form.
-use Rattle.std.specs.Prelude.{◌<◌, ◌^◌}
-use Rattle.run_model.specs.declared.stats.RunStats.{RunStats}
-use Rattle.scene_events.specs.declared.scene.packed_stats.PackedCounts.{PackedCounts}
-use Rattle.scene_events.specs.declared.scene.packed_stats.PackedCounts.TheVariants.{Short, Whole}
-use Rattle.scene_events.specs.declared.scene.packed_stats.ShortCounts.{ShortCounts}
+use Rattle.{std.specs.Prelude.◌<◌, std.specs.Prelude.◌^◌, run_model.specs.declared.stats.RunStats.RunStats}
+use Rattle.scene_events.specs.declared.scene.packed_stats.{PackedCounts.PackedCounts, PackedCounts.TheVariants.Short, PackedCounts.TheVariants.Whole, ShortCounts.ShortCounts}
 
 -- each count is that of its short form
 abbrev pub short_stats : ShortCounts → RunStats

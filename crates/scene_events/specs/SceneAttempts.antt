@@ -1,17 +1,9 @@
 -- The short form of attempts, and the attempt of a setup script.
-use Rattle.std.specs.Prelude.{[], Bool, Some}
-use Rattle.run_model.specs.Attempts.{Attempt}
-use Rattle.run_model.specs.declared.output.ChildOutputDescription.{ChildOutputDescription}
-use Rattle.run_model.specs.declared.output.LiveSpec.{LiveSpec}
-use Rattle.run_model.specs.declared.status.SetupScriptExecuteStatus.{SetupScriptExecuteStatus}
-use Rattle.scene_events.specs.SceneOutputs.{BeforeLast, no_output, written}
-use Rattle.scene_events.specs.declared.scene.attempts.EndedAttempt.{EndedAttempt}
-use Rattle.scene_events.specs.declared.scene.attempts.Marks.{Marks}
-use Rattle.scene_events.specs.declared.scene.attempts.MoreAttempts.{MoreAttempts}
+use Rattle.{std.specs.Prelude.[], std.specs.Prelude.Bool, std.specs.Prelude.Some, scene_events.specs.SceneOutputs.BeforeLast, scene_events.specs.SceneOutputs.no_output, scene_events.specs.SceneOutputs.written}
+use Rattle.run_model.specs.{Attempts.Attempt, declared.output.ChildOutputDescription.ChildOutputDescription, declared.output.LiveSpec.LiveSpec, declared.status.SetupScriptExecuteStatus.SetupScriptExecuteStatus}
+use Rattle.scene_events.specs.declared.scene.{attempts.EndedAttempt.EndedAttempt, attempts.Marks.Marks, attempts.MoreAttempts.MoreAttempts, attempts.Written.Written, outputs.SceneOutput.SceneOutput}
 use Rattle.scene_events.specs.declared.scene.attempts.MoreAttempts.TheVariants as more
-use Rattle.scene_events.specs.declared.scene.attempts.Written.{Written}
 use Rattle.scene_events.specs.declared.scene.attempts.Written.TheVariants as wrote
-use Rattle.scene_events.specs.declared.scene.outputs.SceneOutput.{SceneOutput}
 
 -- an attempt with this result and output, which was slow or not
 abbrev pub attempt_of : EndedAttempt → Bool → SceneOutput → Attempt

@@ -1,14 +1,7 @@
 -- Counts, as pairs of a key and a number.
-use Rattle.std.specs.Prelude.{◌≡◌, ◌==◌, ◌+◌, ℕ, List, [], ◌∷◌, Bool, true, false, if◌then◌else◌, get_or, slice_set, Option, None, Some, codes, bytes_eq, replicate}
-use Rattle.std.specs.List.{list_any}
-use Rattle.std.specs.Option.{option_and_then, option_map}
-use Rattle.std.proofs.Common.{refl}
-use Rattle.run_model.specs.Stats.{planned_stats}
-use Rattle.run_model.specs.declared.event.SkipCounts.{SkipCounts}
-use Rattle.run_model.specs.declared.stats.RunStats.{RunStats}
-use Rattle.scene_fields.specs.Split.{cut, split_on}
-use Rattle.scene_fields.specs.Numbers.{number_in}
-use Rattle.scene_fields.specs.Values.{reason_in}
+use Rattle.{std.specs.List.list_any, std.specs.Option.option_and_then, std.specs.Option.option_map, run_model.specs.Stats.planned_stats, run_model.specs.declared.event.SkipCounts.SkipCounts, run_model.specs.declared.stats.RunStats.RunStats}
+use Rattle.std.proofs.Common.{refl, ◌≡◌, ◌==◌, ◌+◌, ℕ, List, [], ◌∷◌, Bool, true, false, if◌then◌else◌, get_or, slice_set, Option, None, Some, codes, bytes_eq, replicate}
+use Rattle.scene_fields.specs.{Split.cut, Split.split_on, Numbers.number_in, Values.reason_in}
 
 -- a key, and the value of its text, if it is a good one
 abbrev pub Row : Type 0 → Type 0

@@ -1,13 +1,8 @@
 -- The fields of a line from left to right: their value, or the first fault that is met.
 use Rattle.std.specs.Prelude.{◌≡◌, ℕ, ◌+◌, ◌%◌, List, [], ◌∷◌, ◌++◌, length, Bool, true, false, ◌==◌, ◌&&◌, nat_le, if◌then◌else◌, Option, None, Some, Result, Ok, Err, ⊤, ◌⊎◌}
-use Rattle.std.specs.Borrow.{Bor}
-use Rattle.scene_fields.specs.declared.fault.LineFault.{LineFault}
-use Rattle.scene_fields.specs.declared.fault.LineFault.TheVariants.{WrongNumberOfFields, BadField}
-use Rattle.scene_fields.specs.declared.fault.LineError.{LineError}
+use Rattle.{std.specs.Borrow.Bor, scene_fields.specs.Stored.placed, scene_fields.specs.Stored.stored_output_in}
+use Rattle.scene_fields.specs.declared.{fault.LineFault.LineFault, fault.LineError.LineError, stored.PlacedOutput.PlacedOutput, stored.StoredOutput.StoredOutput, fault.LineFault.TheVariants.WrongNumberOfFields, fault.LineFault.TheVariants.BadField}
 use Rattle.scene_fields.specs.declared.fault.LineError.TheVariants as error
-use Rattle.scene_fields.specs.Stored.{placed, stored_output_in}
-use Rattle.scene_fields.specs.declared.stored.PlacedOutput.{PlacedOutput}
-use Rattle.scene_fields.specs.declared.stored.StoredOutput.{StoredOutput}
 
 -- how many outputs of a line were read, and those of them that are stored
 pub record Noted : Type 0 where

@@ -1,8 +1,6 @@
 -- Lists of words, with `\,` between them.
 use Rattle.std.specs.Prelude.{ℕ, List, [], ◌∷◌, ◌++◌, Bool, false, ◌==◌, if◌then◌else◌, Option, None, Some, codes, bytes_eq}
-use Rattle.std.specs.Option.{option_map, option_and_then}
-use Rattle.run_model.specs.Names.{MessageAndCauses, OwnedTestInstanceId}
-use Rattle.scene_fields.specs.Texts.{escape_byte, unescaped_after}
+use Rattle.{std.specs.Option.option_map, std.specs.Option.option_and_then, run_model.specs.Names.MessageAndCauses, run_model.specs.Names.OwnedTestInstanceId, scene_fields.specs.Texts.escape_byte, scene_fields.specs.Texts.unescaped_after}
 
 abbrev pub Words : Type 0
 Words = List (List ℕ)

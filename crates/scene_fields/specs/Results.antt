@@ -1,16 +1,11 @@
 -- How an attempt ended, as a scene writes it.
 use Rattle.std.specs.Prelude.{ℕ, List, Bool, true, false, codes, bytes_eq, if◌then◌else◌, ℤ, Option, None, Some}
-use Rattle.std.specs.Option.{option_map}
-use Rattle.run_names.specs.declared.abort.AbortDescription.{AbortDescription}
-use Rattle.run_model.specs.declared.status.ExecutionResultDescription.{ExecutionResultDescription}
+use Rattle.{std.specs.Option.option_map, run_names.specs.declared.abort.AbortDescription.AbortDescription, run_model.specs.declared.status.ExecutionResultDescription.ExecutionResultDescription, scene_fields.specs.Split.cut, scene_fields.specs.Numbers.code_in, scene_fields.specs.Texts.unescaped}
 use Rattle.run_names.specs.declared.abort.AbortDescription.TheVariants as abort
 use Rattle.run_model.specs.declared.status.ExecutionResultDescription.TheVariants as outcome
 use Rattle.run_model.specs.declared.status.FailureDescription.TheVariants as failure
 use Rattle.run_model.specs.declared.status.LeakTimeoutResult.TheVariants as leak
 use Rattle.run_model.specs.declared.status.SlowTimeoutResult.TheVariants as slow
-use Rattle.scene_fields.specs.Split.{cut}
-use Rattle.scene_fields.specs.Numbers.{code_in}
-use Rattle.scene_fields.specs.Texts.{unescaped}
 
 -- a failure by an exit code, and one from outside
 abbrev pub exit_code : Bool → ℤ → ExecutionResultDescription

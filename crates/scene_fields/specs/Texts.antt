@@ -1,11 +1,6 @@
 -- Texts as a scene writes them, where a backslash begins an escape.
 use Rattle.std.specs.Prelude.{◌≡◌, ℕ, zero, suc, ◌+◌, ◌*◌, ◌≤◌, List, [], ◌∷◌, ◌++◌, ◌==◌, ◌&&◌, nat_lt, nat_le, if◌then◌else◌, Option, None, Some, string_bytes, drop, length, take}
-use Rattle.std.specs.Option.{option_and_then, option_map}
-use Rattle.std.specs.Borrow.{Bor}
-use Rattle.std.specs.Char.{digit_value}
-use Rattle.std.specs.declared.alloc.Global.{Global}
-use Rattle.std.specs.declared.borrow.CowStr.{CowStr}
-use Rattle.std.specs.declared.borrow.CowStr.TheVariants.{Borrowed, Owned}
+use Rattle.std.specs.{Option.option_and_then, Option.option_map, Borrow.Bor, Char.digit_value, declared.alloc.Global.Global, declared.borrow.CowStr.CowStr, declared.borrow.CowStr.TheVariants.Borrowed, declared.borrow.CowStr.TheVariants.Owned}
 use Rattle.scene_fields.specs.Split.{Lacks}
 
 -- the text that is borrowed or owned

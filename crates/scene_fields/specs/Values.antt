@@ -1,18 +1,13 @@
 -- The values of single fields of a scene.
 use Rattle.std.specs.Prelude.{ℕ, zero, suc, List, [], ◌∷◌, map, Bool, true, false, if◌then◌else◌, Option, None, Some, codes, bytes_eq}
-use Rattle.std.specs.Option.{option_map}
-use Rattle.std.specs.declared.num.NonZeroU32.{NonZeroU32}
+use Rattle.{std.specs.Option.option_map, std.specs.declared.num.NonZeroU32.NonZeroU32, run_model.specs.declared.status.FlakyResult.FlakyResult, scene_fields.specs.Split.cut, scene_fields.specs.Numbers.number_in, scene_fields.specs.declared.values.ConfigKey.ConfigKey}
 use native.Mathlib.Nat.{zero-lt-suc}
 use Rattle.run_model.specs.Names.{display_name, NextestRunMode, TestOutputDisplay, CancelReason, FinalStatusLevel, StressIndex}
-use Rattle.run_model.specs.declared.status.FlakyResult.{FlakyResult}
 use Rattle.run_names.specs.declared.config.NextestRunMode.TheVariants as mode
 use Rattle.run_names.specs.declared.config.TestOutputDisplay.TheVariants as display
 use Rattle.run_names.specs.declared.level.CancelReason.TheVariants as reason
 use Rattle.run_names.specs.declared.level.FinalStatusLevel.TheVariants as final
 use Rattle.run_model.specs.declared.status.FlakyResult.TheVariants as flaky
-use Rattle.scene_fields.specs.Split.{cut}
-use Rattle.scene_fields.specs.Numbers.{number_in}
-use Rattle.scene_fields.specs.declared.values.ConfigKey.{ConfigKey}
 use Rattle.scene_fields.specs.declared.values.ConfigKey.TheVariants as key
 
 -- the value whose word it is, of these words and their values

@@ -4,9 +4,7 @@
 //! means no pair at all. Each function returns None for a bad field.
 
 ghost use Rattle.std.specs.Prelude.{◌≡◌, ◌<◌, false, List, Option, IfSome};
-ghost use Rattle.std.specs.List.{list_any};
-ghost use Rattle.std.specs.Option.{option_map};
-ghost use Rattle.scene_fields.specs.Numbers.{number_in};
+ghost use Rattle.{std.specs.List.list_any, std.specs.Option.option_map, scene_fields.specs.Numbers.number_in};
 ghost use Rattle.scene_fields.specs.Counts.{Row, counts_in, has_space, pair_in, row_in, skips_in, skips_no_space, skips_rows, stats_in, stats_no_space, stats_rows};
 
 use super::numbers::read_count;

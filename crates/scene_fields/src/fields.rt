@@ -1,9 +1,7 @@
 //! A line of a scene, taken apart from left to right.
 
 ghost use Rattle.std.specs.Prelude.{◌≡◌, ◌+◌, ◌++◌, ◌≤◌, ◌%◌, ◌^◌, ◌==◌, ◌&&◌, [], ◌∷◌, MatchOption, MatchResult, None, OnOk, Some, drop, length, nat_le, Ok};
-ghost use Rattle.std.specs.Option.{ForSome, is_some};
-ghost use Rattle.scene_fields.specs.Split.{split_on, field_texts};
-ghost use Rattle.scene_fields.specs.declared.fault.LineFault.{LineFault};
+ghost use Rattle.{std.specs.Option.ForSome, std.specs.Option.is_some, scene_fields.specs.Split.split_on, scene_fields.specs.Split.field_texts, scene_fields.specs.declared.fault.LineFault.LineFault};
 ghost use Rattle.scene_fields.specs.Fields.{IsRightNumber, Noted, Place, ReadsBy, TriesBy, answered, next, next_stored, none_noted, noting, noted_outputs, taken_text, with_noted};
 
 use super::marks::{first_place, marks_from, shift_past};

@@ -4,9 +4,7 @@
 //! its end.
 
 ghost use Rattle.std.specs.Prelude.{◌≡◌, ◌≢◌, ◌++◌, ◌+◌, ◌-◌, ◌/◌, ◌^◌, ◌<◌, ◌≤◌, drop, length, min, replicate, take};
-ghost use Rattle.std.specs.Int.{trailing_zeros, w64};
-ghost use Rattle.memchr.specs.Find.{IsFirstByte, is_byte};
-ghost use Rattle.scene_fields.specs.Marks.{marks, marks_between};
+ghost use Rattle.{std.specs.Int.trailing_zeros, std.specs.Int.w64, memchr.specs.Find.IsFirstByte, memchr.specs.Find.is_byte, scene_fields.specs.Marks.marks, scene_fields.specs.Marks.marks_between};
 
 use std::simd::prelude::*;
 

@@ -4,8 +4,7 @@
 //! large output takes hardly more memory than its file has bytes.
 
 ghost use Rattle.std.specs.Prelude.{◌≡◌, ◌<◌, ◌+◌, true, false, IfOk, MatchOption, drop, length, slice_index, take};
-ghost use Rattle.std.specs.Str.{is_utf8};
-ghost use Rattle.scene_fields.specs.Split.{split_on};
+ghost use Rattle.{std.specs.Str.is_utf8, scene_fields.specs.Split.split_on};
 
 use bytes::BytesMut;
 use memchr::memchr;

@@ -4,8 +4,7 @@
 //! a text that byte is at most 7f; in the bytes that a test wrote it is any.
 
 ghost use Rattle.std.specs.Prelude.{◌≡◌, ◌≤◌, ◌<◌, ◌-◌, ◌+◌, ◌*◌, ◌==◌, Some, None, length, slice_index, string_bytes, IfOk, IfSome, MatchOption};
-ghost use Rattle.std.specs.Char.{digit_value};
-ghost use Rattle.std.specs.Option.{option_map, SomeIff};
+ghost use Rattle.std.specs.{Char.digit_value, Option.option_map, Option.SomeIff};
 ghost use Rattle.scene_fields.specs.Texts.{cow_text, AddsStretch, bytes_in, escape_byte, escape_len, text_in};
 
 use super::marks::find_byte;

@@ -4,8 +4,7 @@
 //! whole and its digits are read in place, while `counts` searches the `=` and the space of each pair and then its key.
 
 ghost use Rattle.std.specs.Prelude.{◌≡◌, Some, IfSome, MatchOption};
-ghost use Rattle.scene_fields.specs.Numbers.{HasNoNumberAfter, IsNumberAfter, IsNumberOrZero};
-ghost use Rattle.scene_fields.specs.Counts.{stats_in};
+ghost use Rattle.scene_fields.specs.{Numbers.HasNoNumberAfter, Numbers.IsNumberAfter, Numbers.IsNumberOrZero, Counts.stats_in};
 
 use super::numbers::leading_number;
 use run_model::stats::RunStats;

@@ -1,15 +1,10 @@
 -- The line after the line of a test whose process was aborted, on Windows.
 use Rattle.std.specs.Prelude.{ℤ, false, Option, None, Some, [], ◌++◌, codes}
-use Rattle.run_names.specs.declared.abort.AbortDescription.{AbortDescription}
-use Rattle.run_model.specs.declared.status.ExecutionResultDescription.{ExecutionResultDescription}
-use Rattle.run_model.specs.declared.status.FailureDescription.{FailureDescription}
-use Rattle.run_names.specs.declared.abort.AbortDescription.TheVariants.{UnixSignal, WindowsNtStatus, WindowsJobObject}
-use Rattle.run_model.specs.declared.status.ExecutionResultDescription.TheVariants as outcome
-use Rattle.run_model.specs.declared.status.FailureDescription.TheVariants.{ExitCode, Abort}
-use Rattle.report_text.specs.Failure.{nt_status_text}
-use Rattle.styled_text.specs.Names.{indent, Text, plain}
+use Rattle.run_names.specs.declared.abort.AbortDescription.{AbortDescription, TheVariants.UnixSignal, TheVariants.WindowsNtStatus, TheVariants.WindowsJobObject}
+use Rattle.run_model.specs.declared.status.{ExecutionResultDescription.ExecutionResultDescription, FailureDescription.FailureDescription, FailureDescription.TheVariants.ExitCode, FailureDescription.TheVariants.Abort}
+use Rattle.{report_text.specs.Failure.nt_status_text, report_text.proofs.lemmas.FreeDetails.free-hex_text, styled_text.specs.Names.indent, styled_text.specs.Names.Text, styled_text.specs.Names.plain}
 use Rattle.report_words.specs.Parts.{Parts, Fixed, Line, Lines, Count, Fail, none, words, toned, Toned, drawn_given, ◌⧺◌, plainly, loosely}
-use Rattle.report_text.proofs.lemmas.FreeDetails.{free-hex_text}
+use Rattle.run_model.specs.declared.status.ExecutionResultDescription.TheVariants as outcome
 
 -- the message of a status, if it is known: its later lines have the margin too, if they are not empty
 unfoldable pub indented_message : Text → Text

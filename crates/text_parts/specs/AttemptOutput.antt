@@ -2,23 +2,14 @@
 use Rattle.styled_text.specs.Names.{int_eq, Text, HasNoEscape}
 use Rattle.report_words.specs.Names.{Style, Styles, Parts, Line, Lines, none, words, Word, ◌⧺◌, choice, drawn_given_line}
 use Rattle.std.specs.Prelude.{pos, Bool, true, false, not, ◌&&◌, None, Some, [], codes, if◌then◌else◌, refl}
-use Rattle.run_model.specs.Names.{Written, UnitKind}
-use Rattle.run_model.specs.declared.status.ExecutionResultDescription.{ExecutionResultDescription}
-use Rattle.run_model.specs.declared.status.FailureDescription.{FailureDescription}
+use Rattle.run_model.specs.{Names.Written, Names.UnitKind, declared.status.ExecutionResultDescription.ExecutionResultDescription, declared.status.FailureDescription.FailureDescription, declared.status.FailureDescription.TheVariants.ExitCode, declared.status.FailureDescription.TheVariants.Abort}
+use Rattle.{report_words.specs.declared.theme.ThemeCharacters.ThemeCharacters, unit_report.proofs.lemmas.UnitColourPairs.ends-execution_output, text_parts.specs.InfoResult.info_text, text_parts.specs.declared.settings.Settings.Settings}
+use Rattle.unit_report.specs.{UnitOutput.OutputLayout, UnitOutput.execution_output, declared.unit_output.header.OutputHeader.OutputHeader, declared.unit_output.header.OutputHeader.TheVariants.Bars, declared.unit_output.header.OutputName.OutputName}
 use Rattle.run_model.specs.declared.status.ExecutionResultDescription.TheVariants as outcome
-use Rattle.run_model.specs.declared.status.FailureDescription.TheVariants.{ExitCode, Abort}
 use Rattle.run_model.specs.declared.status.LeakTimeoutResult.TheVariants as leak
 use Rattle.run_model.specs.declared.status.SlowTimeoutResult.TheVariants as slow
 use Rattle.run_names.specs.declared.unit.UnitKind.TheVariants as unit
-use Rattle.report_words.specs.declared.theme.ThemeCharacters.{ThemeCharacters}
-use Rattle.unit_report.specs.UnitOutput.{OutputLayout, execution_output}
-use Rattle.unit_report.proofs.lemmas.UnitColourPairs.{ends-execution_output}
-use Rattle.unit_report.specs.declared.unit_output.header.OutputHeader.{OutputHeader}
-use Rattle.unit_report.specs.declared.unit_output.header.OutputHeader.TheVariants.{Bars}
-use Rattle.unit_report.specs.declared.unit_output.header.OutputName.{OutputName}
 use Rattle.unit_report.specs.declared.unit_output.header.OutputName.TheVariants as name
-use Rattle.text_parts.specs.InfoResult.{info_text}
-use Rattle.text_parts.specs.declared.settings.Settings.{Settings}
 
 -- the style of the headers: that of retries, else from the result
 abbrev pub result_style : Styles → ExecutionResultDescription → Style

@@ -1,18 +1,12 @@
 -- When a finished test is shown: immediately, and at the end of the run.
-use Rattle.std.specs.Ordering.{int_eq}
+use Rattle.{std.specs.Ordering.int_eq, unit_report.specs.Overrides.display_for, text_parts.specs.declared.finish.OutputTiming.OutputTiming, text_parts.specs.declared.settings.Settings.Settings}
 use Rattle.std.specs.Prelude.{◌≡◌, ℕ, ◌<◌, pos, Bool, true, false, not, Some, ◌&&◌, ◌||◌, ◌==◌, nat_le, nat_lt, if◌then◌else◌}
 use Rattle.run_model.specs.Names.{is_immediate, is_final, final_rank, reason_rank, status_rank, final_level_of, status_level_of, AbortDescription, TestOutputDisplay}
-use Rattle.run_model.specs.declared.status.ExecutionResultDescription.{ExecutionResultDescription}
-use Rattle.run_model.specs.declared.status.FailureDescription.{FailureDescription}
-use Rattle.run_model.specs.declared.status.StatusSummary.{StatusSummary}
+use Rattle.run_model.specs.declared.status.{ExecutionResultDescription.ExecutionResultDescription, StatusSummary.StatusSummary, FailureDescription.FailureDescription, FailureDescription.TheVariants.ExitCode, FailureDescription.TheVariants.Abort}
 use Rattle.run_names.specs.declared.abort.AbortDescription.TheVariants.{UnixSignal, WindowsNtStatus, WindowsJobObject}
 use Rattle.run_names.specs.declared.level.CancelReason.TheVariants as cause
 use Rattle.run_model.specs.declared.status.ExecutionResultDescription.TheVariants as outcome
-use Rattle.run_model.specs.declared.status.FailureDescription.TheVariants.{ExitCode, Abort}
-use Rattle.unit_report.specs.Overrides.{display_for}
-use Rattle.text_parts.specs.declared.finish.OutputTiming.{OutputTiming}
 use Rattle.text_parts.specs.declared.finish.OutputTiming.TheVariants as row
-use Rattle.text_parts.specs.declared.settings.Settings.{Settings}
 
 -- the process was ended in the way of nextest: by signal 15, or with its job
 abbrev pub is_terminated_abort : AbortDescription → Bool

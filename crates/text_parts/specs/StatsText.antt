@@ -1,8 +1,6 @@
 -- The counts of a run in words, and their style.
 use Rattle.std.specs.Prelude.{ℕ, Bool, true, false, ◌&&◌, ◌==◌, codes, if◌then◌else◌, refl}
-use Rattle.run_model.specs.Stats.{has_failures}
-use Rattle.run_model.specs.declared.stats.RunStats.{RunStats}
-use Rattle.styled_text.specs.Names.{Text, HasNoEscape}
+use Rattle.{run_model.specs.Stats.has_failures, run_model.specs.declared.stats.RunStats.RunStats, styled_text.specs.Names.Text, styled_text.specs.Names.HasNoEscape}
 use Rattle.report_words.specs.Parts.{Fixed, Open, Tone, Pass, Fail, Skip, Count, none, words, Word, toned, number, ◌⧺◌, choice}
 
 -- the style of a run, by whether something in it has failed

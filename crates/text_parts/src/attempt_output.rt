@@ -1,11 +1,8 @@
 //! The output of a finished attempt or of a setup script, and how it ended.
 
 ghost use Rattle.std.specs.Prelude.{◌≡◌, true};
-ghost use Rattle.run_model.specs.Outputs.{has_loaded_output};
-ghost use Rattle.writers.specs.Writer.{Puts};
-ghost use Rattle.report_words.specs.Parts.{paint};
-ghost use Rattle.text_parts.specs.Names.{layout_of, attempt_output, exec_fail_header, finished_layout, has_info_after_failure, has_info_line, info_line_start, layout_in, output_margin, result_style};
-ghost use Rattle.text_parts.specs.Names.{script_output, stream_header, unit_output};
+ghost use Rattle.{run_model.specs.Outputs.has_loaded_output, writers.specs.Writer.Puts, report_words.specs.Parts.paint};
+ghost use Rattle.text_parts.specs.Names.{layout_of, attempt_output, exec_fail_header, finished_layout, has_info_after_failure, has_info_line, info_line_start, layout_in, output_margin, result_style, script_output, stream_header, unit_output};
 
 use crate::info_result::InfoResult;
 use crate::settings::Settings;

@@ -1,8 +1,7 @@
 //! The bar that separates the sections of a report.
 
 ghost use Rattle.std.specs.Prelude.{◌++◌, codes};
-ghost use Rattle.styled_text.specs.Style.{plain};
-ghost use Rattle.report_words.specs.Theme.{hbar_text};
+ghost use Rattle.{styled_text.specs.Style.plain, report_words.specs.Theme.hbar_text};
 
 use report_text::helpers::ThemeCharacters;
 use writers::text::WriteText;

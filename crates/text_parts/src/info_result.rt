@@ -1,8 +1,6 @@
 //! The result of an attempt, in words.
 
-ghost use Rattle.report_words.specs.Parts.{paint};
-ghost use Rattle.writers.specs.Writer.{Puts};
-ghost use Rattle.text_parts.specs.InfoResult.{abort_info, failure_info, info_text, leaked_note, signal_name};
+ghost use Rattle.{report_words.specs.Parts.paint, writers.specs.Writer.Puts, text_parts.specs.InfoResult.abort_info, text_parts.specs.InfoResult.failure_info, text_parts.specs.InfoResult.info_text, text_parts.specs.InfoResult.leaked_note, text_parts.specs.InfoResult.signal_name};
 
 use itoa::Buffer;
 use run_model::abort::{AbortDescription, DescriptionText};

@@ -1,10 +1,7 @@
 -- Captured output as a report shows it.
 use Rattle.std.specs.Prelude.{ℕ, ◌+◌, Bool, true, false, ◌&&◌, ◌||◌, ◌==◌, List, [], ◌∷◌, ◌++◌, Option, None, Some, length, slice_index, nat_le, nat_lt, take, drop, if◌then◌else◌}
 use Rattle.styled_text.specs.Names.{starts_with, without_trailing_newline, visible, highlight_end, plain, reset_color, Text}
-use Rattle.report_words.specs.Names.{Style, Styles}
-use Rattle.run_model.specs.Outputs.{Part}
-use Rattle.run_model.specs.declared.output.ByteSubslice.{ByteSubslice}
-use Rattle.unit_report.specs.HighlightedLines.{highlighted_lines}
+use Rattle.{report_words.specs.Names.Style, report_words.specs.Names.Styles, run_model.specs.Outputs.Part, run_model.specs.declared.output.ByteSubslice.ByteSubslice, unit_report.specs.HighlightedLines.highlighted_lines}
 
 -- without colour: no escape sequences, and one line feed at the end
 unfoldable pub plain_output : Text → Text

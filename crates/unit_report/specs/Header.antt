@@ -1,11 +1,7 @@
 -- The line before a stream.
 use Rattle.std.specs.Prelude.{ℕ, ◌++◌, Option, None, Some, codes}
-use Rattle.styled_text.specs.Names.{plain, styled, Text}
-use Rattle.report_words.specs.Theme.{hbar_text}
-use Rattle.report_words.specs.declared.theme.ThemeCharacters.{ThemeCharacters}
-use Rattle.unit_report.specs.declared.unit_output.header.OutputHeader.{OutputHeader}
-use Rattle.unit_report.specs.declared.unit_output.header.OutputHeader.TheVariants.{Bars, Label}
-use Rattle.unit_report.specs.declared.unit_output.header.OutputName.{OutputName}
+use Rattle.{styled_text.specs.Names.plain, styled_text.specs.Names.styled, styled_text.specs.Names.Text, report_words.specs.Theme.hbar_text, report_words.specs.declared.theme.ThemeCharacters.ThemeCharacters}
+use Rattle.unit_report.specs.declared.unit_output.header.{OutputHeader.OutputHeader, OutputHeader.TheVariants.Bars, OutputHeader.TheVariants.Label, OutputName.OutputName}
 use Rattle.unit_report.specs.declared.unit_output.header.OutputName.TheVariants.{Stdout, Stderr, Output, ExecFail, Errors}
 
 -- what a header calls the stream

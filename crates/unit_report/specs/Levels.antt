@@ -1,15 +1,11 @@
 -- The progress display and the levels of a report.
 use Rattle.std.specs.Prelude.{Bool, true, false, not, ◌&&◌, Some, unwrap_or, nat_lt, if◌then◌else◌}
 use Rattle.run_model.specs.Names.{status_rank, StatusLevel, FinalStatusLevel}
+use Rattle.unit_report.specs.declared.config.{ShowProgress.ShowProgress, ProgressDisplay.ProgressDisplay, StatusLevels.StatusLevels, ResolvedDisplay.ResolvedDisplay, DisplayConfig.DisplayConfig}
 use Rattle.run_names.specs.declared.level.StatusLevel.TheVariants as status
 use Rattle.run_names.specs.declared.level.FinalStatusLevel.TheVariants as final
-use Rattle.unit_report.specs.declared.config.ShowProgress.{ShowProgress}
 use Rattle.unit_report.specs.declared.config.ShowProgress.TheVariants as asked
-use Rattle.unit_report.specs.declared.config.ProgressDisplay.{ProgressDisplay}
 use Rattle.unit_report.specs.declared.config.ProgressDisplay.TheVariants as shown
-use Rattle.unit_report.specs.declared.config.StatusLevels.{StatusLevels}
-use Rattle.unit_report.specs.declared.config.ResolvedDisplay.{ResolvedDisplay}
-use Rattle.unit_report.specs.declared.config.DisplayConfig.{DisplayConfig}
 
 -- each level is asked for, and is the profile's as well
 abbrev pub overridden : ShowProgress → Bool → StatusLevel → FinalStatusLevel → DisplayConfig

@@ -1,10 +1,7 @@
 -- Whose setting decides when a test's output is shown.
-use Rattle.std.specs.Prelude.{Bool, true, false, unwrap_or, if◌then◌else◌}
-use Rattle.run_model.specs.Names.{is_success_case, TestOutputDisplay}
-use Rattle.run_model.specs.declared.status.ExecutionResultDescription.{ExecutionResultDescription}
-use Rattle.run_model.specs.declared.status.StatusSummary.{StatusSummary}
+use Rattle.{std.specs.Prelude.Bool, std.specs.Prelude.true, std.specs.Prelude.false, std.specs.Prelude.unwrap_or, std.specs.Prelude.if◌then◌else◌, unit_report.specs.declared.unit_output.overrides.OutputDisplayOverrides.OutputDisplayOverrides}
+use Rattle.run_model.specs.{Names.is_success_case, Names.TestOutputDisplay, declared.status.ExecutionResultDescription.ExecutionResultDescription, declared.status.StatusSummary.StatusSummary}
 use Rattle.run_model.specs.declared.status.ExecutionResultDescription.TheVariants as outcome
-use Rattle.unit_report.specs.declared.unit_output.overrides.OutputDisplayOverrides.{OutputDisplayOverrides}
 
 -- the process could not be started
 abbrev pub is_exec_fail : ExecutionResultDescription → Bool

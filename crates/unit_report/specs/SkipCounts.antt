@@ -1,12 +1,9 @@
 -- How many tests and binaries a run skips, and why.
 use Rattle.std.specs.Prelude.{ℕ, ◌-◌, Bool, false, ◌++◌, ◌&&◌, ◌||◌, ◌==◌, codes}
-use Rattle.run_model.specs.Names.{NextestRunMode, CompiledDefaultFilter, CompiledDefaultFilterSection}
-use Rattle.run_model.specs.declared.event.SkipCounts.{SkipCounts}
-use Rattle.run_names.specs.declared.config.NextestRunMode.TheVariants.{Test, Benchmark}
-use Rattle.run_names.specs.declared.config.CompiledDefaultFilterSection.TheVariants.{Profile, Override}
+use Rattle.run_model.specs.{Names.NextestRunMode, Names.CompiledDefaultFilter, Names.CompiledDefaultFilterSection, declared.event.SkipCounts.SkipCounts}
+use Rattle.run_names.specs.declared.config.{NextestRunMode.TheVariants.Test, NextestRunMode.TheVariants.Benchmark, CompiledDefaultFilterSection.TheVariants.Profile, CompiledDefaultFilterSection.TheVariants.Override}
 use Rattle.report_words.specs.Names.{tests_word, binaries_word, Parts, Fixed, Open, Count, Skip, none, words, Word, toned, number, given_toned, ◌⧺◌, choice}
-use Rattle.report_words.proofs.lemmas.FreeWords.{free-tests_word_if, free-binaries_word}
-use Rattle.styled_text.specs.Texts.{Text}
+use Rattle.{report_words.proofs.lemmas.FreeWords.free-tests_word_if, report_words.proofs.lemmas.FreeWords.free-binaries_word, styled_text.specs.Texts.Text}
 
 -- the tests that are skipped, in benchmark mode without those that are no benchmarks
 abbrev pub skipped_tests_in : NextestRunMode → SkipCounts → ℕ

@@ -1,10 +1,7 @@
 -- The words for units.
-use Rattle.std.specs.Prelude.{codes, refl}
-use Rattle.run_model.specs.Names.{NextestRunMode, UnitKind}
+use Rattle.{std.specs.Prelude.codes, std.specs.Prelude.refl, run_model.specs.Names.NextestRunMode, run_model.specs.Names.UnitKind, styled_text.specs.Names.HasNoEscape, styled_text.specs.Names.Text, report_words.specs.Parts.Fixed, report_words.specs.Parts.Open, report_words.specs.Parts.Verbatim}
 use Rattle.run_names.specs.declared.config.NextestRunMode.TheVariants as mode
 use Rattle.run_names.specs.declared.unit.UnitKind.TheVariants as kind
-use Rattle.styled_text.specs.Names.{HasNoEscape, Text}
-use Rattle.report_words.specs.Parts.{Fixed, Open, Verbatim}
 
 unfoldable pub unit_word : NextestRunMode → UnitKind → Text
 unit_word mode.Test kind.Test = codes "test"

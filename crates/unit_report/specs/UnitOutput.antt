@@ -1,24 +1,12 @@
 -- What is shown of the output of a test or a setup script.
 use Rattle.std.specs.Prelude.{Bool, true, false, not, ◌||◌, ◌==◌, [], ◌∷◌, ◌++◌, length, Option, None, Some, codes, if◌then◌else◌}
-use Rattle.styled_text.specs.Names.{option_and_then, indent, plain, styled, Text}
-use Rattle.styled_text.specs.declared.style.Styles.{Styles}
+use Rattle.styled_text.specs.{Names.option_and_then, Names.indent, Names.plain, Names.styled, Names.Text, declared.style.Styles.Styles}
 use Rattle.run_model.specs.Names.{MessageAndCauses, Part, stdout_part, stderr_part, combined_part, UnitKind, decoded_text}
-use Rattle.run_model.specs.declared.output.ChildExecutionOutputDescription.{ChildExecutionOutputDescription}
-use Rattle.run_model.specs.declared.output.ChildOutputDescription.{ChildOutputDescription}
-use Rattle.run_model.specs.declared.output.Highlight.{Highlight}
-use Rattle.run_model.specs.declared.output.LiveSpec.{LiveSpec}
-use Rattle.run_model.specs.declared.output.ChildExecutionOutputDescription.TheVariants.{Output, StartError}
-use Rattle.run_model.specs.declared.output.ChildOutputDescription.TheVariants.{Split, Combined, NotLoaded}
-use Rattle.unit_report.specs.Captured.{captured}
-use Rattle.unit_report.specs.ErrorChain.{error_chain_text}
-use Rattle.unit_report.specs.Header.{header_text, output_name_text}
-use Rattle.unit_report.specs.declared.unit_output.DisplayerKind.{DisplayerKind}
-use Rattle.unit_report.specs.declared.unit_output.DisplayerKind.TheVariants.{Live, Replay}
-use Rattle.unit_report.specs.declared.unit_output.header.OutputHeader.{OutputHeader}
-use Rattle.unit_report.specs.declared.unit_output.header.OutputName.{OutputName}
+use Rattle.run_model.specs.declared.output.ChildExecutionOutputDescription.{ChildExecutionOutputDescription, TheVariants.Output, TheVariants.StartError}
+use Rattle.run_model.specs.declared.output.{ChildOutputDescription.ChildOutputDescription, Highlight.Highlight, LiveSpec.LiveSpec, ChildOutputDescription.TheVariants.Split, ChildOutputDescription.TheVariants.Combined, ChildOutputDescription.TheVariants.NotLoaded}
+use Rattle.unit_report.specs.{Captured.captured, ErrorChain.error_chain_text, Header.header_text, Header.output_name_text}
+use Rattle.unit_report.specs.declared.unit_output.{DisplayerKind.DisplayerKind, DisplayerKind.TheVariants.Live, DisplayerKind.TheVariants.Replay, header.OutputHeader.OutputHeader, header.OutputName.OutputName, reporter.ChildOutputSpec.ChildOutputSpec, reporter.UnitOutputReporter.UnitOutputReporter}
 use Rattle.unit_report.specs.declared.unit_output.header.OutputName.TheVariants as name
-use Rattle.unit_report.specs.declared.unit_output.reporter.ChildOutputSpec.{ChildOutputSpec}
-use Rattle.unit_report.specs.declared.unit_output.reporter.UnitOutputReporter.{UnitOutputReporter}
 
 -- how the output of a unit is laid out: the lines before its parts, and what precedes each line that is not empty
 pub record OutputLayout : Type 0 where

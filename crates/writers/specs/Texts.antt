@@ -1,7 +1,5 @@
 -- Texts. A text is the list of the bytes of its UTF-8.
-use Rattle.std.specs.Prelude.{ℕ, List}
-use Rattle.std.specs.List.{flat_map}
-use Rattle.std.specs.Borrow.{Bor}
+use Rattle.std.specs.{Prelude.ℕ, Prelude.List, List.flat_map, Borrow.Bor}
 
 abbrev pub Text : Type 0
 Text = List ℕ

@@ -4,9 +4,7 @@
 //! or a file is always a prefix of the intended text.
 
 ghost use Rattle.std.specs.Prelude.{◌≡◌, [], OnOk, encode_utf8};
-ghost use Rattle.writers.specs.StringWriter.{string_meaning, string_laws};
-ghost use Rattle.writers.specs.Texts.{strs};
-ghost use Rattle.writers.specs.Writer.{Meaning, WriterLaws, Puts};
+ghost use Rattle.writers.specs.{StringWriter.string_meaning, StringWriter.string_laws, Texts.strs, Writer.Meaning, Writer.WriterLaws, Writer.Puts};
 
 mod delivery;
 mod on_formatter;

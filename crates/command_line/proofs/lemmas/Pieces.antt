@@ -1,10 +1,7 @@
 -- A text that is taken in pieces of whole lines (for `next_piece`, `take_at_hand`).
 use Rattle.std.proofs.Common.{◌≡◌, ℕ, zero, suc, ◌+◌, ◌<◌, Bool, true, false, List, [], ◌∷◌, ◌++◌, Option, None, Some, length, get_or, take, drop, refl, sym, ap, ◌∙◌, subst, arith, append_assoc, inl, inr, not, ◌==◌, if◌then◌else◌}
 use native.Mathlib.Numerals.{unary_clauses}
-use Rattle.std.specs.Io.KnownBytes.{Keeps, prepend_known}
-use Rattle.std.proofs.lemmas.Bool.Decides.{nat_tests}
-use Rattle.memchr.specs.Find.{IsLastByte, is_byte}
-use Rattle.command_line.specs.Pieces.{IsBehind, IsNextPiece}
+use Rattle.{std.specs.Io.KnownBytes.Keeps, std.specs.Io.KnownBytes.prepend_known, std.proofs.lemmas.Bool.Decides.nat_tests, memchr.specs.Find.IsLastByte, memchr.specs.Find.is_byte, command_line.specs.Pieces.IsBehind, command_line.specs.Pieces.IsNextPiece}
 use Rattle.command_line.specs.declared.pieces.Chunk.TheVariants as taken
 
 -- what a reader has buffered is a prefix of what is left, if that is known

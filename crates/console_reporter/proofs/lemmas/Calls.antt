@@ -1,14 +1,9 @@
 -- Calls in sequence (for `DisplayReporter::make_calls`, `DisplayReporter::report_event`, `run_report`, `write_delivered`).
-use Rattle.std.proofs.Common.{◌≡◌, ℕ, ◌+◌, ◌<◌, ◌≤◌, List, [], ◌∷◌, ◌++◌, length, reverse, take, get_or, sym, ap, ◌∙◌, subst, Result, Ok, Err, IfErr, OnOk, Some, ◌⊎◌, inl, inr, refl, append-nil}
+use Rattle.std.proofs.Common.{◌≡◌, ℕ, ◌+◌, ◌<◌, ◌≤◌, List, [], ◌∷◌, ◌++◌, length, reverse, take, get_or, sym, ap, ◌∙◌, subst, Result, Ok, Err, IfErr, OnOk, Some, ◌⊎◌, inl, inr, refl, append-nil, take_all}
 use Rattle.styled_text.specs.Names.{IsErrOf, Meaning, WriterLaws, successor, WriteFault}
-use Rattle.std.proofs.lemmas.List.{take_more, take_all, reverse-append}
-use Rattle.reporter_state.specs.declared.faults.WriteEventError.{WriteEventError}
-use Rattle.reporter_state.specs.declared.faults.RunFault.{RunFault}
+use Rattle.{std.proofs.lemmas.List.take_more, std.proofs.lemmas.List.reverse-append, reporter_state.specs.declared.faults.RunFault.RunFault, run_model.specs.declared.call.ReportCall.TheVariants.Event, text_parts.specs.Names.TestEvent, text_parts.specs.Names.ReportCall}
 use Rattle.reporter_state.specs.declared.faults.WriteEventError.TheVariants.{RetriedSuccess, OutputNotLoaded, Io, Memory, Failed, StoreIo}
-use Rattle.console_reporter.specs.Names.{AreAccepted, IsAccepted, store_meaning, past_at, text, stored_text, Breaks, Configuration, IsOfConsole, Side, Stops, error_for, Report, Records, MayGrow}
-use Rattle.console_reporter.specs.Names.{StandsAfter, DisplayReporter}
-use Rattle.text_parts.specs.Names.{TestEvent, ReportCall}
-use Rattle.run_model.specs.declared.call.ReportCall.TheVariants.{Event}
+use Rattle.console_reporter.specs.Names.{AreAccepted, IsAccepted, store_meaning, past_at, text, stored_text, Breaks, Configuration, IsOfConsole, Side, Stops, error_for, Report, Records, MayGrow, StandsAfter, DisplayReporter, WriteEventError}
 use Rattle.writers.specs.declared.write_str.WriteFault.TheVariants.{Device, Memory as RefusedMemory}
 
 -- one more call is accepted

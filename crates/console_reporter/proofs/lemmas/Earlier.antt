@@ -1,20 +1,13 @@
 -- No report and no record depends on the output of attempts before the last one (for `RecordedRun::replay`).
-use Rattle.std.proofs.Common.{◌≡◌, ℕ, Bool, false, Option, None, Some, List, [], ◌∷◌, ◌++◌, map, reverse, not, codes, if◌then◌else◌, refl, sym, ap, ap₂, subst, ◌∙◌}
+use Rattle.std.proofs.Common.{◌≡◌, ℕ, false, Option, None, Some, List, [], ◌∷◌, ◌++◌, map, reverse, not, codes, if◌then◌else◌, refl, sym, ap, ap₂, subst, ◌∙◌}
 use Rattle.styled_text.specs.Names.{position_or_len, slice_get, is_some, option_and_then, option_map, option_map_or}
-use Rattle.std.proofs.lemmas.Option.{slice_get-map}
-use Rattle.std.proofs.lemmas.List.{length-map}
+use Rattle.{std.proofs.lemmas.Option.slice_get-map, std.proofs.lemmas.List.length-map, run_model.specs.declared.event.TestEventKind.TheVariants.TestFinished, report_words.specs.Parts.paint, reporter_state.specs.declared.faults.WriteEventError.TheVariants.OutputNotLoaded}
 use Rattle.run_model.specs.Names.{Attempts, Written, has_loaded_output, summary_of, unloaded_attempt, TestOutputDisplay, TestInstanceId, StressIndex, Nanos}
 use Rattle.text_parts.specs.Names.{TestEventKind, ChildOutputDescription, LiveSpec, RunStats, StatusSummary, ReportCall, short_word, display_of}
-use Rattle.run_model.specs.declared.event.TestEventKind.TheVariants.{TestFinished}
-use Rattle.reporter_state.specs.Names.{Settings, netstring, record_text, is_stored, stored_output, written_text, StoreConfig, FinishReport, test_finish, test_finished_text, AreAcceptedBy}
-use Rattle.reporter_state.specs.Names.{event_refusal, refusal_by, kept_entry, Finished, loads_finish}
-use Rattle.reporter_state.specs.declared.decider.OutputLoadDecider.{OutputLoadDecider}
-use Rattle.report_words.specs.Parts.{paint}
-use Rattle.console_reporter.specs.Names.{event_text, record_of, records, stored, stored_text, Configuration, settings_of, IsIsolated}
-use Rattle.reporter_state.specs.declared.faults.WriteEventError.TheVariants.{OutputNotLoaded}
+use Rattle.reporter_state.specs.Names.{Settings, netstring, record_text, is_stored, stored_output, written_text, StoreConfig, FinishReport, test_finish, test_finished_text, AreAcceptedBy, event_refusal, refusal_by, kept_entry, Finished, loads_finish}
+use Rattle.console_reporter.specs.Names.{event_text, record_of, records, stored, stored_text, Configuration, settings_of, IsIsolated, OutputLoadDecider}
 use Rattle.run_model.specs.declared.call.ReportCall.TheVariants.{Event, Header, Prefix}
-use Rattle.console_reporter.proofs.lemmas.Isolation.{map_reverse}
-use Rattle.console_reporter.proofs.lemmas.Same.{AreSame, IsSameEvent, same-call, same-event, same-itself, same-report}
+use Rattle.console_reporter.proofs.lemmas.{Isolation.map_reverse, Same.AreSame, Same.IsSameEvent, Same.same-call, Same.same-event, Same.same-itself, Same.same-report}
 
 -- the attempts, and the event, with the output of the last one alone
 abbrev pub last_alone : Attempts LiveSpec ChildOutputDescription → Attempts LiveSpec ChildOutputDescription

@@ -1,37 +1,21 @@
 -- What is observed is loaded, and in an uninterrupted run what is loaded is observed (for `DisplayReporter::output_load_decider`).
+use Rattle.text_parts.specs.Names.{TestEvent, TestEventKind, ChildOutputDescription, LiveSpec, LoadOutput, RunStats, SetupScriptExecuteStatus, StatusSummary, ReportCall, short_word, display_of, is_final_wanted, timed_at_end, timed_at_once, timed_listed, padded_instance, Script, finished_counter}
+use Rattle.reporter_state.specs.Names.{netstring, netstring_head, record_text, is_stored, stored_output, StoreConfig, line_at_once, output_at_once, test_finished_text, attempt_failed_line, attempt_failed_text, delay_line, failed_output, is_failed_output_shown, status_line, decider_by, entry_of}
+use Rattle.console_reporter.specs.Names.{not_seen_text, run_finished_text, failed_script_output, setup_script_finished_text, setup_script_line, decider_of, AreUninterrupted, is_end_of_run, Configuration, settings_of, IsExact, IsObserved, IsSeen, IsStoredThere, combined, with_output, writing}
+use Rattle.{text_parts.specs.Names.is_level_shown, text_parts.specs.Names.final_warnings, run_model.specs.declared.output_event.LoadOutput.TheVariants.Load, run_model.specs.declared.output_event.LoadOutput.TheVariants.Skip}
+use Rattle.reporter_state.specs.Names.{final_output, cancel, final_order, final_text, borrowed_test, kept_test, decision, is_stored_by, load_if, loads_attempt, loads_script, is_skip, Settings}
+use Rattle.console_reporter.specs.Names.{event_text, listed_text, script_by, text, report_texts, record_of, records, stored_text, OutputLoadDecider}
 use Rattle.std.proofs.Common.{◌≢◌, ◌≡◌, ℕ, Bool, true, false, List, [], ◌∷◌, ◌++◌, Option, None, Some, refl, sym, ap, ◌∙◌, reverse, append_assoc, inl, inr, codes, arith, lit<, subst, ◌<◌, ◌||◌, get_or}
 use Rattle.styled_text.specs.Names.{flat_map, option_to_list, digits, Text}
-use Rattle.std.proofs.lemmas.Str.{IsUtf8-from_ascii}
-use Rattle.std.proofs.lemmas.Bool.{false≢true, and_parts, not-true, or_cases}
-use Rattle.std.proofs.lemmas.Grind.{flat_map-append}
-use Rattle.std.proofs.lemmas.List.{append_cancel_left, append_cancel_right, reverse-append, same_from_push}
-use Rattle.run_model.specs.Names.{Attempt, Attempts, Written, is_final, is_immediate, case_of, is_success, summary_of, unloaded_event, unloaded_kind, TestOutputDisplay, TestInstanceId, StressIndex}
-use Rattle.run_model.specs.Names.{Nanos, final_stats_of_run}
-use Rattle.text_parts.specs.Names.{TestEvent, TestEventKind, ChildOutputDescription, LiveSpec, LoadOutput, RunStats, SetupScriptExecuteStatus, StatusSummary, ReportCall, short_word, display_of}
-use Rattle.text_parts.specs.Names.{is_final_wanted, timed_at_end, timed_at_once, timed_listed, padded_instance, Script, finished_counter, is_level_shown, final_warnings}
+use Rattle.std.proofs.lemmas.{Str.IsUtf8-from_ascii, Grind.flat_map-append, Bool.false≢true, Bool.and_parts, Bool.not-true, Bool.or_cases, List.append_cancel_left, List.append_cancel_right, List.reverse-append, List.same_from_push}
+use Rattle.run_model.specs.Names.{Attempt, Attempts, Written, is_final, is_immediate, case_of, is_success, summary_of, unloaded_event, unloaded_kind, TestOutputDisplay, TestInstanceId, StressIndex, Nanos, final_stats_of_run}
+use Rattle.reporter_state.{proofs.lemmas.Places.entry_with, proofs.lemmas.Places.text-place, specs.declared.final_output.FinalOutputEntry.FinalOutputEntry, specs.declared.kept_test.KeptTest.KeptTest}
 use Rattle.run_model.specs.declared.event.TestEventKind.TheVariants.{SetupScriptFinished, TestAttemptFailedWillRetry, TestFinished, RunFinished}
-use Rattle.run_names.specs.declared.level.StatusLevel.TheVariants as level
-use Rattle.run_model.specs.declared.output_event.LoadOutput.TheVariants.{Load, Skip}
-use Rattle.run_names.specs.declared.unit.UnitKind.TheVariants as unit
-use Rattle.run_model.proofs.lemmas.Decoded.{decoded-same}
-use Rattle.reporter_state.specs.Names.{netstring, netstring_head, record_text, is_stored, stored_output, StoreConfig, line_at_once, output_at_once, test_finished_text, attempt_failed_line}
-use Rattle.reporter_state.specs.Names.{attempt_failed_text, delay_line, failed_output, is_failed_output_shown, status_line, decider_by, entry_of, final_output, cancel, final_order, final_text}
-use Rattle.reporter_state.specs.Names.{borrowed_test, kept_test, decision, is_stored_by, load_if, loads_attempt, loads_script, is_skip, Settings}
-use Rattle.reporter_state.specs.declared.decider.OutputLoadDecider.{OutputLoadDecider}
-use Rattle.reporter_state.specs.declared.final_output.FinalOutputEntry.{FinalOutputEntry}
-use Rattle.reporter_state.specs.declared.kept_test.KeptTest.{KeptTest}
-use Rattle.text_parts.proofs.lemmas.Finishes.{row_below}
-use Rattle.test_text.specs.declared.status_line.StatusLineKind.TheVariants.{Final}
-use Rattle.console_reporter.specs.Names.{not_seen_text, run_finished_text, failed_script_output, setup_script_finished_text, setup_script_line, decider_of, AreUninterrupted, is_end_of_run}
-use Rattle.console_reporter.specs.Names.{Configuration, settings_of, IsExact, IsObserved, IsSeen, IsStoredThere, combined, with_output, writing, event_text, listed_text, script_by, text, report_texts}
-use Rattle.console_reporter.specs.Names.{record_of, records, stored_text}
-use Rattle.report_words.specs.Parts.{◌⧺◌, paint}
-use Rattle.run_model.specs.declared.call.ReportCall.TheVariants.{Event}
+use Rattle.{run_model.proofs.lemmas.Decoded.decoded-same, run_model.specs.declared.call.ReportCall.TheVariants.Event, text_parts.proofs.lemmas.Finishes.row_below, test_text.specs.declared.status_line.StatusLineKind.TheVariants.Final, report_words.specs.Parts.◌⧺◌, report_words.specs.Parts.paint}
 use Rattle.console_reporter.proofs.lemmas.UninterruptedRuns.{uninterrupted_back, uninterrupted_both, uninterrupted_end, uninterrupted_entries, uninterrupted_front, uninterrupted_past, listing}
-use Rattle.console_reporter.proofs.lemmas.Isolation.{same-record, same-unloaded}
-use Rattle.console_reporter.proofs.lemmas.OtherOutputs.{ascii, outputs_differ}
-use Rattle.reporter_state.proofs.lemmas.Places.{entry_with, text-place}
-use Rattle.console_reporter.proofs.lemmas.Same.{reverse-middle, same-but-one}
+use Rattle.console_reporter.proofs.lemmas.{Isolation.same-record, Isolation.same-unloaded, Same.reverse-middle, Same.same-but-one, OtherOutputs.ascii, OtherOutputs.outputs_differ}
+use Rattle.run_names.specs.declared.level.StatusLevel.TheVariants as level
+use Rattle.run_names.specs.declared.unit.UnitKind.TheVariants as unit
 
 abbrev wrote_a : Written
 wrote_a = combined (codes "a")

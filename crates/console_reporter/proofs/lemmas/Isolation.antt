@@ -1,28 +1,18 @@
 -- What the decider skips is not shown (for `unload_skipped`, `DisplayReporter::output_load_decider`).
+use Rattle.reporter_state.specs.Names.{OutputTiming, Settings, netstring, record_text, is_stored, stored_output, StoreConfig, FinishReport, line_at_once, output_at_once, test_finish, test_finished_text, attempt_failed_text, attempt_failed_line, failed_output, is_failed_output_shown, AreAcceptedBy}
+use Rattle.reporter_state.specs.Names.{decider_by, event_refusal, first_refused, refusal_at_by, refusal_by, final_output, is_kept, kept_entry, Finished, kept_test, load_if, loads_attempt, loads_finish, loads_script, is_skip, is_skipped, unread, unread_call}
 use Rattle.std.proofs.Common.{◌≡◌, ℕ, Bool, true, false, not, Option, None, Some, List, [], ◌∷◌, ◌++◌, map, reverse, if◌then◌else◌, refl, sym, ap, ap₂, subst, ◌∙◌, inl, inr, codes, ◌||◌}
 use Rattle.styled_text.specs.Names.{position_or_len, slice_get, is_some, option_and_then, option_map, option_map_or}
-use Rattle.std.proofs.lemmas.Bool.{cases_Bool, false≢true}
-use Rattle.std.proofs.lemmas.List.{length-map, map-append, reverse-append}
-use Rattle.std.proofs.lemmas.Option.{slice_get-map}
-use Rattle.run_model.specs.Names.{Attempt, Attempts, Written, is_immediate, is_final, has_loaded_output, case_of, is_success, summary_of, unloaded_attempt, unloaded_attempts, unloaded_event}
-use Rattle.run_model.specs.Names.{unloaded_kind, unloaded_script, TestOutputDisplay, TestInstanceId, StressIndex, Nanos}
-use Rattle.text_parts.specs.Names.{TestEventKind, ChildOutputDescription, LiveSpec, RunStats, SetupScriptExecuteStatus, StatusSummary, ReportCall, display_for, short_word, display_of, is_ever_shown}
-use Rattle.text_parts.specs.Names.{timed_at_end, timed_at_once, is_level_shown, Script}
+use Rattle.std.proofs.lemmas.{Bool.cases_Bool, Bool.or_parts, Bool.false≢true, Option.slice_get-map, List.length-map, List.map-append, List.reverse-append}
+use Rattle.run_model.specs.Names.{Attempt, Attempts, Written, is_immediate, is_final, has_loaded_output, case_of, is_success, summary_of, unloaded_attempt, unloaded_attempts, unloaded_event, unloaded_kind, unloaded_script, TestOutputDisplay, TestInstanceId, StressIndex, Nanos}
+use Rattle.text_parts.specs.Names.{TestEventKind, ChildOutputDescription, LiveSpec, RunStats, SetupScriptExecuteStatus, StatusSummary, ReportCall, display_for, short_word, display_of, is_ever_shown, timed_at_end, timed_at_once, is_level_shown, Script}
 use Rattle.run_model.specs.declared.event.TestEventKind.TheVariants.{SetupScriptFinished, TestAttemptFailedWillRetry, TestFinished}
-use Rattle.run_names.specs.declared.level.StatusLevel.TheVariants as level
-use Rattle.reporter_state.specs.Names.{OutputTiming, Settings, netstring, record_text, is_stored, stored_output, StoreConfig, FinishReport, line_at_once, output_at_once, test_finish}
-use Rattle.reporter_state.specs.Names.{test_finished_text, attempt_failed_text, attempt_failed_line, failed_output, is_failed_output_shown, AreAcceptedBy, decider_by, event_refusal, first_refused}
-use Rattle.reporter_state.specs.Names.{refusal_at_by, refusal_by, final_output, is_kept, kept_entry, Finished, kept_test, load_if, loads_attempt, loads_finish, loads_script, is_skip, is_skipped}
-use Rattle.reporter_state.specs.Names.{unread, unread_call}
-use Rattle.reporter_state.specs.declared.final_output.FinalOutput.{FinalOutput}
-use Rattle.reporter_state.specs.declared.decider.OutputLoadDecider.{OutputLoadDecider}
+use Rattle.{reporter_state.specs.declared.final_output.FinalOutput.FinalOutput, report_words.specs.Parts.paint, reporter_state.specs.declared.faults.WriteEventError.TheVariants.OutputNotLoaded, reporter_state.specs.declared.faults.WriteEventError.TheVariants.RetriedSuccess}
 use Rattle.text_parts.specs.declared.finish.OutputTiming.TheVariants.{Hidden, Shown, ShownOnce}
-use Rattle.report_words.specs.Parts.{paint}
-use Rattle.console_reporter.specs.Names.{failed_script_output, setup_script_finished_text, decider_of, Configuration, settings_of, IsIsolated, event_text, script_by, record_of, records, stored}
-use Rattle.console_reporter.specs.Names.{stored_text}
+use Rattle.console_reporter.specs.Names.{failed_script_output, setup_script_finished_text, decider_of, Configuration, settings_of, IsIsolated, event_text, script_by, record_of, records, stored, stored_text, OutputLoadDecider}
 use Rattle.run_model.specs.declared.call.ReportCall.TheVariants.{Event, Header, Prefix}
-use Rattle.reporter_state.specs.declared.faults.WriteEventError.TheVariants.{OutputNotLoaded, RetriedSuccess}
 use Rattle.console_reporter.proofs.lemmas.Same.{AreSame, IsSameEvent, same-call, same-event, same-itself, same-report}
+use Rattle.run_names.specs.declared.level.StatusLevel.TheVariants as level
 
 -- the decision is Skip
 not_loaded : (b : Bool) → is_skip (Some (load_if b)) ≡ true → b ≡ false
@@ -106,11 +96,6 @@ unfolding setup_script_finished_text failed_script_output
 never-script s script x never =
     elim (cases_Bool (is_success x.result)) [ inl y ↦ rw y refl | inr n ↦ absurd (false≢true (sym (rw n at never))) ]
 
--- what is neither shown nor kept
-neither : (a b : Bool) → (a || b) ≡ false → (a ≡ false) × (b ≡ false)
-neither false b h = (refl, h)
-neither true b h = absurd (false≢true (sym h))
-
 -- an event whose output the decider skips is the same without it
 pub same-unloaded : (s : Settings) (store : Option StoreConfig) (elapsed : Nanos) (e : TestEventKind) → is_skipped (decider_by s store) e ≡ true →
     IsSameEvent s (record { elapsed = elapsed; kind = e }) (record { elapsed = elapsed; kind = unloaded_kind e })
@@ -126,7 +111,7 @@ same-unloaded s store elapsed (TestAttemptFailedWillRetry stress test status del
   text = λ known. never-attempt s stress test status delay.0 failure (not_loaded (loads_attempt (decider_by s store) failure) h);
 }
 same-unloaded s store elapsed (TestFinished stress test success failure statuses stats) h =
-    same-finish s stress test success failure statuses stats (neither _ _ (not_loaded (loads_finish (decider_by s store) success failure (summary_of statuses)) h)).0 elapsed
+    same-finish s stress test success failure statuses stats (or_parts _ _ (not_loaded (loads_finish (decider_by s store) success failure (summary_of statuses)) h)).0 elapsed
 same-unloaded s store elapsed other h = absurd (false≢true h)
 
 -- calls are the same without the outputs that the decider skips
@@ -210,7 +195,7 @@ pub same-record : (s : Settings) (store : Option StoreConfig) (e : TestEventKind
 unfolding record_text
 same-record s None e h = refl
 same-record s (Some store) (TestFinished stress test success failure statuses stats) h =
-    let never = (neither _ _ (not_loaded (loads_finish (decider_by s (Some store)) success failure (summary_of statuses)) h)).1 in
+    let never = (or_parts _ _ (not_loaded (loads_finish (decider_by s (Some store)) success failure (summary_of statuses)) h)).1 in
     let also = ap (λ (x : StatusSummary). is_stored store x.case) (unloaded-summary statuses) ∙ never in
     ap (λ o. netstring test.binary_id.now ++ (netstring test.test_name.now ++ (netstring (short_word statuses.last.result) ++ (netstring o ++ codes "\n"))))
     (stored_none store (unloaded_attempts statuses) also ∙ sym (stored_none store statuses never))

@@ -1,16 +1,9 @@
 -- Outputs "a" and "b" are shown as different texts, wherever an output is shown (for the lemmas of Exactness).
 use Rattle.std.proofs.Common.{◌≢◌, ◌≡◌, ℕ, zero, suc, ◌<◌, Bool, true, false, [], ◌∷◌, ◌++◌, refl, sym, ◌∙◌, ap, arith, get_or, inl, inr, append_assoc, None, codes, lit<}
 use Rattle.styled_text.specs.Names.{IsAscii, without_trailing_newline, visible_after, indent, plain, Text}
-use Rattle.report_words.specs.Names.{Styles, paint}
-use Rattle.std.proofs.lemmas.Bool.{cases_Bool}
-use Rattle.std.proofs.lemmas.List.{append_cancel_left, append_cancel_right}
-use Rattle.std.proofs.lemmas.Str.{IsUtf8-from_ascii}
-use Rattle.text_parts.specs.Names.{ExecutionResultDescription, captured, coloured_output, plain_output, reset_output, header_text, child_output, errors_text, execution_output, present_stream}
-use Rattle.text_parts.specs.Names.{shown_stream, finished_layout, info_line, output_margin, unit_output}
-use Rattle.run_names.specs.declared.unit.UnitKind.{UnitKind}
-use Rattle.run_model.proofs.lemmas.Decoded.{decoded-same}
-use Rattle.text_parts.specs.declared.settings.Settings.{Settings}
-use Rattle.console_reporter.specs.Exactness.{combined}
+use Rattle.{report_words.specs.Names.Styles, report_words.specs.Names.paint, run_names.specs.declared.unit.UnitKind.UnitKind, run_model.proofs.lemmas.Decoded.decoded-same, console_reporter.specs.Exactness.combined, text_parts.specs.declared.settings.Settings.Settings}
+use Rattle.std.proofs.lemmas.{Bool.cases_Bool, Str.IsUtf8-from_ascii, List.append_cancel_left, List.append_cancel_right}
+use Rattle.text_parts.specs.Names.{ExecutionResultDescription, captured, coloured_output, plain_output, reset_output, header_text, child_output, errors_text, execution_output, present_stream, shown_stream, finished_layout, info_line, output_margin, unit_output}
 
 abbrev shown : Bool → Styles → Text → Text
 shown no_indent s t = indent (output_margin no_indent) true (captured s t None)

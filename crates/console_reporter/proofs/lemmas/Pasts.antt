@@ -1,12 +1,8 @@
 -- What a past leads to, and what one more call changes (for `DisplayReporter::report_event`).
 use Rattle.std.proofs.Common.{◌≡◌, List, ◌∷◌, ◌++◌, refl, ap₂, ◌∙◌}
-use Rattle.std.specs.Option.{option_to_list}
-use Rattle.run_names.specs.Levels.{reason_rank}
-use Rattle.text_parts.specs.Names.{TestEvent, ReportCall}
+use Rattle.{std.specs.Option.option_to_list, run_names.specs.Levels.reason_rank, run_model.specs.declared.call.ReportCall.TheVariants.Event, text_parts.specs.Names.TestEvent, text_parts.specs.Names.ReportCall}
 use Rattle.console_reporter.specs.Names.{Configuration, settings_of, event_text, text, StandsAfter, known_by, DisplayReporter}
-use Rattle.reporter_state.specs.Names.{entry_of, kept, final_order}
-use Rattle.reporter_state.specs.declared.final_output.FinalOutputEntry.{FinalOutputEntry}
-use Rattle.run_model.specs.declared.call.ReportCall.TheVariants.{Event}
+use Rattle.reporter_state.specs.{Names.entry_of, Names.kept, Names.final_order, declared.final_output.FinalOutputEntry.FinalOutputEntry}
 
 -- the text of an event from what the reporter holds is its text after the past
 pub text-held : {W S : Type 0} (config : Configuration) (past : List ReportCall) (reporter : DisplayReporter W S) (e : TestEvent) → StandsAfter config past reporter →

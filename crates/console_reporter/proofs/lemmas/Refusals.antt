@@ -1,10 +1,7 @@
 -- Refusals (for `DisplayReporter::write_event`, and lemmas/Promises).
 use Rattle.std.proofs.Common.{◌≡◌, ℕ, List, true, Option, None, Some, inl, refl}
-use Rattle.styled_text.specs.Names.{is_some, Meaning}
-use Rattle.console_reporter.specs.Names.{store_meaning, Breaks, DisplayReporter, Side, Stops, Report, Records}
-use Rattle.run_model.specs.declared.call.ReportCall.{ReportCall}
-use Rattle.reporter_state.specs.Refusals.{refusal_in}
-use Rattle.reporter_state.specs.declared.faults.WriteEventError.{WriteEventError}
+use Rattle.{styled_text.specs.Names.is_some, styled_text.specs.Names.Meaning, run_model.specs.declared.call.ReportCall.ReportCall, reporter_state.specs.Refusals.refusal_in}
+use Rattle.console_reporter.specs.Names.{store_meaning, Breaks, DisplayReporter, Side, Stops, Report, Records, WriteEventError}
 use Rattle.reporter_state.specs.declared.faults.WriteEventError.TheVariants.{RetriedSuccess, OutputNotLoaded, Io, Memory, Failed, StoreIo}
 
 -- an absent value

@@ -1,32 +1,22 @@
 -- Worked rows: what the definitions say of a short run.
+use Rattle.text_parts.specs.Names.{SkipCounts, TestEvent, RunStats, ExecutionResultDescription, ChildOutputDescription, LiveSpec, skip_note, abort_line, theme_of, long_word, display_of, output_timing, timed_listed, is_final_wanted, summary_text, counted_front, passed_notes, passed_front}
 use Rattle.std.proofs.Common.{◌≡◌, ℕ, ℤ, Bool, false, List, [], ◌∷◌, codes, refl, pos, None, Some, Option}
 use Rattle.styled_text.specs.Names.{digits, chars, plain, styled, styles_of, Text, right_in, seconds, with_point}
-use Rattle.uuid.specs.Text.{by_index}
-use Rattle.run_names.specs.declared.config.NextestRunMode.TheVariants.{Test}
-use Rattle.run_names.specs.declared.config.CompiledDefaultFilterSection.TheVariants.{Profile}
-use Rattle.text_parts.specs.Names.{SkipCounts, TestEvent, RunStats, ExecutionResultDescription, ChildOutputDescription, LiveSpec, skip_note, abort_line, theme_of, long_word, display_of, output_timing}
-use Rattle.text_parts.specs.Names.{timed_listed, is_final_wanted, summary_text, counted_front, passed_notes, passed_front, failed_counts, failed_count, leaky_failed_note, exec_failed_count}
-use Rattle.text_parts.specs.Names.{timed_out_count, test_text, stress_prefix, counter_prefix, test_name_text, bracketed_duration}
+use Rattle.{uuid.specs.Text.by_index, unit_report.specs.declared.unit_output.DisplayerKind.TheVariants.Live, run_names.specs.declared.abort.AbortDescription.TheVariants.UnixSignal, run_names.specs.Names.last_colons}
+use Rattle.run_names.specs.declared.config.{NextestRunMode.TheVariants.Test, CompiledDefaultFilterSection.TheVariants.Profile, TestOutputDisplay.TheVariants.Never}
+use Rattle.text_parts.specs.Names.{failed_counts, failed_count, leaky_failed_note, exec_failed_count, timed_out_count, test_text, stress_prefix, counter_prefix, test_name_text, bracketed_duration}
 use Rattle.run_model.specs.Names.{planned_stats, reason_rank, TestInstanceId, TestOutputDisplay, StressIndex, Nanos, Attempts, Written, summary_of}
 use Rattle.reporter_state.specs.Names.{Settings, ordered_by, put_in, cancel, kept, final_order, test_finish, finished_entry, status_prefix, flaky_failure_line, status_line, StatusLineKind}
-use Rattle.unit_report.specs.declared.unit_output.DisplayerKind.TheVariants.{Live}
-use Rattle.run_model.specs.declared.event.TestEventKind.TheVariants.{TestFinished, RunFinished}
-use Rattle.run_names.specs.declared.abort.AbortDescription.TheVariants.{UnixSignal}
+use Rattle.run_model.specs.declared.{event.TestEventKind.TheVariants.TestFinished, event.TestEventKind.TheVariants.RunFinished, stats.RunFinishedStats.TheVariants.Single, call.ReportCall.TheVariants.Event, status.FailureDescription.TheVariants.ExitCode, status.FailureDescription.TheVariants.Abort}
+use Rattle.report_words.specs.Names.{tests_word_if, binaries_word, hbar_text, paint}
+use Rattle.console_reporter.specs.Names.{id_text, run_id_text, profile_text, run_id_line, test_counts_text, starting_line, run_started_text, initial_count_text, run_counts_text, summary_line, run_finished_text}
+use Rattle.test_text.specs.declared.status_line.StatusLineKind.TheVariants.{Intermediate, Final}
 use Rattle.run_names.specs.declared.level.CancelReason.TheVariants as cause
 use Rattle.run_names.specs.declared.level.StatusLevel.TheVariants as status
 use Rattle.run_names.specs.declared.level.FinalStatusLevel.TheVariants as final
-use Rattle.run_model.specs.declared.stats.RunFinishedStats.TheVariants.{Single}
 use Rattle.run_model.specs.declared.status.ExecutionResultDescription.TheVariants as outcome
-use Rattle.run_model.specs.declared.status.FailureDescription.TheVariants.{ExitCode, Abort}
 use Rattle.run_model.specs.declared.status.FlakyResult.TheVariants as flaky
-use Rattle.run_names.specs.declared.config.TestOutputDisplay.TheVariants.{Never}
-use Rattle.run_names.specs.Names.{last_colons}
-use Rattle.report_words.specs.Names.{tests_word_if, binaries_word, hbar_text, paint}
-use Rattle.console_reporter.specs.Names.{id_text, run_id_text, profile_text, run_id_line, test_counts_text, starting_line, run_started_text, initial_count_text, run_counts_text, summary_line}
-use Rattle.console_reporter.specs.Names.{run_finished_text}
-use Rattle.run_model.specs.declared.call.ReportCall.TheVariants.{Event}
 use Rattle.text_parts.specs.declared.finish.OutputTiming.TheVariants as row
-use Rattle.test_text.specs.declared.status_line.StatusLineKind.TheVariants.{Intermediate, Final}
 
 -- level Pass, final level Fail, and no colour
 abbrev settings : Settings

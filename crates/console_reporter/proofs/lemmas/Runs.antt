@@ -1,19 +1,11 @@
 -- Calls in sequence, of a reporter with both its writers (for `DisplayReporter::make_calls`, `run_report`, `run_report_with_store`).
-use Rattle.std.proofs.Common.{◌≡◌, ◌≤◌, ◌⊎◌, inl, inr, List, [], ◌++◌, Option, Some, None, Result, Err, OnOk, IfErr, IsTrue, false, append-nil, length, refl, reverse, subst, sym, take, ◌∙◌}
-use Rattle.std.proofs.lemmas.Result.{on_ok_weaker, IfErr-weaker}
+use Rattle.console_reporter.specs.Names.{AreAccepted, refusal_at, Configuration, settings_of, Stops, Report, Records, past_at, report, text_at, store_accepts, store_may_refuse, store_meaning, MayGrowAt, StandsAfter, may_grow_in, Runs, absent, stored, stored_at, AreDelivered, IsSameReporter}
+use Rattle.std.proofs.Common.{◌≡◌, ◌≤◌, ◌⊎◌, inl, inr, List, [], ◌++◌, Option, Some, None, Result, Err, OnOk, IfErr, IsTrue, false, append-nil, length, refl, reverse, subst, sym, take, ◌∙◌, slice_get}
+use Rattle.{std.proofs.lemmas.Result.on_ok_weaker, std.proofs.lemmas.Result.IfErr-weaker, run_model.specs.declared.call.ReportCall.ReportCall, reporter_state.specs.Names.cancel, reporter_state.specs.Names.refusal_in, reporter_state.specs.declared.faults.RunFault.RunFault}
 use Rattle.styled_text.specs.Names.{option_map_or, Text, Meaning, WriterLaws, successor}
-use Rattle.std.specs.Prelude.{slice_get}
-use Rattle.reporter_state.specs.Names.{cancel, refusal_in}
-use Rattle.reporter_state.specs.declared.faults.RunFault.{RunFault}
-use Rattle.reporter_state.specs.declared.faults.WriteEventError.{WriteEventError}
-use Rattle.console_reporter.specs.Names.{AreAccepted, refusal_at, Configuration, settings_of, Stops, Report, Records, past_at, report, text_at, store_accepts, store_may_refuse, store_meaning}
-use Rattle.console_reporter.specs.Names.{MayGrowAt, StandsAfter, may_grow_in, Runs, absent, stored, stored_at, AreDelivered, IsSameReporter, MayGrowFor, Promises, Tells, TellsRun, past_with}
-use Rattle.console_reporter.specs.Names.{DisplayReporter, Store}
-use Rattle.run_model.specs.declared.call.ReportCall.{ReportCall}
+use Rattle.console_reporter.specs.Names.{MayGrowFor, Promises, Tells, TellsRun, past_with, DisplayReporter, Store, WriteEventError}
 use Rattle.reporter_state.specs.declared.faults.WriteEventError.TheVariants.{Failed, Io, Memory, OutputNotLoaded, RetriedSuccess, StoreIo}
-use Rattle.console_reporter.proofs.lemmas.Calls.{err_here, ok_here, stopped_device, stopped_known}
-use Rattle.console_reporter.proofs.lemmas.Independence.{order_independent, stats_independent}
-use Rattle.console_reporter.proofs.lemmas.ReportColourPairs.{colour_holds, plain_holds}
+use Rattle.console_reporter.proofs.lemmas.{Calls.err_here, Calls.ok_here, Calls.stopped_device, Calls.stopped_known, Independence.order_independent, Independence.stats_independent, ReportColourPairs.colour_holds, ReportColourPairs.plain_holds}
 use Rattle.console_reporter.proofs.lemmas.Stores.{absent_stop, same-store-after, stopped_there, store-laws, store-nothing}
 
 pub same-after : {W S : Type 0} {a b c : DisplayReporter W S} → IsSameReporter a b → IsSameReporter b c → IsSameReporter a c

@@ -1,12 +1,9 @@
 -- Lists of calls that a report cannot distinguish (for `unload_skipped`, `run_report`, `DisplayReporter::output_load_decider`).
 use Rattle.std.proofs.Common.{◌≡◌, ℕ, List, [], ◌∷◌, ◌++◌, refl, sym, ap, ap₂, ◌∙◌, max, reverse, append_assoc}
-use Rattle.styled_text.specs.Names.{flat_map, Text}
-use Rattle.std.proofs.lemmas.List.{reverse-append}
-use Rattle.text_parts.specs.Names.{TestEvent, ReportCall}
+use Rattle.{styled_text.specs.Names.flat_map, styled_text.specs.Names.Text, std.proofs.lemmas.List.reverse-append, console_reporter.proofs.lemmas.Texts.report-joined, text_parts.specs.Names.TestEvent, text_parts.specs.Names.ReportCall}
 use Rattle.reporter_state.specs.Names.{Settings, effect_of, entry_of, cancel, kept, prefix}
 use Rattle.console_reporter.specs.Names.{Configuration, settings_of, Known, event_text, known_after, report, text, report_texts}
 use Rattle.run_model.specs.declared.call.ReportCall.TheVariants.{Event, Header, Prefix}
-use Rattle.console_reporter.proofs.lemmas.Texts.{report-joined}
 
 -- one reason, one entry under each reason before, and one text whatever is known
 pub record IsSameEvent (s : Settings) (e f : TestEvent) : Type 0 where

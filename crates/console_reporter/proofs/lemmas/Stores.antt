@@ -2,12 +2,7 @@
 use Rattle.std.proofs.Common.{◌≡◌, ℕ, List, [], ◌++◌, Option, None, Some, refl, ap, ◌∙◌, inl, inr}
 use Rattle.styled_text.specs.Names.{Appends, AppendsFront, Meaning, WriterLaws, successor, WriteFault}
 use Rattle.writers.specs.declared.write_str.WriteFault.TheVariants.{Device, Memory as RefusedMemory}
-use Rattle.console_reporter.specs.Names.{Stops, Records, StandsAfter, Configuration, DisplayReporter, IsSameStore, config_of, store_accepts, store_adds, store_delivered, store_failures, store_known}
-use Rattle.console_reporter.specs.Names.{store_may_refuse, store_meaning, store_stops, Store}
-use Rattle.run_model.specs.declared.call.ReportCall.{ReportCall}
-use Rattle.run_names.specs.Levels.{reason_rank}
-use Rattle.reporter_state.specs.declared.state.ReporterState.{ReporterState}
-use Rattle.reporter_state.specs.declared.faults.WriteEventError.{WriteEventError}
+use Rattle.console_reporter.specs.Names.{Stops, Records, IsSameStore, config_of, store_accepts, store_adds, store_delivered, store_failures, store_known, store_may_refuse, store_meaning, store_stops, Store, WriteEventError}
 use Rattle.reporter_state.specs.declared.faults.WriteEventError.TheVariants.{RetriedSuccess, OutputNotLoaded, Io, Memory, Failed, StoreIo}
 
 pub same-store : {S : Type 0} (a : Option (Store S)) → IsSameStore a a
@@ -27,17 +22,6 @@ config-same None None h = refl
 config-same None (Some b) h = absurd h
 config-same (Some a) None h = absurd h
 config-same (Some a) (Some b) h = ap Some h.1
-
--- a reporter with the knowledge and the store of another is after the same pasts
-pub stands-still : {W S : Type 0} (config : Configuration) (past : List ReportCall) (a b : DisplayReporter W S) → b.state ≡ a.state → IsSameStore a.store b.store → StandsAfter config past a → StandsAfter config past b
-stands-still config past a b e same stands = record {
-  settings = ap (λ (s : ReporterState). s.settings) e ∙ stands.settings;
-  prefix = ap (λ (s : ReporterState). s.unique_prefix) e ∙ stands.prefix;
-  reason = ap (λ (s : ReporterState). reason_rank s.cancel_status) e ∙ stands.reason;
-  kept = ap (λ (s : ReporterState). s.kept) e ∙ stands.kept;
-  store = config-same a.store b.store same ∙ stands.store;
-  works = ap (λ (s : ReporterState). s.has_failed) e ∙ stands.works;
-}
 
 module _ {S : Type 0} {m : Meaning S} (laws : WriterLaws m) where
   pub store-nothing : (a : Option (Store S)) → store_accepts m a [] a

@@ -1,16 +1,9 @@
 -- The texts of the calls of a past (for `texts_make_the_report`, and for what each call promises).
-use Rattle.std.proofs.Common.{◌≡◌, ℕ, ◌<◌, List, [], ◌∷◌, ◌++◌, length, refl, sym, ap, subst, ◌∙◌, append-nil, length-append, arith, inl, inr, Option, None, Some}
-use Rattle.std.specs.Prelude.{slice_get}
-use Rattle.styled_text.specs.Names.{flat_map, Text}
-use Rattle.std.proofs.Math.Seq.{get_or-append_seam}
-use Rattle.std.proofs.lemmas.Grind.{flat_map-append}
-use Rattle.std.proofs.lemmas.List.{get_or_append_left}
-use Rattle.std.proofs.lemmas.Option.{slice_get-get_or}
+use Rattle.std.proofs.Common.{◌≡◌, ℕ, ◌<◌, List, [], ◌∷◌, ◌++◌, length, refl, sym, ap, subst, ◌∙◌, append-nil, length-append, arith, inl, inr, Option, None, Some, slice_get}
+use Rattle.{styled_text.specs.Names.flat_map, styled_text.specs.Names.Text, report_words.specs.Parts.IsOfLines, report_words.proofs.lemmas.PartsInColour.ends}
+use Rattle.std.proofs.{Math.Seq.get_or-append_seam, lemmas.Grind.flat_map-append, lemmas.List.get_or_append_left, lemmas.Option.slice_get-get_or}
 use Rattle.console_reporter.specs.Names.{Configuration, replay_header_text, event_parts, event_text, report, text, report_texts, told_text}
-use Rattle.report_words.specs.Parts.{IsOfLines}
-use Rattle.report_words.proofs.lemmas.PartsInColour.{ends}
-use Rattle.run_model.specs.declared.call.ReportCall.{ReportCall}
-use Rattle.run_model.specs.declared.call.ReportCall.TheVariants.{Event, Header, Prefix}
+use Rattle.run_model.specs.declared.call.ReportCall.{ReportCall, TheVariants.Event, TheVariants.Header, TheVariants.Prefix}
 
 pub report-joined : (config : Configuration) (past : List ReportCall) → report config past ≡ flat_map (λ t. t) (report_texts config past)
 unfolding report_texts

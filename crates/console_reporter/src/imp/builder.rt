@@ -1,8 +1,8 @@
 //! How a reporter is configured.
 
 ghost use Rattle.std.specs.Prelude.{◌≡◌, IfOk, [], None, Some};
-ghost use Rattle.console_reporter.specs.Names.{decider_of, configured, configured_in, configured_with_store, default_builder, settings_of, StandsAfter, config_of};
 ghost use Rattle.text_parts.specs.Settings.{overrides_by};
+ghost use Rattle.console_reporter.specs.Names.{decider_of, configured, configured_in, configured_with_store, default_builder, settings_of, StandsAfter, config_of};
 
 use super::reporter::DisplayReporter;
 use super::store::Store;

@@ -1,10 +1,7 @@
 //! The text of an event. Each event's own text is in the crates `test_text`, `run_text` or `info_text`.
 
 ghost use Rattle.std.specs.Prelude.{◌≡◌, None, false, nat_lt};
-ghost use Rattle.writers.specs.Writer.{Puts};
-ghost use Rattle.run_names.specs.Levels.{reason_rank};
-ghost use Rattle.report_words.specs.Parts.{paint};
-ghost use Rattle.text_parts.specs.Script.{script_of};
+ghost use Rattle.{writers.specs.Writer.Puts, run_names.specs.Levels.reason_rank, report_words.specs.Parts.paint, text_parts.specs.Script.script_of};
 ghost use Rattle.reporter_state.specs.Names.{IsFinishOf, hiding_rank, lacks_output, decider_by};
 ghost use Rattle.console_reporter.specs.Names.{known_by, end_of_run_text, event_text, listed_text, script_by};
 

@@ -1,14 +1,9 @@
 //! The calls of a reporter.
 
+ghost use Rattle.console_reporter.specs.Names.{replay_header_text, Configuration, settings_of, AreAccepted, decider_of, IsExact, IsOfConsole, Stops, error_for, Report, Records, event_text, past_at, text, config_of, store_accepts, store_delivered, store_meaning, record_of, AreDelivered};
 ghost use Rattle.std.specs.Prelude.{◌≡◌, ◌≤◌, ◌⊎◌, List, [], ◌∷◌, OnOk, IfErr, IfSome, IsErrOf, Err, None, Some, length, reverse, slice_get, take, false};
-ghost use Rattle.run_names.specs.Levels.{reason_rank};
-ghost use Rattle.run_model.specs.declared.call.ReportCall.{ReportCall};
-ghost use Rattle.writers.specs.Writer.{Puts, successor};
-ghost use Rattle.report_words.specs.Parts.{paint};
-ghost use Rattle.console_reporter.specs.Names.{replay_header_text, Configuration, settings_of, AreAccepted, decider_of, IsExact, IsOfConsole, Stops, error_for, Report, Records, event_text, past_at};
-ghost use Rattle.console_reporter.specs.Names.{text, config_of, store_accepts, store_delivered, store_meaning, record_of, AreDelivered, IsSameReporter, Breaks, Promises, Tells, TellsRun, StandsAfter};
-ghost use Rattle.console_reporter.specs.Names.{HasFailed, IsSameWriter, MayGrow, known_by};
-ghost use Rattle.reporter_state.specs.declared.faults.WriteEventError.{WriteEventError};
+ghost use Rattle.{run_names.specs.Levels.reason_rank, run_model.specs.declared.call.ReportCall.ReportCall, report_words.specs.Parts.paint, reporter_state.specs.declared.faults.WriteEventError.WriteEventError, writers.specs.Writer.Puts, writers.specs.Writer.successor};
+ghost use Rattle.console_reporter.specs.Names.{IsSameReporter, Breaks, Promises, Tells, TellsRun, StandsAfter, HasFailed, IsSameWriter, MayGrow, known_by};
 ghost use Rattle.reporter_state.specs.Names.{decider_by, event_refusal, refusal_in, IsFinishOf, lacks_output};
 
 use super::event_text::write_event_text;

@@ -1,8 +1,7 @@
 //! The run of a list of calls, with a reporter of its own.
 
 ghost use Rattle.std.specs.Prelude.{◌≡◌, ◌++◌, ◌∷◌, List, Some, length, slice_get};
-ghost use Rattle.std.specs.List.{flat_map};
-ghost use Rattle.run_model.specs.declared.call.ReportCall.{ReportCall};
+ghost use Rattle.{std.specs.List.flat_map, run_model.specs.declared.call.ReportCall.ReportCall};
 ghost use Rattle.console_reporter.specs.Names.{Configuration, configured, configured_with_store, report, report_texts, text, Runs, absent};
 
 use super::builder::DisplayReporterBuilder;

@@ -1,8 +1,7 @@
 //! A store: the second writer of a reporter, which takes a record of each finished test.
 
 ghost use Rattle.std.specs.Prelude.{◌≡◌, OnOk, Some};
-ghost use Rattle.writers.specs.Writer.{Puts};
-ghost use Rattle.console_reporter.specs.Stored.{record_of};
+ghost use Rattle.{writers.specs.Writer.Puts, console_reporter.specs.Stored.record_of};
 
 use run_model::event::{TestEvent, TestEventKind};
 use store_text::config::StoreConfig;

@@ -1,8 +1,7 @@
 //! A list of calls without the outputs that the decider skips.
 
 ghost use Rattle.std.specs.Prelude.{◌≡◌};
-ghost use Rattle.reporter_state.specs.Unread.{unread};
-ghost use Rattle.console_reporter.specs.Isolation.{IsIsolated};
+ghost use Rattle.{reporter_state.specs.Unread.unread, console_reporter.specs.Isolation.IsIsolated};
 
 use reporter_state::decider::OutputLoadDecider;
 use run_model::call::ReportCall;

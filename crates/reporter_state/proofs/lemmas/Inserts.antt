@@ -2,11 +2,8 @@
 use Rattle.std.proofs.Common.{◌≡◌, ℕ, ◌<◌, ◌+◌, Bool, List, [], ◌∷◌, ◌++◌, refl, sym, subst, ◌∙◌, ap, arith, length, reverse, Ordering, Less, Equal, Greater, is_lt, nat_cmp}
 use Rattle.styled_text.specs.Names.{nat_list_cmp_total, lists_total, ordering_reverse, ordering_then, insert_entry}
 use Rattle.std.proofs.lemmas.List.{map-append, reverse-append, reverse-reverse}
-use Rattle.text_parts.specs.declared.settings.Settings.{Settings}
-use Rattle.reporter_state.specs.Names.{shown_entries, entry_cmp, entry_key, shown_entry, final_order, is_before, ArePlaced, Held, IsPlaced, entries_of, entry_held, held_cmp, key_at, shown_of, put_in}
-use Rattle.reporter_state.specs.Names.{FinalOutputEntry, KeptTest}
-use Rattle.reporter_state.proofs.lemmas.Keys.{is_before-ranks}
-use Rattle.reporter_state.proofs.lemmas.Orders.{order_more, put_back, rising-ordered_by}
+use Rattle.reporter_state.specs.Names.{shown_entries, entry_cmp, entry_key, shown_entry, final_order, is_before, ArePlaced, Held, IsPlaced, entries_of, entry_held, held_cmp, key_at, shown_of, put_in, FinalOutputEntry, KeptTest, Settings}
+use Rattle.reporter_state.proofs.lemmas.{Keys.is_before-ranks, Orders.order_more, Orders.put_back, Orders.rising-ordered_by}
 
 earlier : (n p : ℕ) → p < n → nat_cmp p n ≡ Less
 earlier n p h = grind arith

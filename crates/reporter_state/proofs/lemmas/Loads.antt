@@ -1,15 +1,11 @@
 -- What is known of outputs once an event is accepted (for `ReporterState::apply`, and for the writers of events that show output).
 use Rattle.std.proofs.Common.{◌≡◌, ℕ, Bool, true, false, not, Option, None, Some, if◌then◌else◌, refl, subst, sym, inl, inr}
-use Rattle.std.specs.Option.{option_map_or}
-use Rattle.std.proofs.lemmas.Bool.{cases_Bool, false≢true}
-use Rattle.std.proofs.lemmas.Option.{none-some, same_Some}
+use Rattle.std.{specs.Option.option_map_or, proofs.lemmas.Bool.cases_Bool, proofs.lemmas.Bool.false≢true, proofs.lemmas.Option.none-some, proofs.lemmas.Option.same_Some}
 use Rattle.run_model.specs.Names.{Attempt, Attempts, Written, has_loaded_output, summary_of, TestOutputDisplay, TestInstanceId, StressIndex, Nanos}
 use Rattle.text_parts.specs.Names.{TestEventKind, ChildOutputDescription, LiveSpec, RunStats, display_for, display_of, is_ever_shown, is_level_shown}
 use Rattle.run_model.specs.declared.event.TestEventKind.TheVariants.{SetupScriptFinished, TestAttemptFailedWillRetry, TestFinished, InfoResponse}
+use Rattle.reporter_state.specs.Names.{StoreConfig, FinishReport, HasShownOutput, test_finish, HasFailedAttemptOutput, is_failed_output_shown, finish_by, decider_by, lacks_output, loads_attempt, loads_finish, Settings}
 use Rattle.run_names.specs.declared.level.StatusLevel.TheVariants as level
-use Rattle.text_parts.specs.declared.settings.Settings.{Settings}
-use Rattle.reporter_state.specs.Names.{StoreConfig, FinishReport, HasShownOutput, test_finish, HasFailedAttemptOutput, is_failed_output_shown, finish_by, decider_by, lacks_output, loads_attempt}
-use Rattle.reporter_state.specs.Names.{loads_finish}
 
 -- needed output is loaded, unless needed output was not loaded
 pub loaded_where : (is_needed : Bool) (output : Written) →

@@ -1,12 +1,7 @@
 -- The place of an entry in a summary does not depend on its output (for the lemmas of Exactness).
 use Rattle.std.proofs.Common.{◌≡◌, List, [], ◌∷◌, ◌++◌, refl, ◌∙◌, ap, inl, inr}
-use Rattle.std.proofs.lemmas.Bool.{cases_Bool}
-use Rattle.std.proofs.lemmas.Grind.{flat_map-append}
-use Rattle.run_model.specs.declared.status.StatusSummary.{StatusSummary}
-use Rattle.run_model.specs.Attempts.{Written}
-use Rattle.styled_text.specs.Texts.{Text}
-use Rattle.text_parts.specs.declared.settings.Settings.{Settings}
-use Rattle.reporter_state.specs.Names.{shown_entries, shown_entry, final_order, is_before, ordered_by, put_in, FinalOutputEntry, KeptTest}
+use Rattle.{std.proofs.lemmas.Bool.cases_Bool, std.proofs.lemmas.Grind.flat_map-append, run_model.specs.declared.status.StatusSummary.StatusSummary, run_model.specs.Attempts.Written, styled_text.specs.Texts.Text}
+use Rattle.reporter_state.specs.Names.{shown_entries, shown_entry, final_order, is_before, ordered_by, put_in, FinalOutputEntry, KeptTest, Settings}
 use Rattle.reporter_state.specs.declared.final_output.FinalOutput.TheVariants.{Executed, ExecutedWithOutput}
 
 module _ (test : KeptTest) (x : StatusSummary) where

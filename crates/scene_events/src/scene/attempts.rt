@@ -1,9 +1,7 @@
 //! The attempts of a test in a short form: most are one attempt that wrote nothing, and a scene may hold a million.
 
-ghost use Rattle.std.specs.Option.{option_copied, unwrap_or};
-ghost use Rattle.std.specs.Prelude.{◌≡◌, IfOk, IsTrue, OnErr, OnOk, length};
-ghost use Rattle.scene_events.specs.SceneAttempts.{attempt_of, before_last, marks_of};
-ghost use Rattle.scene_events.specs.SceneOutputs.{no_output};
+ghost use Rattle.std.specs.{Option.option_copied, Option.unwrap_or, Prelude.◌≡◌, Prelude.IfOk, Prelude.IsTrue, Prelude.OnErr, Prelude.OnOk, Prelude.length};
+ghost use Rattle.scene_events.specs.{SceneAttempts.attempt_of, SceneAttempts.before_last, SceneAttempts.marks_of, SceneOutputs.no_output};
 
 use super::outputs::{AttemptOutput, SceneOutput};
 use run_model::boxed::Boxed;
@@ -78,9 +76,7 @@ impl Model for EarlierAttempts {
 }
 
 impl Model for SceneAttempts {
-    ghost use Rattle.run_model.specs.Attempts.{Attempts};
-    ghost use Rattle.run_model.specs.declared.output.ChildOutputDescription.{ChildOutputDescription};
-    ghost use Rattle.run_model.specs.declared.output.LiveSpec.{LiveSpec};
+    ghost use Rattle.run_model.specs.{Attempts.Attempts, declared.output.ChildOutputDescription.ChildOutputDescription, declared.output.LiveSpec.LiveSpec};
 
     ghost Value = { Attempts LiveSpec ChildOutputDescription };
 
@@ -94,8 +90,7 @@ impl Model for SceneAttempts {
 }
 
 impl SceneAttempts {
-    ghost use Rattle.run_model.specs.Outputs.{has_loaded_output};
-    ghost use Rattle.scene_events.specs.Loads.{attempts_with};
+    ghost use Rattle.{run_model.specs.Outputs.has_loaded_output, scene_events.specs.Loads.attempts_with};
 
     /// The attempts before the last one, in order, and the last; and what a success after earlier attempts counts as. It allocates
     /// only if there are earlier ones.
@@ -377,10 +372,7 @@ impl Model for SceneAttempt {
 }
 
 impl SceneAttempt {
-    ghost use Rattle.run_model.specs.Names.{attempt_with_output, has_loaded_output, is_success};
-    ghost use Rattle.scene_events.specs.SceneAttempts.{script_status};
-    ghost use Rattle.scene_events.specs.SceneOutputs.{written};
-    ghost use Rattle.std.specs.Prelude.{Some};
+    ghost use Rattle.{run_model.specs.Names.attempt_with_output, run_model.specs.Names.has_loaded_output, run_model.specs.Names.is_success, scene_events.specs.SceneAttempts.script_status, scene_events.specs.SceneOutputs.written, std.specs.Prelude.Some};
 
     /// An attempt with this result, duration and output.
     pub fn new(
@@ -468,8 +460,7 @@ impl SceneAttempt {
 }
 
 impl Written {
-    ghost use Rattle.scene_events.specs.SceneAttempts.{output_of, was_slow};
-    ghost use Rattle.scene_events.specs.SceneOutputs.{loaded};
+    ghost use Rattle.scene_events.specs.{SceneAttempts.output_of, SceneAttempts.was_slow, SceneOutputs.loaded};
 
     // This output of an attempt that was slow or not.
     #[inline(always)]

@@ -80,8 +80,7 @@ pub enum SceneEvent {
 const _: () = prove!(size_of::<SceneEvent>() == 16);
 
 impl SceneEvent {
-    ghost use Rattle.scene_events.specs.Loads.{event_with, event_with_only};
-    ghost use Rattle.scene_events.specs.Scenes.{may_be_refused};
+    ghost use Rattle.scene_events.specs.{Loads.event_with, Loads.event_with_only, Scenes.may_be_refused};
 
     /// Whether a reporter may refuse its call: some of its output is not loaded, or a successful attempt
     /// is followed by another one. No reporter refuses any other event; a header, of which a run has one, counts

@@ -1,8 +1,7 @@
 //! The output of an attempt, as a scene holds it: how the attempt ended is beside it, and is not held twice.
 
 ghost use Rattle.scene_events.specs.SceneOutputs.{is_output_there, loaded, no_output, written};
-ghost use Rattle.std.specs.Option.{option_copied, unwrap_or};
-ghost use Rattle.std.specs.Prelude.{◌≡◌, IfOk, OnErr, OnOk};
+ghost use Rattle.std.specs.{Option.option_copied, Option.unwrap_or, Prelude.◌≡◌, Prelude.IfOk, Prelude.OnErr, Prelude.OnOk};
 
 use run_model::boxed::Boxed;
 use run_model::memory::OutOfMemory;
@@ -100,9 +99,7 @@ pub struct AttemptOutput {
 }
 
 impl Model for AttemptOutput {
-    ghost use Rattle.std.specs.Option.{unwrap_or};
-    ghost use Rattle.scene_events.specs.SceneOutputs.{no_output};
-    ghost use Rattle.scene_events.specs.declared.scene.outputs.SceneOutput.{SceneOutput};
+    ghost use Rattle.{std.specs.Option.unwrap_or, scene_events.specs.SceneOutputs.no_output, scene_events.specs.declared.scene.outputs.SceneOutput.SceneOutput};
 
     ghost Value = { SceneOutput };
 

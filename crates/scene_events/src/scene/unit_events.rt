@@ -1,8 +1,6 @@
 //! The events of units, which are tests and setup scripts, and their responses when they are asked for their state.
 
-ghost use Rattle.scene_events.specs.Scenes.{IsCallOf, PushesCallOf};
-ghost use Rattle.run_model.specs.declared.call.ReportCall.{ReportCall};
-ghost use Rattle.scene_events.specs.declared.scene.event.SceneEvent.{SceneEvent};
+ghost use Rattle.{scene_events.specs.Scenes.IsCallOf, scene_events.specs.Scenes.PushesCallOf, scene_events.specs.declared.scene.event.SceneEvent.SceneEvent, run_model.specs.declared.call.ReportCall.ReportCall};
 ghost use Rattle.std.specs.Prelude.{◌≡◌, IfOk, IsTrue};
 
 use super::attempts::{SceneAttempt, SceneAttempts};

@@ -1,18 +1,10 @@
 -- The positions of a byte as the bits of a mask (for `load_block`, `find_byte`, `marks_from`, `plain_len`, `split_fields`).
-use Rattle.std.proofs.Common.{◌≡◌, ◌≢◌, ℕ, zero, suc, ◌+◌, ◌-◌, ◌*◌, ◌/◌, ◌^◌, ◌<◌, ◌≤◌, ◌==◌, ◌++◌, ◌∙◌, List, [], ◌∷◌, Bool, false, not, cond, length, get_or, drop, take, min, map, replicate, refl, ap, sym, arith, inl, inr, w64}
-use native.Mathlib.Nat.{div-one, div-div-eq-div-mul, mul_comm, pow-suc, zero-div}
-use Rattle.std.specs.Int.{trailing_zeros}
-use Rattle.std.specs.List.{prefix_len}
-use Rattle.std.specs.Simd.Lanes.{chunk, mask_l}
-use Rattle.std.proofs.lemmas.Bool.{cases_Bool, cases_lt, not-true, true≢false}
-use Rattle.std.proofs.lemmas.Bool.Decides.{nat_tests}
-use Rattle.std.proofs.lemmas.List.{drop-drop, drop-map, drop-take, drop_all, length-drop, length-take, take_all}
-use Rattle.std.proofs.lemmas.List.Sums.{prefix_len-le-length, prefix_len_passes}
+use Rattle.std.proofs.Common.{◌≡◌, ◌≢◌, ℕ, zero, suc, ◌+◌, ◌-◌, ◌*◌, ◌/◌, ◌^◌, ◌<◌, ◌≤◌, ◌==◌, ◌++◌, ◌∙◌, List, [], ◌∷◌, Bool, false, not, cond, length, get_or, drop, take, min, map, replicate, refl, ap, sym, arith, inl, inr, w64, div-one, mul_comm, pow-suc, true≢false, drop-drop, length-drop}
+use Rattle.{std.proofs.Common.length-take, std.proofs.Common.take_all, std.specs.Int.trailing_zeros, std.specs.List.prefix_len, std.specs.Simd.Lanes.chunk, std.specs.Simd.Lanes.mask_l, memchr.specs.Find.is_byte, memchr.specs.Find.Nowhere, memchr.specs.Find.NoneBefore, memchr.specs.Find.Passes}
+use native.Mathlib.Nat.{div-div-eq-div-mul, zero-div}
+use Rattle.std.proofs.lemmas.{Bool.cases_Bool, Bool.cases_lt, Bool.not-true, Bool.Decides.nat_tests, List.drop-map, List.drop-take, List.drop_all, List.Sums.prefix_len-le-length, List.Sums.prefix_len_passes}
 use Rattle.std.proofs.lemmas.Simd.{leading_from_mask_l, length-chunk, run_in_chunk_fails, run_in_chunk_stops, trailing_mask_l}
-use Rattle.memchr.specs.Find.{is_byte, Nowhere, NoneBefore, Passes}
-use Rattle.scene_fields.specs.Marks.{marks, marks_between}
-use Rattle.scene_fields.specs.Split.{Lacks}
-use Rattle.scene_fields.proofs.lemmas.Cuts.{Lacks-take, rest_is}
+use Rattle.scene_fields.{specs.Marks.marks, specs.Marks.marks_between, specs.Split.Lacks, proofs.lemmas.Cuts.Lacks-take, proofs.lemmas.Cuts.rest_is}
 
 -- zeros after a text have no bit
 pub marks-padded : (b n : ℕ) (t : List ℕ) → b ≢ 0 → marks b (t ++ replicate n 0) ≡ marks b t

@@ -1,10 +1,6 @@
 -- What the mark of a reference leaves (for `after_mark`).
 use Rattle.std.proofs.Common.{◌≡◌, ℕ, List, drop, true, false, Option, None, Some, refl, ap, sym, ◌∙◌, subst, Bor}
-use Rattle.std.specs.Option.{MatchOption, option_map}
-use Rattle.std.specs.Str.{IsCharBoundary}
-use Rattle.std.specs.Str.Pattern.{FindsTextPrefix, StripsPrefix}
-use Rattle.std.proofs.lemmas.Str.Pattern.{starts_text}
-use Rattle.scene_fields.specs.References.{mark, after_mark}
+use Rattle.{std.specs.Option.MatchOption, std.specs.Option.option_map, std.specs.Str.IsCharBoundary, std.specs.Str.Pattern.FindsTextPrefix, std.specs.Str.Pattern.StripsPrefix, std.proofs.lemmas.Str.Pattern.starts_text, scene_fields.specs.References.mark, scene_fields.specs.References.after_mark}
 
 -- where the mark is stripped, what is left follows it
 pub after_mark_by : (t : List ℕ) (r : Option (Bor (List ℕ))) → MatchOption r (FindsTextPrefix mark t None) (λ x. StripsPrefix (FindsTextPrefix mark) t x.now) → option_map (λ x. x.now) r ≡ after_mark t

@@ -1,8 +1,6 @@
 -- What a text spells, step by step (for `read_text`, `read_words`, `unescape_in_place`).
 use Rattle.std.proofs.Common.{◌≡◌, ℕ, zero, suc, List, [], ◌∷◌, ◌++◌, drop, refl, ap, sym, ◌∙◌, append_assoc, append-nil, Option, Some, None}
-use Rattle.std.proofs.lemmas.Iterator.Adapters.{option_map_id}
-use Rattle.std.specs.Borrow.{Bor}
-use Rattle.std.specs.Option.{option_and_then, option_map}
+use Rattle.std.{proofs.lemmas.Iterator.Adapters.option_map_id, specs.Borrow.Bor, specs.Option.option_and_then, specs.Option.option_map}
 use Rattle.scene_fields.specs.Texts.{LacksEscapes, escape_byte, escape_len, unescaped_after, unescaped, AddsStretch}
 
 map_twice : {X Y Z : Type 0} (g : Y → Z) (f : X → Y) (o : Option X) → option_map g (option_map f o) ≡ option_map (λ x. g (f x)) o

@@ -1,12 +1,8 @@
 -- What a cancel reason does to the outputs of tests (for `reasons_only_hide`, and in console_reporter for the lemmas of UninterruptedRuns, Exactness).
-use Rattle.std.specs.Prelude.{◌==◌, nat_lt}
-use Rattle.std.proofs.Common.{◌≡◌, ℕ, ◌<◌, ◌∙◌, true, false, refl, sym, ap, arith}
-use Rattle.std.proofs.lemmas.Bool.{false≢true}
-use Rattle.std.proofs.lemmas.Bool.Decides.{nat_tests}
-use Rattle.run_model.specs.Names.{is_immediate, is_final, TestOutputDisplay}
-use Rattle.run_model.specs.declared.status.ExecutionResultDescription.{ExecutionResultDescription}
+use Rattle.std.proofs.Common.{◌≡◌, ℕ, ◌<◌, ◌∙◌, true, false, refl, sym, ap, arith, ◌==◌, nat_lt}
+use Rattle.{std.proofs.lemmas.Bool.false≢true, std.proofs.lemmas.Bool.Decides.nat_tests, run_model.specs.Names.is_immediate, run_model.specs.Names.is_final, run_model.specs.Names.TestOutputDisplay}
 use Rattle.run_names.specs.declared.config.TestOutputDisplay.TheVariants.{Immediate, ImmediateFinal, Final, Never}
-use Rattle.text_parts.specs.Names.{IsOnlyHidden, IsSameBelowImmediate, output_timing, is_shown_at_end, is_shown_at_once, timed_at_end, timed_at_once, OutputTiming}
+use Rattle.text_parts.specs.Names.{IsOnlyHidden, IsSameBelowImmediate, output_timing, is_shown_at_end, is_shown_at_once, timed_at_end, timed_at_once, OutputTiming, ExecutionResultDescription}
 use Rattle.text_parts.specs.declared.finish.OutputTiming.TheVariants.{Hidden, Shown, ShownOnce}
 
 -- below the immediate end, and without a reason, there is one row

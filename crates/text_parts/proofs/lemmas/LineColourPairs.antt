@@ -1,14 +1,8 @@
 -- The tests and setup scripts of lines, without escape characters (for all lines of units).
 use Rattle.std.proofs.Common.{◌≢◌, ◌∷◌, ℕ, Bool, true, false, arith, Option, None, Some}
-use Rattle.run_model.specs.Names.{TestInstanceId, StressIndex}
-use Rattle.run_model.specs.declared.stats.RunStats.{RunStats}
-use Rattle.text_parts.specs.Names.{HasPlainCounter, padded_instance, instance_end, untimed_end, IsPlainScript, Script, shown_script, counter_where, finished_counter, next_where, started_counter}
-use Rattle.text_parts.specs.Names.{padded_where, padded_counter, CountedInstance, Settings}
-use Rattle.report_words.specs.Names.{IsPlainInstance, hbar_character}
-use Rattle.styled_text.specs.Style.{styles_of}
-use Rattle.report_text.proofs.lemmas.FreeDetails.{free-shell_words}
-use Rattle.report_text.proofs.lemmas.InstanceColourPairs.{colour_pair-instance_text, colour_pair-script_text}
-use Rattle.report_words.proofs.lemmas.PartsInColour.{AreFree}
+use Rattle.{run_model.specs.Names.TestInstanceId, run_model.specs.Names.StressIndex, styled_text.specs.Style.styles_of, report_words.specs.Names.IsPlainInstance, report_words.specs.Names.hbar_character, report_words.proofs.lemmas.PartsInColour.AreFree}
+use Rattle.text_parts.specs.Names.{HasPlainCounter, padded_instance, instance_end, untimed_end, IsPlainScript, Script, shown_script, counter_where, finished_counter, next_where, started_counter, padded_where, padded_counter, CountedInstance, Settings, RunStats}
+use Rattle.report_text.proofs.lemmas.{FreeDetails.free-shell_words, InstanceColourPairs.colour_pair-instance_text, InstanceColourPairs.colour_pair-script_text}
 
 -- the same settings, in colour or plain
 abbrev pub painted : Bool → Settings → Settings

@@ -1,18 +1,12 @@
 -- The output of an attempt or of a setup script, without escape characters (for the lines that it follows).
-use Rattle.std.proofs.Common.{◌≡◌, Bool, true, false, refl}
-use Rattle.run_model.specs.declared.status.ExecutionResultDescription.{ExecutionResultDescription}
-use Rattle.run_model.specs.Names.{UnitKind, Written}
+use Rattle.{std.proofs.Common.◌≡◌, std.proofs.Common.Bool, std.proofs.Common.true, std.proofs.Common.false, std.proofs.Common.refl, styled_text.specs.Names.without_end_spaces, styled_text.specs.Names.styles_of, styled_text.specs.declared.style.Style.Style}
+use Rattle.{run_model.specs.Names.UnitKind, run_model.specs.Names.Written, report_words.proofs.lemmas.PartsInColour.AreFree, text_parts.proofs.lemmas.ResultColourPairs.free-info_text}
+use Rattle.text_parts.specs.Names.{IsPlainResult, IsPlainWritten, header_style, layout_in, shown_info_line, info_line, unit_output, Settings, ThemeCharacters, ExecutionResultDescription}
+use Rattle.unit_report.proofs.lemmas.UnitColourPairs.{IsColourPairOfLayout, colour_pair-bars, colour_pair-execution_output}
 use Rattle.run_model.specs.declared.status.ExecutionResultDescription.TheVariants as outcome
 use Rattle.run_model.specs.declared.status.LeakTimeoutResult.TheVariants as leak
 use Rattle.run_model.specs.declared.status.SlowTimeoutResult.TheVariants as slow
-use Rattle.styled_text.specs.Names.{without_end_spaces, styles_of}
-use Rattle.styled_text.specs.declared.style.Style.{Style}
-use Rattle.text_parts.specs.Names.{IsPlainResult, IsPlainWritten, header_style, layout_in, shown_info_line, info_line, unit_output, Settings}
-use Rattle.report_words.specs.declared.theme.ThemeCharacters.{ThemeCharacters}
 use Rattle.styled_text.specs.declared.style.Style.TheVariants as style
-use Rattle.report_words.proofs.lemmas.PartsInColour.{AreFree}
-use Rattle.unit_report.proofs.lemmas.UnitColourPairs.{IsColourPairOfLayout, colour_pair-bars, colour_pair-execution_output}
-use Rattle.text_parts.proofs.lemmas.ResultColourPairs.{free-info_text}
 
 -- a layout with a style and without
 colour_pair-layout_in : (k : Bool) (kind : UnitKind) (b : Bool) (theme : ThemeCharacters) (s : Style) → IsColourPairOfLayout k (layout_in kind b theme s) (layout_in kind b theme style.Plain)

@@ -1,17 +1,12 @@
 -- Results in words, without escape characters (for the lines and the outputs of tests).
 use Rattle.std.proofs.Common.{Bool, true, false, refl, Option, None, Some}
 use Rattle.run_names.specs.declared.abort.AbortDescription.TheVariants.{UnixSignal, WindowsNtStatus, WindowsJobObject}
-use Rattle.run_model.specs.declared.status.ExecutionResultDescription.{ExecutionResultDescription}
+use Rattle.{run_model.specs.declared.status.FailureDescription.TheVariants.ExitCode, run_model.specs.declared.status.FailureDescription.TheVariants.Abort, styled_text.specs.Names.Text, styled_text.specs.Names.HasNoEscape, report_words.specs.PlainTexts.HoldsIf}
+use Rattle.report_words.proofs.lemmas.{FreeWords.free-signed, FreeWords.frees, ColourPairs.colour_pair-free, PartsInColour.AreFree}
+use Rattle.text_parts.specs.Names.{indented_message, nt_message, nt_line, abort_line, signal_name, signal_info, info_text, long_word, short_word, success_word, IsPlainResult, ExecutionResultDescription}
 use Rattle.run_model.specs.declared.status.ExecutionResultDescription.TheVariants as outcome
-use Rattle.run_model.specs.declared.status.FailureDescription.TheVariants.{ExitCode, Abort}
 use Rattle.run_model.specs.declared.status.LeakTimeoutResult.TheVariants as leak
 use Rattle.run_model.specs.declared.status.SlowTimeoutResult.TheVariants as slow
-use Rattle.styled_text.specs.Names.{Text, HasNoEscape}
-use Rattle.report_words.proofs.lemmas.FreeWords.{free-signed, frees}
-use Rattle.report_words.proofs.lemmas.ColourPairs.{colour_pair-free}
-use Rattle.report_words.proofs.lemmas.PartsInColour.{AreFree}
-use Rattle.text_parts.specs.Names.{indented_message, nt_message, nt_line, abort_line, signal_name, signal_info, info_text, long_word, short_word, success_word, IsPlainResult}
-use Rattle.report_words.specs.PlainTexts.{HoldsIf}
 
 pub free-long_word : (x : ExecutionResultDescription) → IsPlainResult x → HasNoEscape (long_word x)
 unfolding long_word

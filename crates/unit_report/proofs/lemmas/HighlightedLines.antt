@@ -1,11 +1,7 @@
 -- Lines, and what closes them (for `body_len`, `split_body`, `write_highlighted_lines`).
 use Rattle.std.proofs.Common.{◌≡◌, ℕ, zero, suc, ◌<◌, ◌≤◌, true, false, ◌==◌, inl, inr, [], ◌∷◌, ◌++◌, refl, ap, arith, length, get_or, drop, subst}
-use Rattle.std.proofs.Math.Seq.{drop-cons}
-use Rattle.std.proofs.lemmas.Bool.{cases_Bool, and_parts}
-use Rattle.std.proofs.lemmas.Bool.Decides.{nat_tests}
-use Rattle.std.proofs.lemmas.Str.{IsCharBoundary-end}
-use Rattle.styled_text.specs.Names.{IsCharBoundary, whole_lines, Text}
-use Rattle.styled_text.specs.declared.style.Style.{Style}
+use Rattle.std.proofs.{Math.Seq.drop-cons, lemmas.Str.IsCharBoundary-end, lemmas.Bool.cases_Bool, lemmas.Bool.and_parts, lemmas.Bool.Decides.nat_tests}
+use Rattle.styled_text.specs.{Names.IsCharBoundary, Names.whole_lines, Names.Text, declared.style.Style.Style}
 use Rattle.unit_report.specs.HighlightedLines.{closes_line, is_line_end, body_len, highlighted_line, highlighted_lines}
 
 pub whole_lines-nil : (t : Text) → length t ≡ 0 → whole_lines t ≡ []

@@ -1,8 +1,7 @@
 //! How many tests and binaries a run skips, and why.
 
 ghost use Rattle.std.specs.Prelude.{◌≡◌};
-ghost use Rattle.writers.specs.Writer.{Puts};
-ghost use Rattle.report_words.specs.Parts.{paint};
+ghost use Rattle.{writers.specs.Writer.Puts, report_words.specs.Parts.paint};
 ghost use Rattle.unit_report.specs.SkipCounts.{filter_name, included_text, skip_counts_text, skip_reason, skipped_tests_in, tests_and_binaries, tests_text, via_filter};
 
 use report_words::plural::{binaries_str, tests_str};

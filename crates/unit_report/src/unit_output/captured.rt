@@ -4,8 +4,7 @@
 //! from going on after it. Nothing is copied: what is written are slices of the text.
 
 ghost use Rattle.std.specs.Prelude.{◌≡◌, true, false, take, drop, MatchOption};
-ghost use Rattle.run_model.specs.Outputs.{subslice_value};
-ghost use Rattle.styled_text.specs.Names.{highlight_end, Puts};
+ghost use Rattle.{run_model.specs.Outputs.subslice_value, styled_text.specs.Names.highlight_end, styled_text.specs.Names.Puts};
 ghost use Rattle.unit_report.specs.Captured.{captured, coloured_output, highlight_stop, is_valid, part_value, reset_output};
 
 use super::highlighted_lines::write_highlighted_lines;

@@ -1,7 +1,6 @@
 //! What begins and what ends a style, for formatting.
 
-ghost use Rattle.std.specs.Prelude.{Some};
-ghost use Rattle.styled_text.specs.Style.{style_prefix, style_suffix};
+ghost use Rattle.{std.specs.Prelude.Some, styled_text.specs.Style.style_prefix, styled_text.specs.Style.style_suffix};
 
 use std::fmt;
 use std::fmt::Formatter;

@@ -1,8 +1,7 @@
 //! Whose setting decides when a test's output is shown.
 
 ghost use Rattle.std.specs.Prelude.{◌≡◌, unwrap_or};
-ghost use Rattle.run_model.specs.Statuses.{described_summary};
-ghost use Rattle.unit_report.specs.Overrides.{display_for, display_when};
+ghost use Rattle.{run_model.specs.Statuses.described_summary, unit_report.specs.Overrides.display_for, unit_report.specs.Overrides.display_when};
 
 use run_model::config::TestOutputDisplay;
 use run_model::output::OutputSpec;

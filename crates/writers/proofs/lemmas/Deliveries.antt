@@ -1,9 +1,7 @@
 -- What a device took of the text that a `TextBuffer` accepted (for `delivery_law`).
 use Rattle.std.proofs.Common.{◌≡◌, ℕ, List, [], ◌++◌, Option, Some, sym, ap, ◌∙◌, append_assoc}
-use Rattle.std.proofs.lemmas.List.{append_cancel_left}
+use Rattle.{std.proofs.lemmas.List.append_cancel_left, writers.specs.declared.write_str.WriteFault.WriteFault, writers.specs.declared.write_str.text_buffer.TextBuffer.TextBuffer}
 use Rattle.writers.specs.TextBuffer.{BufferAccepts, BufferStops, Delivers, DeliversWithin, GrowsWithin}
-use Rattle.writers.specs.declared.write_str.WriteFault.{WriteFault}
-use Rattle.writers.specs.declared.write_str.text_buffer.TextBuffer.{TextBuffer}
 
 -- what the device took, and what is then pending
 taken_of : (old held new pending text taken : List ℕ) → new ≡ old ++ taken → new ++ pending ≡ (old ++ held) ++ text → Delivers old held new pending text

@@ -1,7 +1,6 @@
 -- A text that is delivered after it was written.
 use Rattle.std.proofs.Common.{ℕ, List, [], subst, append-nil, Result, Ok, Err}
-use Rattle.writers.specs.Writer.{Meaning, WriterLaws, Puts}
-use Rattle.writers.specs.declared.write_str.WriteFault.{WriteFault}
+use Rattle.writers.specs.{Writer.Meaning, Writer.WriterLaws, Writer.Puts, declared.write_str.WriteFault.WriteFault}
 
 -- a text, and then a flush
 pub puts_flushed : {S : Type 0} {m : Meaning S} (laws : WriterLaws m) (a b c : S) (t : List ℕ) (r : Result (Unit {0}) WriteFault) → m.accepts a t b → Puts m b [] r c → Puts m a t r c

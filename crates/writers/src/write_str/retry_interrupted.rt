@@ -1,9 +1,6 @@
 //! A device whose interrupted calls are repeated.
 
-ghost use Rattle.std.specs.Prelude.{◌≡◌, ◌≢◌, IfErr};
-ghost use Rattle.std.specs.IoError.{error_kind};
-ghost use Rattle.std.specs.Io.{WritesAtMost};
-ghost use Rattle.std.specs.Io.KnownBytes.{Keeps, WriteAppends};
+ghost use Rattle.std.specs.{Prelude.◌≡◌, Prelude.◌≢◌, Prelude.IfErr, IoError.error_kind, Io.WritesAtMost, Io.KnownBytes.Keeps, Io.KnownBytes.WriteAppends};
 
 use std::io;
 use std::io::{ErrorKind, Write};

@@ -3,9 +3,7 @@
 //! Reports consist of short texts, and a system call for each would cost more than the texts do. The memory is reserved once,
 //! and no later call allocates.
 
-ghost use Rattle.std.specs.Prelude.{◌≡◌, ◌≤◌, length, take};
-ghost use Rattle.std.specs.Bool.{OnTrue};
-ghost use Rattle.std.specs.Io.KnownBytes.{Appends};
+ghost use Rattle.std.specs.{Prelude.◌≡◌, Prelude.◌≤◌, Prelude.length, Prelude.take, Bool.OnTrue, Io.KnownBytes.Appends};
 
 use super::pending_bytes::{CAPACITY, PendingBytes};
 use super::{WriteFault, WriteStr};
@@ -33,8 +31,7 @@ pub struct TextBuffer<W> {
 
 impl<W: Write> TextBuffer<W> {
     ghost use Rattle.std.specs.Prelude.{◌≡◌, ◌≤◌, [], IfErr, IfOk, OnOk, length};
-    ghost use Rattle.writers.specs.TextBuffer.{buffer_meaning};
-    ghost use Rattle.writers.specs.Writer.{Puts};
+    ghost use Rattle.writers.specs.{TextBuffer.buffer_meaning, Writer.Puts};
 
     /// Reserves the memory, 8,192 bytes, once. If that is refused, the device is returned.
     pub fn new(alloc: Global, writer: W) -> Result<TextBuffer<W>, (AllocError, W)>

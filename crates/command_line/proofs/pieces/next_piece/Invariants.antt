@@ -1,8 +1,6 @@
-use Rattle.std.proofs.Common.{◌≡◌, ◌++◌, ℕ, List, Some}
-use Rattle.std.specs.Io.Buffered.{reader_remaining}
-use Rattle.command_line.proofs.pieces.next_piece.Given as goal
+use Rattle.std.{proofs.Common.◌≡◌, proofs.Common.◌++◌, proofs.Common.ℕ, proofs.Common.List, proofs.Common.Some, specs.Io.Buffered.reader_remaining}
 
 -- what was taken, and what is left, are the text
-abbrev pub invariant-loop-turn : goal.invariant-loop-turn
+abbrev pub invariant-loop-turn : Rattle.command_line.proofs.pieces.next_piece.Given.invariant-loop-turn
 invariant-loop-turn g l = (text : List ℕ) → reader_remaining g.R.Read.remaining l.initial.reader ≡ Some text
     → (more : List ℕ) × (reader_remaining g.R.Read.remaining l.reader ≡ Some more) × (text ≡ l.piece.items ++ more)

@@ -1,9 +1,6 @@
-use Rattle.std.proofs.Common.{◌+◌, ◌==◌, drop, arith}
-use Rattle.std.specs.Io.Buffered.{reader_buffer, reader_capacity}
-use Rattle.command_line.proofs.lemmas.Pieces.{at_hand_first, lines_taken}
-use Rattle.command_line.proofs.pieces.take_at_hand.Goals as goal
+use Rattle.{std.proofs.Common.◌+◌, std.proofs.Common.◌==◌, std.proofs.Common.drop, std.proofs.Common.arith, std.specs.Io.Buffered.reader_buffer, std.specs.Io.Buffered.reader_capacity, command_line.proofs.lemmas.Pieces.at_hand_first, command_line.proofs.lemmas.Pieces.lines_taken}
 
-pub returns-in_ok-extend_from_slice-in-Some : goal.returns-in_ok-extend_from_slice-in-Some
+pub returns-in_ok-extend_from_slice-in-Some : Rattle.command_line.proofs.pieces.take_at_hand.Goals.returns-in_ok-extend_from_slice-in-Some
 returns-in_ok-extend_from_slice-in-Some g c = λ text known.
     let left = at_hand_first (reader_capacity c.args.reader.now == 0) (reader_buffer c.args.reader.now) (g.R.Read.remaining c.args.reader.now.inner) text known in
     let bytes = rw known at c.consume.ensures.bytes in

@@ -1,6 +1,4 @@
-use Rattle.std.proofs.Common.{◌≡◌, ◌++◌, length, map, string_bytes}
-use Rattle.std.specs.Option.{option_map}
-use Rattle.scene_fields.specs.Lists.{instances_in, instances_of}
+use Rattle.{std.proofs.Common.◌≡◌, std.proofs.Common.◌++◌, std.proofs.Common.length, std.proofs.Common.map, std.proofs.Common.string_bytes, std.specs.Option.option_map, scene_fields.specs.Lists.instances_in, scene_fields.specs.Lists.instances_of}
 use Rattle.scene_fields.proofs.lists.read_instances.Given as goal
 
 -- the tests so far, and then those of the words that are left, are all

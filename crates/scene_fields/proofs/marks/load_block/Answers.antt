@@ -1,6 +1,5 @@
-use Rattle.std.proofs.Common.{◌≡◌, ◌-◌, ◌++◌, ◌∙◌, ap, append-nil, arith, drop, length, length-drop, replicate, sym, take}
-use Rattle.std.proofs.lemmas.List.{drop-replicate, take_all}
-use Rattle.scene_fields.proofs.lemmas.Cuts.{rest_is}
+use Rattle.std.proofs.Common.{◌≡◌, ◌-◌, ◌++◌, ◌∙◌, ap, append-nil, arith, drop, length, length-drop, replicate, sym, take, take_all}
+use Rattle.{std.proofs.lemmas.List.drop-replicate, scene_fields.proofs.lemmas.Cuts.rest_is}
 use Rattle.scene_fields.proofs.marks.load_block.Goals as goal
 
 pub returns-then-rest-ge32 : goal.returns-then-rest-ge32

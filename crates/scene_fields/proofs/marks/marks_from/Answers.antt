@@ -1,6 +1,5 @@
 use Rattle.std.proofs.Common.{◌≡◌, ◌+◌, ◌-◌, ◌/◌, ◌^◌, ◌∙◌, ap, arith, drop, length, min, take}
-use Rattle.scene_fields.specs.Marks.{marks, marks_between}
-use Rattle.scene_fields.proofs.lemmas.Marks.{marks-block, marks-later}
+use Rattle.scene_fields.{specs.Marks.marks, specs.Marks.marks_between, proofs.lemmas.Marks.marks-block, proofs.lemmas.Marks.marks-later}
 use Rattle.scene_fields.proofs.marks.marks_from.Goals as goal
 
 pub returns-then-left-ge32 : goal.returns-then-left-ge32

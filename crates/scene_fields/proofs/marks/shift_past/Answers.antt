@@ -1,7 +1,5 @@
-use Rattle.std.proofs.Common.{◌≡◌, ℕ, ◌+◌, ◌/◌, ◌^◌, ap, sym, ◌∙◌, arith}
+use Rattle.std.proofs.{Common.◌≡◌, Common.ℕ, Common.◌+◌, Common.◌/◌, Common.◌^◌, Common.ap, Common.sym, Common.◌∙◌, Common.arith, Common.pow-add, Math.Pow.pow_mono}
 use native.Mathlib.Nat.{div-div-eq-div-mul, div-lt_self}
-use Rattle.std.proofs.lemmas.Nat.{pow-add}
-use Rattle.std.proofs.Math.Pow.{pow_mono}
 use Rattle.scene_fields.proofs.marks.shift_past.Goals as goal
 
 -- two shifts are one

@@ -1,9 +1,7 @@
 use Rattle.std.proofs.Common.{◌≡◌, ◌<◌, true, length-take, drop, get_or-take, arith}
-use Rattle.scene_fields.specs.Numbers.{starts_with_digit}
-use Rattle.scene_fields.proofs.lemmas.Cuts.{rest_is}
+use Rattle.scene_fields.{specs.Numbers.starts_with_digit, proofs.lemmas.Cuts.rest_is, proofs.numbers.leading_number.Goals.else-loop-byte-test, proofs.numbers.leading_number.Goals.then-loop-byte-test+then-digit-gt9}
 use Rattle.scene_fields.proofs.lemmas.ShortNumbers.{stays_small, one_digit_more, leading, digit_in}
 use Rattle.scene_fields.proofs.numbers.leading_number.Goals as goal
-use Rattle.scene_fields.proofs.numbers.leading_number.Goals.{else-loop-byte-test, then-loop-byte-test+then-digit-gt9}
 
 pub overflow_mul-number : goal.overflow_mul-number
 overflow_mul-number c =

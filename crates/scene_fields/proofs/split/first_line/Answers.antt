@@ -1,5 +1,4 @@
-use Rattle.std.proofs.Common.{◌+◌}
-use Rattle.scene_fields.proofs.lemmas.Cuts.{rest_is, split_on-first, split_on-none}
+use Rattle.{std.proofs.Common.◌+◌, scene_fields.proofs.lemmas.Cuts.rest_is, scene_fields.proofs.lemmas.Cuts.split_on-first, scene_fields.proofs.lemmas.Cuts.split_on-none}
 use Rattle.scene_fields.proofs.split.first_line.Goals as goal
 
 pub returns-in-None-clause-lines : goal.returns-in-None-clause-lines

@@ -1,8 +1,6 @@
-use Rattle.std.proofs.Common.{◌≡◌, ◌<◌, ◌==◌, true, subst, sym, arith}
-use Rattle.std.proofs.lemmas.List.{get_or-take, length-take}
-use Rattle.scene_fields.proofs.split.first_place.Goals as goal
+use Rattle.std.proofs.Common.{◌≡◌, ◌<◌, ◌==◌, true, subst, sym, arith, get_or-take, length-take}
 
-pub returns-in-Some : goal.returns-in-Some
+pub returns-in-Some : Rattle.scene_fields.proofs.split.first_place.Goals.returns-in-Some
 returns-in-Some c =
     let t = c.args.text.now in
     let found = c.in-Some.ensures in

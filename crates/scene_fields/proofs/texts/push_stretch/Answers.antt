@@ -1,9 +1,6 @@
-use Rattle.std.proofs.Common.{◌≡◌, ◌+◌, ◌-◌, subst, arith}
-use Rattle.std.specs.Str.{IsCharBoundary}
-use Rattle.std.proofs.lemmas.Str.{IsCharBoundary-after_ascii}
-use Rattle.scene_fields.proofs.texts.push_stretch.Goals as goal
+use Rattle.std.{proofs.Common.◌≡◌, proofs.Common.◌+◌, proofs.Common.◌-◌, proofs.Common.subst, proofs.Common.arith, specs.Str.IsCharBoundary, proofs.lemmas.Str.IsCharBoundary-after_ascii}
 
-pub range_from-requires : goal.range_from-requires
+pub range_from-requires : Rattle.scene_fields.proofs.texts.push_stretch.Goals.range_from-requires
 range_from-requires c above =
     let f = rw c.as_bytes.ensures.value at c.in-Some.ensures.len in
     let e : c.in-Some.len - 1 + 1 ≡ c.in-Some.len = omega arith in

@@ -1,11 +1,6 @@
 use Rattle.std.proofs.Common.{◌≡◌, ◌∙◌, ap, arith, not, w64}
-use Rattle.std.specs.Int.{trailing_zeros}
-use Rattle.std.specs.List.{prefix_len}
-use Rattle.std.proofs.lemmas.List.Sums.{prefix_len-le-length}
-use Rattle.std.proofs.lemmas.Simd.{leading_from_mask_l, trailing_mask_l}
-use Rattle.memchr.specs.Find.{is_byte}
-use Rattle.scene_fields.proofs.lemmas.Marks.{marks-before, some_before}
-use Rattle.scene_fields.proofs.unescape.plain_len.Goals.{then-marks-eq0, else-marks-eq0}
+use Rattle.{std.specs.Int.trailing_zeros, std.specs.List.prefix_len, memchr.specs.Find.is_byte, std.proofs.lemmas.List.Sums.prefix_len-le-length, std.proofs.lemmas.Simd.leading_from_mask_l, std.proofs.lemmas.Simd.trailing_mask_l}
+use Rattle.scene_fields.proofs.{lemmas.Marks.marks-before, lemmas.Marks.some_before, unescape.plain_len.Goals.then-marks-eq0, unescape.plain_len.Goals.else-marks-eq0}
 use Rattle.scene_fields.proofs.unescape.plain_len.Goals as goal
 
 -- what is counted comes before the first escape

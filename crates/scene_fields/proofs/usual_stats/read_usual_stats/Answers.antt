@@ -1,8 +1,6 @@
-use Rattle.std.proofs.Common.{◌≡◌, [], rules}
-use Rattle.scene_fields.proofs.lemmas.UsualStats.{usual_pairs}
-use Rattle.scene_fields.proofs.usual_stats.read_usual_stats.Goals as goal
+use Rattle.{std.proofs.Common.◌≡◌, std.proofs.Common.[], std.proofs.Common.rules, scene_fields.proofs.lemmas.UsualStats.usual_pairs}
 
-pub returns : goal.returns
+pub returns : Rattle.scene_fields.proofs.usual_stats.read_usual_stats.Goals.returns
 returns c =
     let first = rw c.as_bytes.ensures.value at c.in_ok-initial_run_count.ensures in
     let none : c.number_after_or_zero-skipped.result.1.now ≡ [] = search rules in

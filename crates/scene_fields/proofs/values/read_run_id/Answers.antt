@@ -1,11 +1,9 @@
-use Rattle.std.proofs.Common.{◌≡◌, Option, None, Some, refl}
-use Rattle.uuid.specs.Text.{parsed}
-use Rattle.scene_fields.proofs.values.read_run_id.Goals as goal
+use Rattle.{std.proofs.Common.◌≡◌, std.proofs.Common.Option, std.proofs.Common.None, std.proofs.Common.Some, std.proofs.Common.refl, uuid.specs.Text.parsed}
 
 -- what is no value is none
 no_value : {V : Type 0} (o : Option V) → ((v : V) → ¬ (o ≡ Some v)) → None ≡ o
 no_value None h = refl
 no_value (Some v) h = absurd (h v refl)
 
-pub returns-in-Err : goal.returns-in-Err
+pub returns-in-Err : Rattle.scene_fields.proofs.values.read_run_id.Goals.returns-in-Err
 returns-in-Err c = no_value (parsed c.args.field.now) (λ v e. let k = c.in-Err.ensures.ok.1 (v, e) in cc)

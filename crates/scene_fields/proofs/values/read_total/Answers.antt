@@ -1,9 +1,5 @@
 use Rattle.std.proofs.Common.{◌∙◌, ap, ◌≡◌, ℕ, zero, suc, ◌<◌, Option, None, Some, MatchOption, refl, arith, zero-lt-suc}
-use Rattle.scene_fields.specs.Values.{total_in, non_zero}
-use Rattle.std.specs.Int.NonZero.{non_zero_u32_get}
-use Rattle.std.specs.declared.num.NonZeroU32.{NonZeroU32}
-use Rattle.std.proofs.Props.{props}
-use Rattle.scene_fields.proofs.values.read_total.Goals as goal
+use Rattle.{scene_fields.specs.Values.total_in, scene_fields.specs.Values.non_zero, std.specs.Int.NonZero.non_zero_u32_get, std.specs.declared.num.NonZeroU32.NonZeroU32, std.proofs.Props.props}
 
 below_prop : (n m : ℕ) → IsProp (n < m)
 below_prop n m = search props
@@ -19,5 +15,5 @@ non_zero_by : (n : ℕ) (r : Option NonZeroU32) → MatchOption r (n ≡ 0) (λ 
 non_zero_by n None h = rw h refl
 non_zero_by n (Some x) h = of_value x.value x.ok ∙ ap non_zero h
 
-pub returns : goal.returns
+pub returns : Rattle.scene_fields.proofs.values.read_total.Goals.returns
 returns c = non_zero_by _ _ c.new.ensures ∙ ap total_in c.in_ok-read_small_count.ensures

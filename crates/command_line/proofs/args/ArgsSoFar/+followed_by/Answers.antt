@@ -1,7 +1,5 @@
 use Rattle.std.proofs.Common.{◌≡◌, ◌≢◌, ◌∙◌, List, ℕ, bytes_eq, false, sym}
-use Rattle.std.proofs.lemmas.Bool.{false_from_ne_true}
-use Rattle.std.proofs.lemmas.Slice.Eq.{bytes_eq-Decides}
-use Rattle.command_line.specs.Args.{options_after}
+use Rattle.{std.proofs.lemmas.Bool.false_from_ne_true, std.proofs.lemmas.Slice.Eq.bytes_eq-Decides, command_line.specs.Args.options_after}
 use Rattle.command_line.proofs.args.ArgsSoFar.+followed_by.Goals as goal
 
 pub returns-in_ok-with_level-in-text : goal.returns-in_ok-with_level-in-text

@@ -1,6 +1,4 @@
-use Rattle.run_names.specs.Levels.{reason_rank}
-use Rattle.test_text.specs.TestFinished.{finish_of}
-use Rattle.reporter_state.proofs.lemmas.Loads.{attempt_loaded, handed_loaded}
+use Rattle.{run_names.specs.Levels.reason_rank, test_text.specs.TestFinished.finish_of, reporter_state.proofs.lemmas.Loads.attempt_loaded, reporter_state.proofs.lemmas.Loads.handed_loaded}
 use Rattle.console_reporter.proofs.imp.event_text.write_event_text.Goals as goal
 
 pub write_attempt_failed-requires : goal.write_attempt_failed-requires

@@ -1,10 +1,6 @@
-use Rattle.std.proofs.Common.{rules}
-use Rattle.writers.specs.StringWriter.{string_laws}
-use Rattle.console_reporter.specs.Configuration.{configured}
-use Rattle.console_reporter.proofs.lemmas.Runs.{runs_alone}
-use Rattle.console_reporter.proofs.imp.run.run_report.Goals as goal
+use Rattle.{std.proofs.Common.rules, writers.specs.StringWriter.string_laws, console_reporter.specs.Configuration.configured, console_reporter.proofs.lemmas.Runs.runs_alone}
 
-pub returns : goal.returns
+pub returns : Rattle.console_reporter.proofs.imp.run.run_report.Goals.returns
 returns g c =
     let built = c.build-reporter.ensures in
     let made = c.make_calls-outcome.ensures in

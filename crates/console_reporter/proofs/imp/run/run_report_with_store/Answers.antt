@@ -1,9 +1,6 @@
-use Rattle.std.proofs.Common.{rules}
-use Rattle.console_reporter.specs.Configuration.{configured_with_store}
-use Rattle.console_reporter.proofs.lemmas.Runs.{runs_with_store}
-use Rattle.console_reporter.proofs.imp.run.run_report_with_store.Goals as goal
+use Rattle.{std.proofs.Common.rules, console_reporter.specs.Configuration.configured_with_store, console_reporter.proofs.lemmas.Runs.runs_with_store}
 
-pub returns-in-Some : goal.returns-in-Some
+pub returns-in-Some : Rattle.console_reporter.proofs.imp.run.run_report_with_store.Goals.returns-in-Some
 returns-in-Some g c =
     let built = c.build_with_store-reporter.ensures in
     let made = c.make_calls-outcome.ensures in

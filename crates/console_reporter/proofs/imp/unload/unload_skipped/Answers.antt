@@ -1,9 +1,5 @@
-use Rattle.std.proofs.Common.{◌≡◌, ◌<◌, ◌++◌, map, length, arith, ap₂, subst, sym, append-nil, ◌∙◌}
-use Rattle.std.proofs.lemmas.List.{take_all, drop_all}
-use Rattle.std.proofs.lemmas.List.Edits.{map_over_more}
-use Rattle.console_reporter.specs.Isolation.{IsIsolated}
-use Rattle.reporter_state.specs.Unread.{unread, unread_call}
-use Rattle.console_reporter.proofs.lemmas.Isolation.{isolated}
+use Rattle.std.proofs.Common.{◌≡◌, ◌<◌, ◌++◌, map, length, arith, ap₂, subst, sym, append-nil, ◌∙◌, take_all}
+use Rattle.{std.proofs.lemmas.List.drop_all, std.proofs.lemmas.List.Edits.map_over_more, console_reporter.specs.Isolation.IsIsolated, console_reporter.proofs.lemmas.Isolation.isolated, reporter_state.specs.Unread.unread, reporter_state.specs.Unread.unread_call}
 use Rattle.console_reporter.proofs.imp.unload.unload_skipped.Goals as goal
 
 pub loop-call-preserved : goal.loop-call-preserved

@@ -1,5 +1,4 @@
-use Rattle.std.proofs.Common.{◌∙◌}
-use Rattle.reporter_state.proofs.lemmas.Inserts.{places_more, shown_more}
+use Rattle.{std.proofs.Common.◌∙◌, reporter_state.proofs.lemmas.Inserts.places_more, reporter_state.proofs.lemmas.Inserts.shown_more}
 use Rattle.reporter_state.proofs.kept.KeptEntries.keep.Goals as goal
 
 pub invariant_of-self-2 : goal.invariant_of-self-2

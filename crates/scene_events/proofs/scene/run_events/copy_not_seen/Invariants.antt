@@ -1,6 +1,5 @@
 use Rattle.std.proofs.Common.{◌≡◌, take}
-use Rattle.scene_events.proofs.scene.run_events.copy_not_seen.Given as goal
 
 -- the tests so far are copied
-abbrev pub invariant-loop-test : goal.invariant-loop-test
+abbrev pub invariant-loop-test : Rattle.scene_events.proofs.scene.run_events.copy_not_seen.Given.invariant-loop-test
 invariant-loop-test l = l.copies.items ≡ take l.test-index l.listed

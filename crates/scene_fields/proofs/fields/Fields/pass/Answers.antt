@@ -1,10 +1,5 @@
 use Rattle.std.proofs.Common.{◌≡◌, ◌-◌, ◌++◌, ◌∙◌, List, [], ◌∷◌, ℕ, zero, suc, length, take, drop, min, ap, sym, arith}
-use Rattle.std.proofs.lemmas.List.{drop-map, length-map}
-use Rattle.std.specs.Borrow.{Bor, MutBor}
-use Rattle.scene_fields.specs.Split.{field_texts}
-use Rattle.scene_fields.specs.Fields.{Place}
-use Rattle.scene_fields.proofs.lemmas.Cuts.{rest_is}
-use Rattle.scene_fields.proofs.fields.Fields.pass.Goals as goal
+use Rattle.{std.proofs.lemmas.List.drop-map, std.proofs.lemmas.List.length-map, std.specs.Borrow.Bor, std.specs.Borrow.MutBor, scene_fields.specs.Split.field_texts, scene_fields.specs.Fields.Place, scene_fields.proofs.lemmas.Cuts.rest_is}
 
 -- n items of both lists are dropped, of which these are in the first
 both : (n here : ℕ) (xs ys : List (List ℕ)) → here ≡ min n (length xs) → drop here xs ++ drop (n - here) ys ≡ drop n (xs ++ ys)
@@ -14,7 +9,7 @@ both zero here (x ∷ xs) ys e = let none : here ≡ 0 = omega (arith, e) in ap 
 both (suc n) zero (x ∷ xs) ys e = absurd (omega (arith, e))
 both (suc n) (suc here) (x ∷ xs) ys e = let less : suc n - suc here ≡ n - here = omega arith in ap (λ k. drop here xs ++ drop k ys) less ∙ both n here xs ys (omega (arith, e))
 
-pub returns-clause-left : goal.returns-clause-left
+pub returns-clause-left : Rattle.scene_fields.proofs.fields.Fields.pass.Goals.returns-clause-left
 returns-clause-left c =
     let here = c.min-here.result in
     let left = c.self.inside.left.now in

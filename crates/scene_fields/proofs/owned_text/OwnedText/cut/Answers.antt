@@ -1,7 +1,5 @@
-use Rattle.std.proofs.Common.{◌<◌, ◌∙◌, ap, drop, get_or, length, subst, sym}
-use Rattle.std.specs.Str.{is_utf8}
-use Rattle.std.proofs.lemmas.List.{drop-drop}
-use Rattle.scene_fields.proofs.lemmas.Utf8.{valid_after, valid_before}
+use Rattle.std.proofs.Common.{◌<◌, ◌∙◌, ap, drop, get_or, length, subst, sym, drop-drop}
+use Rattle.{std.specs.Str.is_utf8, scene_fields.proofs.lemmas.Utf8.valid_after, scene_fields.proofs.lemmas.Utf8.valid_before}
 use Rattle.scene_fields.proofs.owned_text.OwnedText.cut.Goals as goal
 
 pub invariant_of-result : goal.invariant_of-result

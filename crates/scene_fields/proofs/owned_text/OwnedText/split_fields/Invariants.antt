@@ -1,5 +1,4 @@
-use Rattle.std.proofs.Common.{◌≡◌, ◌++◌, length}
-use Rattle.scene_fields.specs.Split.{split_on}
+use Rattle.{std.proofs.Common.◌≡◌, std.proofs.Common.◌++◌, std.proofs.Common.length, scene_fields.specs.Split.split_on}
 use Rattle.scene_fields.proofs.owned_text.OwnedText.split_fields.Given as goal
 
 -- the fields so far, and those of the rest, are all

@@ -1,6 +1,5 @@
 use Rattle.std.proofs.Common.{◌≡◌, ◌-◌, arith, sym, ◌∙◌, false, get_or, subst}
-use Rattle.unit_report.specs.HighlightedLines.{closes_line}
-use Rattle.unit_report.proofs.lemmas.HighlightedLines.{body_len-at, line_end-more}
+use Rattle.unit_report.{specs.HighlightedLines.closes_line, proofs.lemmas.HighlightedLines.body_len-at, proofs.lemmas.HighlightedLines.line_end-more}
 use Rattle.unit_report.proofs.unit_output.highlighted_lines.body_len.Goals as goal
 
 pub loop-len-preserved : goal.loop-len-preserved

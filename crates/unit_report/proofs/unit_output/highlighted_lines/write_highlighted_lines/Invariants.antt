@@ -1,8 +1,5 @@
-use Rattle.std.proofs.Common.{length}
-use denote.Text.{Utf8}
-use denote.Shadow.{shadow}
-use Rattle.writers.specs.Writer.{Owes}
-use Rattle.unit_report.specs.HighlightedLines.{highlighted_lines}
+use Rattle.{std.proofs.Common.length, writers.specs.Writer.Owes, unit_report.specs.HighlightedLines.highlighted_lines}
+use denote.{Text.Utf8, Shadow.shadow}
 use Rattle.unit_report.proofs.unit_output.highlighted_lines.write_highlighted_lines.Given as goal
 
 -- the remaining lines are owed

@@ -1,10 +1,7 @@
-use Rattle.std.proofs.Common.{◌-◌, ◌++◌, length, take, drop, sym, ap, subst, ◌∙◌, arith, length-take}
-use lib.Seq.{take-add, take-take}
-use Rattle.std.specs.Io.KnownBytes.{Appends}
-use Rattle.std.proofs.KnownBytes.{Appends-trans}
-use Rattle.writers.proofs.write_str.text_buffer.send.Goals as goal
+use Rattle.std.proofs.Common.{◌-◌, ◌++◌, length, take, drop, sym, ap, subst, ◌∙◌, arith, length-take, take-add, take-take}
+use Rattle.std.{specs.Io.KnownBytes.Appends, proofs.KnownBytes.Appends-trans}
 
-pub loop-sent-preserved : goal.loop-sent-preserved
+pub loop-sent-preserved : Rattle.writers.proofs.write_str.text_buffer.send.Goals.loop-sent-preserved
 loop-sent-preserved g c =
     let done = c.loop-sent.sent in
     let n = c.in-Ok.n in

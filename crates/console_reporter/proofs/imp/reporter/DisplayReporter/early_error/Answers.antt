@@ -1,6 +1,4 @@
-use Rattle.std.proofs.Common.{rules, Some}
-use Rattle.run_model.specs.declared.call.ReportCall.TheVariants.{Event}
-use Rattle.console_reporter.proofs.lemmas.Promises.{event_refused, promise_failed}
+use Rattle.{std.proofs.Common.rules, std.proofs.Common.Some, run_model.specs.declared.call.ReportCall.TheVariants.Event, console_reporter.proofs.lemmas.Promises.event_refused, console_reporter.proofs.lemmas.Promises.promise_failed}
 use Rattle.console_reporter.proofs.imp.reporter.DisplayReporter.early_error.Goals as goal
 
 pub returns-then-self-clause-kept : goal.returns-then-self-clause-kept

@@ -1,8 +1,7 @@
 use Rattle.std.proofs.Common.{[], take}
 use Rattle.console_reporter.specs.Names.{AreAccepted, Configuration, past_at, StandsAfter, AreDelivered, IsSameReporter, TellsRun}
-use Rattle.console_reporter.proofs.imp.reporter.DisplayReporter.make_calls.Given as goal
 
-abbrev pub invariant-loop-position : goal.invariant-loop-position
+abbrev pub invariant-loop-position : Rattle.console_reporter.proofs.imp.reporter.DisplayReporter.make_calls.Given.invariant-loop-position
 invariant-loop-position g l = record {
   same : IsSameReporter l.initial.self l.self;
   tells : TellsRun g.W.WriteStr.meaning g.S.WriteStr.meaning l.initial.self (past_at l.calls l.position) l.self;

@@ -1,7 +1,4 @@
-use Rattle.std.proofs.Common.{subst, ap₂, ◌∙◌}
-use Rattle.reporter_state.specs.Refusals.{decider_by}
-use Rattle.console_reporter.specs.Exactness.{IsExact}
-use Rattle.console_reporter.proofs.lemmas.Exactness.{exact}
+use Rattle.{std.proofs.Common.subst, std.proofs.Common.ap₂, std.proofs.Common.◌∙◌, reporter_state.specs.Refusals.decider_by, console_reporter.specs.Exactness.IsExact, console_reporter.proofs.lemmas.Exactness.exact}
 use Rattle.console_reporter.proofs.imp.reporter.DisplayReporter.output_load_decider.Goals as goal
 
 pub returns-clause-stands : goal.returns-clause-stands

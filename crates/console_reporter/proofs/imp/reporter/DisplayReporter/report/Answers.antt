@@ -1,5 +1,4 @@
-use Rattle.console_reporter.proofs.lemmas.Calls.{report_breaks}
-use Rattle.console_reporter.proofs.lemmas.Stores.{store-laws}
+use Rattle.console_reporter.proofs.lemmas.{Calls.report_breaks, Stores.store-laws}
 use Rattle.console_reporter.proofs.imp.reporter.DisplayReporter.report.Goals as goal
 
 pub returns-in-TestFinished-clause-err : goal.returns-in-TestFinished-clause-err

@@ -1,9 +1,5 @@
-use Rattle.std.proofs.Common.{refl, Some}
-use Rattle.run_model.specs.declared.call.ReportCall.TheVariants.{Event}
-use Rattle.reporter_state.proofs.lemmas.Loads.{lacks_less}
-use Rattle.console_reporter.specs.OptionalStore.{config_of}
+use Rattle.{std.proofs.Common.refl, std.proofs.Common.Some, run_model.specs.declared.call.ReportCall.TheVariants.Event, reporter_state.proofs.lemmas.Loads.lacks_less, console_reporter.specs.OptionalStore.config_of, console_reporter.proofs.lemmas.Refusals.none_where_not_some}
 use Rattle.console_reporter.proofs.lemmas.Promises.{event_accepted, promise_broken, promise_told}
-use Rattle.console_reporter.proofs.lemmas.Refusals.{none_where_not_some}
 use Rattle.console_reporter.proofs.imp.reporter.DisplayReporter.write_event.Goals as goal
 
 pub report_and_store-requires : goal.report_and_store-requires

@@ -1,6 +1,4 @@
-use Rattle.std.proofs.Common.{length}
-use Rattle.writers.specs.TextBuffer.{buffer_meaning}
-use Rattle.writers.specs.Writer.{Owes}
+use Rattle.{std.proofs.Common.length, writers.specs.TextBuffer.buffer_meaning, writers.specs.Writer.Owes}
 use Rattle.writers.proofs.write_str.text_buffer.TextBuffer.write_long.Given as goal
 
 -- the rest is owed
