@@ -2,7 +2,7 @@
 pub use Rattle.recorded.specs.Captured.{IsCaptured, IsCapturedStream, IsCountedOf, IsCountedOfStream, captured_at, captured_stream_at, counted_output}
 pub use Rattle.recorded.specs.Events.{IfDamaged, IsFirstBad, IsReplayed, event_inline, field_not, first_field_not, is_there, is_undamaged, is_wanted, needed_of, only_place, output_inline, output_len, outputs_len, stream_field_not, stream_inline, unless_bad, wanted, wanted_of}
 unfoldable pub use Rattle.recorded.specs.Events.{event_replayed}
-pub use Rattle.recorded.specs.NextLines.{CountsLine, IsFaultOfLoad, IsLineFault, IsNextLine, KeepsRead, LeavesLine, TakesOf}
+pub use Rattle.recorded.specs.NextLines.{CountsLine, CountsMore, IsFaultOfLoad, IsLineFault, IsNextLine, LeavesLine, TakesOf, value_replayed}
 pub use Rattle.recorded.specs.Outputs.{HasSum, IsCounted, IsLoaded, bytes_at, counted}
 unfoldable pub use Rattle.recorded.specs.Outputs.{stream_at}
 pub use Rattle.recorded.specs.ReadAt.{HasRead}

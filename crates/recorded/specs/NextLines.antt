@@ -1,14 +1,16 @@
 -- The next line of a recorded run, and what is left where it is wrong.
-use Rattle.std.specs.Prelude.{◌≡◌, ◌⊎◌, ℕ, ◌+◌, Bool, true, false, List, [], ◌∷◌, ◌++◌, length, take, Option, Some}
-use Rattle.scenes.specs.Names.{fault_of_read, IsUnread, Options, Fault, LinesRead}
+use Rattle.std.specs.Prelude.{◌≡◌, ◌⊎◌, ℕ, ◌+◌, Bool, true, false, List, [], ◌∷◌, ◌++◌, Option, Some, Result, Ok}
+use Rattle.scenes.specs.Names.{decider_for, fault_of_read, IsUnread, Options, Fault, LinesRead}
 use Rattle.command_line.specs.declared.fault.Fault.TheVariants as program
 use Rattle.recorded.specs.declared.outputs.LoadFault.{LoadFault}
 use Rattle.recorded.specs.declared.outputs.LoadFault.TheVariants as load
+use Rattle.recorded.specs.Events.{event_replayed}
 use Rattle.recorded.specs.Outputs.{counted}
 use Rattle.recorded.specs.Runs.{needed_for, ended_lines}
 use Rattle.recorded.specs.declared.lines.Taken.{Taken}
 use Rattle.recorded.specs.declared.lines.Taken.TheVariants as taken
-use Rattle.scene_text.specs.Names.{SceneEvent, Lacks, ReadFault, IsNextFault, LeavesLines, ReadsLines, RunLine, before_next, is_begun, lines_after, parsed_lines, recorded_line}
+use Rattle.scene_text.specs.Names.{Lacks, LineFault, ReadFault, IsFaultOfNext, LeavesLines, ReadsLines, RunLine, before_next, recorded_line, with_made}
+use Rattle.scene_text.specs.declared.reader.ParsedLine.{ParsedLine}
 use Rattle.scene_fields.specs.declared.fault.LineFault.TheVariants as line
 
 -- what was read of a text: its first line, before a line feed and what is left; or the rest after the last line feed
@@ -23,24 +25,25 @@ TakesOf taken.Line at_hand text old new rest = (part : List ℕ) × (more : List
 TakesOf taken.Part at_hand text old new rest = (part : List ℕ) × (more : List ℕ) × (rest ≡ Some more) × (new ≡ old ++ part) × (text ≡ part ++ more) × Lacks 10 part
 TakesOf taken.Nothing at_hand text old new rest = (at_hand ≡ []) × (rest ≡ Some text) × (new ≡ old)
 
--- a line behind those that were read is not read, and this is why
-abbrev pub IsLineFault : List ℕ → LinesRead → RunLine → Fault → Type 0
-IsLineFault file read line fault =
-    IsUnread file fault ⊎ ((f : ReadFault) × (fault ≡ fault_of_read f) × ((base : List SceneEvent) → is_begun base ≡ read.is_begun → IsNextFault read.next (lines_after base (parsed_lines read.run)) (line ∷ []) f))
+-- what the line behind these says, once it is read: with what a replay makes of its stored outputs and its event
+abbrev pub value_replayed : Options → List ℕ → LinesRead → ParsedLine → Result ParsedLine LineFault
+value_replayed options all read value = with_made (λ stored e. event_replayed all (decider_for options read.run.config) stored e) (Ok (value, read.stored.items))
 
--- nor is anything else
+-- why the line behind these is not read, where this was read of it
+abbrev pub IsLineFault : List ℕ → LinesRead → Result ParsedLine LineFault → Fault → Type 0
+IsLineFault file read said fault = IsUnread file fault ⊎ ((f : ReadFault) × (fault ≡ fault_of_read f) × IsFaultOfNext read said f)
+
+-- it is not read for that, nor is anything else
 abbrev pub LeavesLine : List ℕ → LinesRead → LinesRead → RunLine → Fault → Type 0
 LeavesLine file old new line fault = (IsUnread file fault × ReadsLines old new []) ⊎ ((f : ReadFault) × (fault ≡ fault_of_read f) × LeavesLines old new (line ∷ []) f)
 
--- what was read before is still in front of what was added
-pub record KeepsRead (old new : LinesRead) : Type 0 where
-  pub events : take (length old.run.events.items) new.run.events.items ≡ old.run.events.items
-  pub lines : take (length old.run.lines.items) new.run.lines.items ≡ old.run.lines.items
-  pub begun : new.is_begun ≡ old.is_begun
+-- this many bytes were read, and no others: the count goes on from the old one with as many more
+abbrev pub CountsMore : ℕ → ℕ → ℕ → Type 0
+CountsMore needed old new = (more : ℕ) → counted new more ≡ counted old (needed + more)
 
--- of a line behind those that were read the bytes that it needs were read, and no others: the count goes on from the old one with as many more
+-- those that a line behind those that were read needs
 abbrev pub CountsLine : Options → LinesRead → List ℕ → ℕ → ℕ → Type 0
-CountsLine options read line old new = (more : ℕ) → counted new more ≡ counted old (needed_for options (before_next read) (recorded_line (before_next read) line) + more)
+CountsLine options read line old new = CountsMore (needed_for options (before_next read) (recorded_line (before_next read) line)) old new
 
 -- the fault of the line of this number whose output in this field was not loaded
 abbrev pub IsFaultOfLoad : List ℕ → ℕ → ℕ → LoadFault → Fault → Type 0

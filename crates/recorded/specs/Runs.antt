@@ -2,7 +2,9 @@
 use Rattle.std.specs.Prelude.{ℕ, ◌+◌, List, [], ◌∷◌, map, true, Result, Ok, Err}
 use Rattle.scenes.specs.Names.{Options, decider_for}
 use Rattle.recorded.specs.Events.{event_inline, event_replayed, needed_of}
-use Rattle.scene_text.specs.Names.{split_on, LineFault, PlacedOutput, ConfigLine, EventLine, LinesBefore, NoEvent, ParsedLine, RecordedLine, RunLine, lines_before, no_lines, recorded_line}
+use Rattle.scene_text.specs.Names.{split_on, LineFault, PlacedOutput, LinesBefore, RecordedLine, RunLine, lines_before, no_lines, recorded_line}
+use Rattle.scene_text.specs.declared.reader.ParsedLine.{ParsedLine}
+use Rattle.scene_text.specs.declared.reader.ParsedLine.TheVariants.{ConfigLine, EventLine, NoEvent}
 
 -- options that show a recorded run
 abbrev pub replayed : Options → Options

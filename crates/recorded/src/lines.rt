@@ -1,17 +1,17 @@
 //! The lines of a recorded run. One is read at a time, with the outputs that its report shows.
 
-ghost use Rattle.std.specs.Prelude.{◌≡◌, ℕ, List, [], ◌∷◌, Some, IfErr, IfOk, OnErr, OnOk};
+ghost use Rattle.std.specs.Prelude.{◌≡◌, ℕ, List, [], ◌∷◌, Some, IfErr, IfOk, Ok, OnOk};
 ghost use Rattle.std.specs.Io.Buffered.{reader_buffer, reader_remaining};
 ghost use Rattle.scenes.specs.Names.{IsJudgeFault, IsUnread};
-ghost use Rattle.recorded.specs.Names.{CountsLine, IsFaultOfLoad, IsLineFault, IsNextLine, KeepsRead, LeavesLine, TakesOf, line_replayed};
-ghost use Rattle.scene_text.specs.SceneTexts.{ReadsLines};
+ghost use Rattle.recorded.specs.Names.{CountsLine, CountsMore, IsFaultOfLoad, IsLineFault, IsNextLine, LeavesLine, TakesOf, line_replayed, needed_by, value_replayed};
+ghost use Rattle.scene_text.specs.Names.{ReadsLines, before_next};
 
 use super::events::{LoadEventFault, load_outputs};
 use super::outputs::{LoadFault, RecordedOutputs};
 use super::read_at::ReadAt;
 use memchr::memchr;
 use run_model::memory::OutOfMemory;
-use scene_text::reader::LinesRead;
+use scene_text::reader::{LinesRead, ParsedLine};
 use scenes::args::Options;
 use scenes::fault::{Fault, LineFault};
 use scenes::reporter::decider_of;
@@ -80,8 +80,8 @@ fn take_at_hand<R: Read>(
     }
 }
 
-/// Reads a line behind those that were read, with the outputs that its report shows. What was read of a line that is wrong is taken back, so
-/// that its event is not reported.
+/// Reads a line behind those that were read, with the outputs that its report shows. Nothing of a line that is wrong is added, so its event
+/// is not reported.
 pub(crate) fn read_line<'a, O: ReadAt + Drop>(
     alloc: Global,
     file: &'a str,
@@ -96,51 +96,37 @@ pub(crate) fn read_line<'a, O: ReadAt + Drop>(
     ensures kept { O.recorded outputs.new.source ≡ O.recorded outputs.old.source }
     ensures count { OnOk result (CountsLine options.now read.old line.now (O.count outputs.old.source) (O.count outputs.new.source)) }
 {
-    let (config, next) = (read.run.config, read.next);
-    let (events, lines) = (read.run.events.len(), read.run.lines.len());
-    match read_and_load(alloc, file, options, line, outputs, read) {
-        Ok(()) => Ok(()),
-        Err(fault) => {
-            read.run.config = config;
-            read.run.events.truncate(events);
-            read.run.lines.truncate(lines);
-            read.next = next;
-            Err(fault)
-        }
-    }
+    let mut value = read.read_recorded(alloc, line)?;
+    load_shown(alloc, file, options, read, outputs, &mut value)?;
+    read.push(value)?;
+    Ok(())
 }
 
-// Reads a line, and loads the outputs that the report of its event shows.
-fn read_and_load<'a, O: ReadAt + Drop>(
+// Loads the outputs that the report of the line's event shows, which were just read.
+fn load_shown<'a, O: ReadAt + Drop>(
     alloc: Global,
     file: &'a str,
     options: &Options<'_>,
-    line: &[u8],
+    read: &LinesRead,
     outputs: &mut RecordedOutputs<O>,
-    read: &mut LinesRead,
+    value: &mut ParsedLine,
 ) -> Result<(), Fault<'a>>
-    ensures read { OnOk result ((all : List ℕ) → O.recorded outputs.old.source ≡ Some all → ReadsLines read.old read.new (line_replayed options.now all line.now ∷ [])) }
-    ensures left { IfErr result (λ fault. (all : List ℕ) → O.recorded outputs.old.source ≡ Some all → IsLineFault file.now read.old (line_replayed options.now all line.now) fault) }
-    ensures still { OnErr result (KeepsRead read.old read.new) }
+    ensures loaded { OnOk result ((all : List ℕ) → O.recorded outputs.old.source ≡ Some all → value_replayed options.now all read.now value.old ≡ Ok value.new) }
+    ensures left { IfErr result (λ fault. (all : List ℕ) → O.recorded outputs.old.source ≡ Some all → IsLineFault file.now read.now (value_replayed options.now all read.now value.old) fault) }
     ensures fault { IfErr result (IsJudgeFault file.now) }
     ensures kept { O.recorded outputs.new.source ≡ O.recorded outputs.old.source }
-    ensures count { OnOk result (CountsLine options.now read.old line.now (O.count outputs.old.source) (O.count outputs.new.source)) }
+    ensures count { OnOk result (CountsMore (needed_by options.now (before_next read.now) read.now.stored.items value.old) (O.count outputs.old.source) (O.count outputs.new.source)) }
 {
-    let (number, place) = (read.next, read.run.events.len());
-    read.read_recorded(alloc, line)?;
-    if read.stored.is_empty() || read.run.events.len() <= place {
+    let ParsedLine::EventLine(event) = value else {
+        return Ok(());
+    };
+    if read.stored.is_empty() {
         return Ok(());
     }
     let decider = decider_of(alloc, options, &read.run.config)?;
-    match load_outputs(
-        alloc,
-        &decider,
-        read.stored.as_slice(),
-        outputs,
-        &mut read.run.events[place],
-    ) {
+    match load_outputs(alloc, &decider, read.stored.as_slice(), outputs, event) {
         Ok(()) => Ok(()),
-        Err(fault) => Err(fault_of_load(file, number, fault)),
+        Err(fault) => Err(fault_of_load(file, read.next, fault)),
     }
 }
 

@@ -138,7 +138,7 @@ impl<'o, R: Read, O: ReadAt + Drop> RunSource for RecordedRun<'o, R, O> {
         }
     }
 
-    // It does where the next line is at hand. Of the outputs that were read, no more than those of one line are held.
+    // Where the next line is buffered already. It stops after a line with outputs, so that those of one line at most are held.
     fn reads_on(&self) -> bool {
         !self.has_loaded && memchr(b'\n', self.reader.buffer()).is_some()
     }

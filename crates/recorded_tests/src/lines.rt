@@ -73,7 +73,8 @@ fn notes_references_of_lines(rt: HostRuntime) -> Result<(), Fail> {
             .replace(alloc, "PASSED", PASSED)?
             .replace(alloc, "FAILED", FAILED)?;
         let mut read = LinesRead::new(alloc);
-        read.read_recorded(alloc, line.as_str().as_bytes())?;
+        let value = read.read_recorded(alloc, line.as_str().as_bytes())?;
+        read.push(value)?;
         let outputs = &read.stored;
         assert_eq!(rt; (read.run.events.len(), read.next), (1, 2), "of {short}");
         assert_eq!(rt; outputs.len(), places.len(), "of {short}");
@@ -97,7 +98,13 @@ fn reads_other_lines_as_those_of_a_scene(rt: HostRuntime) -> Result<(), Fail> {
             .replace(alloc, "FAILED", FAILED)?;
         let line = line.as_str().as_bytes();
         let (mut recorded, mut plain) = (LinesRead::new(alloc), LinesRead::new(alloc));
-        let told = recorded.read_recorded(alloc, line);
+        let told = match recorded.read_recorded(alloc, line) {
+            Ok(value) => {
+                recorded.push(value)?;
+                Ok(())
+            }
+            Err(fault) => Err(fault),
+        };
         assert_eq!(rt; told, plain.read_more(alloc, line), "of {short}");
         assert!(rt; recorded.stored.is_empty(), "of {short}");
         assert_eq!(rt;

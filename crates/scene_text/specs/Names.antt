@@ -49,6 +49,7 @@ pub use Rattle.scene_text.specs.EventLines.{TakesEmptyOutput, TakesStoredOutput,
 unfoldable pub use Rattle.scene_text.specs.EventLines.{after_streams, all_attempts, answer_fields, attempt_fields, attempts_from, config_line_fields, event_rows, other_event_rows, output_fields, retry_fields, run_event_rows, script_fields, spelled_output_fields, state_fields, stored_output_fields, test_fields}
 pub use Rattle.scene_text.specs.Parts.{checked_clock, checked_day, exited_in, highlight_in, highlight_stream_in, is_day, moment_in, progress_in, result_or_none_in, slow_after_in, state_with, stress_count_in, terminate_reason_in}
 unfoldable pub use Rattle.scene_text.specs.Parts.{delay_in, exiting_in, running_in, state_in, terminating_in, timing_in, wait_in}
-pub use Rattle.scene_text.specs.SceneTexts.{AllRead, ConfigLine, EventLine, IsFirstFault, IsNextFault, LeavesLines, LinesBefore, NoEvent, NotesLine, ParsedLine, ParsedLines, PlainLine, ReadsLines, RecordedLine, RunLine, before_next, config_words, event_line, fault_at, is_begun, is_begun_behind, is_passed_over, line_here, line_place, line_value, line_words, lines_after, lines_before, lines_with, no_lines, parsed_line, parsed_lines, plain_line, recorded_line, text_lines, text_read, unread_line, value_of, with_line, with_made, words_behind}
+pub use Rattle.scene_text.specs.SceneTexts.{AllRead, IsFaultOfNext, IsFirstFault, IsNextFault, KeepsLines, LeavesLines, LinesBefore, NotesLine, ParsedLines, PlainLine, ReadsLines, RecordedLine, RunLine, before_next, config_words, event_line, fault_at, is_begun, is_begun_behind, is_passed_over, line_here, line_place, line_value, line_words, lines_after, lines_before, lines_with, no_lines, parsed_line, parsed_lines, plain_line, recorded_line, text_lines, text_read, value_of, with_line, with_made, words_behind}
 unfoldable pub use Rattle.scene_text.specs.SceneTexts.{event_lines, line_from, line_read, lines_read}
 pub use Rattle.scene_text.specs.declared.reader.LinesRead.{LinesRead}
+pub use Rattle.scene_text.specs.declared.reader.ParsedLine.{ParsedLine}

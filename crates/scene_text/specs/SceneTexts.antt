@@ -14,6 +14,8 @@ use Rattle.scene_fields.specs.declared.fault.LineFault.TheVariants.{NotUtf8, Con
 use Rattle.scene_fields.specs.declared.fault.ReadFault.{ReadFault}
 use Rattle.scene_fields.specs.declared.fault.ReadFault.TheVariants as fault
 use Rattle.scene_text.specs.declared.reader.LinesRead.{LinesRead}
+use Rattle.scene_text.specs.declared.reader.ParsedLine.{ParsedLine}
+use Rattle.scene_text.specs.declared.reader.ParsedLine.TheVariants.{NoEvent, ConfigLine, EventLine}
 use Rattle.scene_events.specs.declared.scene.ParsedRun.{ParsedRun}
 use Rattle.scene_events.specs.declared.scene.SceneConfig.{SceneConfig}
 use Rattle.scene_events.specs.declared.scene.event.SceneEvent.{SceneEvent}
@@ -41,12 +43,6 @@ pub record LinesBefore : Type 0 where
 
 abbrev pub lines_before : ParsedLines → LinesBefore
 lines_before before = record { config = before.config; is_begun = is_begun before.events }
-
--- the value of a line: none, how the run is reported by it and the lines before it, or an event
-pub data ParsedLine : Type 0 where
-  NoEvent : ParsedLine
-  ConfigLine : SceneConfig → ParsedLine
-  EventLine : SceneEvent → ParsedLine
 
 -- the value of some fields, wherever they end
 abbrev pub value_of : {X Y : Type 0} → Result (X × Y) LineFault → Result X LineFault
@@ -109,10 +105,6 @@ pub data RunLine : Type 0 where
 -- the line of a scene is what its text spells
 abbrev pub plain_line : List ℕ → RunLine
 plain_line t = PlainLine t
-
--- a recorded line whose stored outputs are left unread
-abbrev pub unread_line : List ℕ → RunLine
-unread_line t = RecordedLine t (λ before stored e. Ok e)
 
 abbrev pub text_lines : List ℕ → List RunLine
 text_lines t = map plain_line (split_on 10 t)
@@ -184,11 +176,19 @@ AllRead before (t ∷ ts) after = (mid : ParsedLines) × (line_read before t ≡
 abbrev pub NotesLine : LinesRead → LinesRead → Type 0
 NotesLine old new = new.run.lines.items ≡ old.run.lines.items ++ line_here old.next (parsed_lines old.run) (parsed_lines new.run)
 
+-- the lines are as they were
+abbrev pub KeepsLines : LinesRead → LinesRead → Type 0
+KeepsLines old new = (parsed_lines new.run ≡ parsed_lines old.run) × (new.run.lines.items ≡ old.run.lines.items) × (new.is_begun ≡ old.is_begun) × (new.next ≡ old.next)
+
 -- the next line was read, whose value this is; or it is wrong, and nothing has changed
 abbrev pub TakesLine : {X : Type 0} → LinesRead → Result X LineError → LinesRead → Result ParsedLine LineFault → Type 0
 TakesLine old (Ok x) new value = (lines_with (parsed_lines old.run) value ≡ Ok (parsed_lines new.run)) × (new.is_begun ≡ old.is_begun) × (new.next ≡ old.next)
-TakesLine old (Err e) new value =
-    Fails e value × (parsed_lines new.run ≡ parsed_lines old.run) × (new.run.lines.items ≡ old.run.lines.items) × (new.is_begun ≡ old.is_begun) × (new.next ≡ old.next)
+TakesLine old (Err e) new value = Fails e value × KeepsLines old new
+
+-- the next line has this fault, where this was read of it, unless memory was refused
+abbrev pub IsFaultOfNext : {X : Type 0} → LinesRead → Result X LineFault → ReadFault → Type 0
+IsFaultOfNext read said (fault.Line n f) = (n ≡ read.next) × (said ≡ Err f)
+IsFaultOfNext read said fault.OutOfMemory = ⊤
 
 -- These lines were read, behind whatever events were forgotten: one after the other, and the numbers of their events are noted.
 pub record ReadsLines (old new : LinesRead) (lines : List RunLine) : Type 0 where

@@ -4,8 +4,9 @@
 //! the kind of the event. Each module knows one thing: `lines` which kinds there are, `event_lines` what fields each has,
 //! `parts` values that are in one field in parts, and `binary_ids` ids that lines share.
 
-ghost use Rattle.std.specs.Prelude.{◌≡◌, [], ◌∷◌, false, IfErr, IfOk, OnOk, Ok};
-ghost use Rattle.scene_text.specs.SceneTexts.{LeavesLines, NotesLine, ReadsLines, ParsedLine, TakesLine, before_next, fault_at, is_begun_behind, is_passed_over, line_value, line_words, no_lines, parsed_line, parsed_lines, recorded_line, text_lines, unread_line, value_of};
+ghost use Rattle.std.specs.Prelude.{◌≡◌, [], ◌∷◌, false, IfErr, IfOk, OnErr, OnOk, Ok};
+ghost use Rattle.scene_fields.specs.Fields.{Fails, Gives};
+ghost use Rattle.scene_text.specs.SceneTexts.{IsFaultOfNext, KeepsLines, LeavesLines, NotesLine, ReadsLines, RunLine, TakesLine, before_next, fault_at, is_begun_behind, is_passed_over, line_value, line_words, no_lines, parsed_line, parsed_lines, recorded_line, text_lines, value_of, with_line};
 
 mod binary_ids;
 mod event_lines;
@@ -38,6 +39,17 @@ type Line<T> = Result<T, LineError>;
 
 // The event of a line.
 type EventResult = Line<SceneEvent>;
+
+/// The value of a line.
+#[derive(Drop)]
+pub enum ParsedLine {
+    /// No value, since the line is empty or a comment.
+    NoEvent,
+    /// How the run is reported, by this line and those before it.
+    ConfigLine(SceneConfig),
+    /// An event.
+    EventLine(SceneEvent),
+}
 
 /// The lines of a scene that were read so far. A scene that comes in pieces is read with no more than one of them in memory.
 ///
@@ -150,34 +162,43 @@ impl LinesRead {
     }
 
     /// Reads the next line of a recorded run, whose outputs may be stored: those that are stored are then in `stored`, and not loaded in the
-    /// event. The errors are those of `read_more`, and leave `stored` empty.
+    /// event. The value is not among the lines until `push` adds it. The errors are those of `read_more`, and leave `stored` empty.
     ///
     /// A field that begins like a reference and is none, or is where none may be, is a bad field.
     ///
     /// ```
     /// let line = "setupdone\t-\tdb\tinit\t\tpass\t5\t0\tcomb\t\\@7:7:ee2a98c236301c76\t-\t-\t-";
     /// let mut read = LinesRead::new(alloc);
-    /// read.read_recorded(alloc, line.as_bytes())?;
+    /// let value = read.read_recorded(alloc, line.as_bytes())?;
     /// assert_eq!(read.stored.as_slice()[0].field, 10);
+    /// read.push(value)?;
+    /// assert_eq!(read.run.events.len(), 1);
     /// ```
-    pub fn read_recorded(&mut self, alloc: Global, line: &[u8]) -> Result<(), ReadFault>
-        ensures read { OnOk result (ReadsLines self.old self.new (unread_line line.now ∷ [])) }
-        ensures stored { OnOk result ((x : ParsedLine) × (recorded_line (before_next self.old) line.now ≡ Ok (x, self.new.stored.items))) }
-        ensures left { IfErr result (LeavesLines self.old self.new (unread_line line.now ∷ [])) }
+    pub fn read_recorded(&mut self, alloc: Global, line: &[u8]) -> Result<ParsedLine, ReadFault>
+        ensures value { IfOk result (λ value. recorded_line (before_next self.old) line.now ≡ Ok (value, self.new.stored.items)) }
+        ensures fault { IfErr result (IsFaultOfNext self.old (recorded_line (before_next self.old) line.now)) }
         ensures none_stored { IfErr result (λ fault. self.new.stored.items ≡ []) }
+        ensures kept { KeepsLines self.old self.new }
     {
         self.stored.clear();
-        let number = self.next;
-        if number == u64::MAX {
-            return Err(ReadFault::OutOfMemory);
-        }
         match self.read_recorded_line(alloc, line) {
-            Ok(()) => {
-                self.next = number + 1;
-                Ok(())
-            }
-            Err(error) => Err(fault_at(number, error)),
+            Ok(value) => Ok(value),
+            Err(error) => Err(fault_at(self.next, error)),
         }
+    }
+
+    /// Adds the value of the next line. If memory is refused, nothing is added.
+    pub fn push(&mut self, value: ParsedLine) -> Result<(), OutOfMemory>
+        ensures pushed { OnOk result ((line : RunLine) → line_value (before_next self.old) line ≡ Ok value → ReadsLines self.old self.new (line ∷ [])) }
+        ensures left { OnErr result (KeepsLines self.old self.new) }
+        ensures stored { self.new.stored ≡ self.old.stored }
+    {
+        if self.next == u64::MAX {
+            return Err(OutOfMemory);
+        }
+        self.add(value)?;
+        self.next += 1;
+        Ok(())
     }
 
     // Reads the line that follows, and notes its number where it is an event. The list is for its fields.
@@ -220,17 +241,17 @@ impl LinesRead {
         self.read_fields(alloc, &mut Fields::of_large_line(fields.as_mut_slice()))
     }
 
-    // Reads the recorded line that follows, as `read_line` does. The list of stored outputs is used again, which saves an allocation a line.
+    // Reads the recorded line that follows. The list of stored outputs is used again, which saves an allocation a line.
     #[tactic(auto, unfolding(crate::specs::SceneTexts::line_from), using(scene_fields::proofs::lemmas::Utf8::utf8_passes, scene_fields::proofs::lemmas::Utf8::utf8_fails))]
-    fn read_recorded_line(&mut self, alloc: Global, line: &[u8]) -> Result<(), LineError>
+    fn read_recorded_line(&mut self, alloc: Global, line: &[u8]) -> Result<ParsedLine, LineError>
         requires none_stored { self.old.stored.items ≡ [] }
-        ensures read { TakesLine self.old result self.new (line_value (before_next self.old) (unread_line line.now)) }
-        ensures noted { OnOk result (NotesLine self.old self.new) }
-        ensures stored { OnOk result ((x : ParsedLine) × (recorded_line (before_next self.old) line.now ≡ Ok (x, self.new.stored.items))) }
-        ensures none_stored { IfErr result (λ fault. self.new.stored.items ≡ []) }
+        ensures value { IfOk result (λ value. recorded_line (before_next self.old) line.now ≡ Ok (value, self.new.stored.items)) }
+        ensures fault { IfErr result (λ error. Fails error (recorded_line (before_next self.old) line.now)) }
+        ensures none_stored { IfErr result (λ error. self.new.stored.items ≡ []) }
+        ensures kept { KeepsLines self.old self.new }
     {
         if is_passed_over(line) {
-            return Ok(());
+            return Ok(ParsedLine::NoEvent);
         }
         let Ok(line) = str::from_utf8(line) else {
             return Err(LineError::Fault(LineFault::NotUtf8));
@@ -241,18 +262,32 @@ impl LinesRead {
         split_fields(line, &mut texts)?;
         let stored = mem::replace(&mut self.stored, Vec::new(alloc));
         let mut fields = Fields::recorded(texts.as_slice(), stored);
-        self.read_fields(alloc, &mut fields)?;
+        let value = self.read_value(alloc, &mut fields)?;
         self.stored = fields.into_stored(alloc);
-        Ok(())
+        Ok(value)
     }
 
     // Reads the fields of the line that follows. What is wrong leaves the lines as they were.
     #[inline(always)]
-    #[tactic(auto, using(std::proofs::lemmas::Bool::Decides::nat_tests))]
     fn read_fields(&mut self, alloc: Global, fields: &mut Fields<'_>) -> Result<(), LineError>
         ensures read { TakesLine self.old result self.new (value_of (line_words (before_next self.old) fields.old)) }
         ensures noted { OnOk result (NotesLine self.old self.new) }
-        ensures place { OnOk result (IfOk (line_words (before_next self.old) fields.old) (λ x. x.1 ≡ fields.new)) }
+        ensures stored { self.new.stored ≡ self.old.stored }
+    {
+        let value = self.read_value(alloc, fields)?;
+        self.add(value)?;
+        Ok(())
+    }
+
+    // The value of the line that follows, which has these fields.
+    #[inline(always)]
+    fn read_value(
+        &mut self,
+        alloc: Global,
+        fields: &mut Fields<'_>,
+    ) -> Result<ParsedLine, LineError>
+        ensures value { Gives (λ value. value) fields.old result fields.new (line_words (before_next self.old)) }
+        ensures kept { KeepsLines self.old self.new }
         ensures stored { self.new.stored ≡ self.old.stored }
     {
         match fields.take()? {
@@ -261,14 +296,33 @@ impl LinesRead {
             ),
             "config" => {
                 fields.exactly(2)?;
-                self.run.config = read_config(fields, self.run.config)?;
-                Ok(())
+                Ok(ParsedLine::ConfigLine(read_config(fields, self.run.config)?))
             }
             word => {
                 let event = read_event(alloc, &mut self.binaries, word, fields)?;
-                self.run.push(event, self.next)?;
+                Ok(ParsedLine::EventLine(event))
+            }
+        }
+    }
+
+    // Adds the value of the line that follows, and notes the number of that line where it is an event.
+    #[inline(always)]
+    #[tactic(auto, using(std::proofs::lemmas::Bool::Decides::nat_tests))]
+    fn add(&mut self, value: ParsedLine) -> Result<(), OutOfMemory>
+        ensures added { OnOk result (parsed_lines self.new.run ≡ with_line (parsed_lines self.old.run) value) }
+        ensures noted { OnOk result (NotesLine self.old self.new) }
+        ensures left { OnErr result (KeepsLines self.old self.new) }
+        ensures begun { self.new.is_begun ≡ self.old.is_begun }
+        ensures next { self.new.next ≡ self.old.next }
+        ensures stored { self.new.stored ≡ self.old.stored }
+    {
+        match value {
+            ParsedLine::NoEvent => Ok(()),
+            ParsedLine::ConfigLine(config) => {
+                self.run.config = config;
                 Ok(())
             }
+            ParsedLine::EventLine(event) => self.run.push(event, self.next),
         }
     }
 }

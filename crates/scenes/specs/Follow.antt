@@ -2,7 +2,8 @@
 use Rattle.std.specs.Prelude.{◌≡◌, ◌⊎◌, ℕ, List, ◌∷◌, ◌++◌, Bool, true, Result, Ok, Err, IfErr, IfOk, OnOk}
 use Rattle.styled_text.specs.Names.{Bor, Meaning}
 use Rattle.console_reporter.specs.OptionalStore.{store_meaning}
-use Rattle.scene_text.specs.Names.{EventLine, ParsedLines, RunLine, is_begun, line_value, lines_before, SceneEvent, LineFault}
+use Rattle.scene_text.specs.Names.{ParsedLines, RunLine, is_begun, line_value, lines_before, SceneEvent, LineFault}
+use Rattle.scene_text.specs.declared.reader.ParsedLine.TheVariants.{EventLine}
 use Rattle.scene_text.specs.declared.reader.LinesRead.{LinesRead}
 use Rattle.scenes.specs.Judged.{RefusesEvent}
 use Rattle.scenes.specs.ParsedScenes.{OfLines}

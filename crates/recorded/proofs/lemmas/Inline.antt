@@ -6,8 +6,10 @@ use Rattle.std.proofs.lemmas.Bool.{cases_Bool, false≢true}
 use Rattle.std.proofs.lemmas.Slice.Zip.{all_zipped_more}
 use Rattle.scenes.specs.Names.{Options, decider_for}
 use Rattle.recorded.specs.Names.{event_inline, event_replayed, first_field_not, is_there, is_undamaged, unless_bad, wanted_of, skips, line_inline, line_replayed}
-use Rattle.scene_text.specs.Names.{PlacedOutput, SceneEvent, LineFault, AllRead, ConfigLine, EventLine, NoEvent, ParsedLine, ParsedLines, event_line, is_begun, line_read, lines_before, lines_with}
+use Rattle.scene_text.specs.Names.{PlacedOutput, SceneEvent, LineFault, AllRead, ParsedLines, event_line, is_begun, line_read, lines_before, lines_with}
+use Rattle.scene_text.specs.declared.reader.ParsedLine.{ParsedLine}
 use Rattle.scene_text.specs.Names.{recorded_line, with_line, with_made}
+use Rattle.scene_text.specs.declared.reader.ParsedLine.TheVariants.{ConfigLine, EventLine, NoEvent}
 use Rattle.reporter_state.specs.declared.decider.OutputLoadDecider.{OutputLoadDecider}
 use Rattle.scenes.proofs.lemmas.ReadLines.{config_kept}
 

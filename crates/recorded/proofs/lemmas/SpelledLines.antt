@@ -14,9 +14,11 @@ use Rattle.run_model.specs.Names.{Attempt, TestOutputDisplay}
 use Rattle.scene_text.specs.Names.{UnitState, ChildOutputDescription, ExecutionResultDescription, RunStats, FlakyResult, RetryData, answer_with, attempts_with, event_with, written, SceneConfig}
 use Rattle.scene_text.specs.Names.{SceneEvent, SceneOutput, SceneTest, UnitAnswer, ◌>>=◌, Line, Place, exactly, none_noted, noted_outputs, says, split_on, LineFault, unescaped_after, PlacedOutput}
 use Rattle.scene_text.specs.Names.{StoredOutput, ConfigKey, placed, all_attempts, attempt_fields, answer_fields, config_line_fields, event_line_fields, event_rows, made, other_event_rows}
-use Rattle.scene_text.specs.Names.{retry_fields, run_event_rows, script_fields, set_field, state_fields, test_fields, unique_prefix_fields, unknown, AllRead, ConfigLine, EventLine, LinesBefore}
-use Rattle.scene_text.specs.Names.{NoEvent, ParsedLine, ParsedLines, config_words, is_passed_over, line_from, line_place, line_read, line_words, lines_before, lines_read, lines_with, no_lines}
+use Rattle.scene_text.specs.Names.{retry_fields, run_event_rows, script_fields, set_field, state_fields, test_fields, unique_prefix_fields, unknown, AllRead, LinesBefore}
+use Rattle.scene_text.specs.Names.{ParsedLines, config_words, is_passed_over, line_from, line_place, line_read, line_words, lines_before, lines_read, lines_with, no_lines}
+use Rattle.scene_text.specs.declared.reader.ParsedLine.{ParsedLine}
 use Rattle.scene_text.specs.Names.{parsed_line, plain_line, recorded_line, text_lines, with_made, words_behind}
+use Rattle.scene_text.specs.declared.reader.ParsedLine.TheVariants.{ConfigLine, EventLine, NoEvent}
 use Rattle.scene_events.specs.declared.scene.event.SceneEvent.TheVariants as event
 use Rattle.scene_fields.specs.declared.values.ConfigKey.TheVariants as key
 use Rattle.scene_text.proofs.lemmas.Tellings.{all_tell, all_told}

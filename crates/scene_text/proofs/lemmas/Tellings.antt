@@ -4,9 +4,10 @@ use Rattle.std.specs.Prelude.{nat_lt}
 use Rattle.std.specs.Result.{result_map_both}
 use Rattle.std.proofs.lemmas.Bool.Decides.{nat_tests}
 use Rattle.std.proofs.lemmas.List.{length-append}
-use Rattle.scene_text.specs.Names.{SceneEvent, Fails, LineError, LineFault, ReadFault, AllRead, IsNextFault, LeavesLines, NotesLine, ParsedLine, ReadsLines, RunLine, ConfigLine, EventLine, NoEvent}
+use Rattle.scene_text.specs.Names.{SceneEvent, Fails, LineError, LineFault, ReadFault, AllRead, IsNextFault, KeepsLines, LeavesLines, NotesLine, ParsedLine, ReadsLines, RunLine}
 use Rattle.scene_text.specs.Names.{ParsedLines, before_next, event_lines, fault_at, is_begun, is_begun_behind, line_here, line_read, line_value, lines_before, lines_read, parsed_lines, lines_after}
 use Rattle.scene_text.specs.Names.{lines_with, LinesRead}
+use Rattle.scene_text.specs.declared.reader.ParsedLine.TheVariants.{ConfigLine, EventLine, NoEvent}
 use Rattle.scene_fields.specs.declared.fault.LineError.TheVariants as error
 use Rattle.scene_fields.specs.declared.fault.ReadFault.TheVariants as fault
 
@@ -85,10 +86,10 @@ here_after : (base : List SceneEvent) (n : ℕ) (before after : ParsedLines) →
 here_after base n before after = rw (length-append base before.events, length-append base after.events, less_after (length base) (length before.events) (length after.events)) refl
 
 -- no line was read, and nothing has changed
-module _ (old new : LinesRead) (run : parsed_lines new.run ≡ parsed_lines old.run) (lines : new.run.lines.items ≡ old.run.lines.items) (begun : new.is_begun ≡ old.is_begun) (place : new.next ≡ old.next) where
-  reads_same : ReadsLines old new []
+module _ (old new : LinesRead) (keeps : KeepsLines old new) where
+  pub reads_same : ReadsLines old new []
   unfolding event_lines
-  reads_same = record { tells = λ base is. ap (lines_after base) (sym run); noted = λ base is. lines ∙ sym (append-nil old.run.lines.items); begun = begun; place = omega (arith, place) }
+  reads_same = record { tells = λ base is. ap (lines_after base) (sym keeps.0); noted = λ base is. keeps.1 ∙ sym (append-nil old.run.lines.items); begun = keeps.2; place = omega (arith, keeps.3) }
 
   -- memory is refused before the next
   pub leaves_refused : (ts : List RunLine) → LeavesLines old new ts fault.OutOfMemory
@@ -98,8 +99,8 @@ module _ (old new : LinesRead) (run : parsed_lines new.run ≡ parsed_lines old.
   module _ (t : RunLine) (rest : List RunLine) where
     next_fault : (e : LineError) → Fails e (line_value (before_next old) t) → (base : List SceneEvent) → is_begun base ≡ old.is_begun → IsNextFault new.next (lines_after base (parsed_lines new.run)) (t ∷ rest) (fault_at old.next e)
     next_fault (error.Fault f) wrong base is = (
-      sym place,
-      (t, rest, refl, subst (λ x. line_read (lines_after base x) t ≡ Err f) (sym run) (read_behind base old t is ∙ ap (λ r. told_after base (lines_with (parsed_lines old.run) r)) wrong)),
+      sym keeps.3,
+      (t, rest, refl, subst (λ x. line_read (lines_after base x) t ≡ Err f) (sym keeps.0) (read_behind base old t is ∙ ap (λ r. told_after base (lines_with (parsed_lines old.run) r)) wrong)),
     )
     next_fault error.OutOfMemory wrong base is = tt
 
@@ -107,7 +108,7 @@ module _ (old new : LinesRead) (run : parsed_lines new.run ≡ parsed_lines old.
     leaves_here e wrong = record { front = []; rest = t ∷ rest; whole = refl; reads = reads_same; wrong = next_fault e wrong }
 
 pub reads_none : (old : LinesRead) → ReadsLines old old []
-reads_none old = reads_same old old refl refl refl refl
+reads_none old = reads_same old old (refl, refl, refl, refl)
 
 -- what is read of the lines that are left, and where a fault leaves them, is that of all lines
 pub record ReadsOn (first now : LinesRead) (lines left : List RunLine) : Type 0 where

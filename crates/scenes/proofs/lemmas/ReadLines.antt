@@ -3,9 +3,10 @@ use Rattle.std.proofs.Common.{bytes_eq, codes, if◌then◌else◌, ◌≡◌, �
 use native.Mathlib.Numerals.{unary_clauses}
 use Rattle.scenes.proofs.Common.{AllRead, AtLine, EventLine, is_begun, length-append, line_value, LineFault, lines_before, lines_with, nat_lt, nat_tests, ParsedLine, ParsedLines, RunLine, SceneConfig, SceneEvent, with_line, all_append, AreLeft, AreLeftOf, begun_behind, cases_Bool, false≢true, Fault, fault_of_read, HasReadLines, is_begun_behind, IsMore, IsNextFault, IsNextPiece, IsUnread, lines_after, LinesRead, map-append, no_lines, parsed_lines, ReadFault, text_lines, text_read}
 use Rattle.std.proofs.lemmas.List.{append_cancel_left}
-use Rattle.scene_text.specs.Names.{ConfigLine, NoEvent, event_lines, is_passed_over, line_read, LinesBefore, PlainLine, RecordedLine, config_words, event_line, line_from, line_place, line_words}
+use Rattle.scene_text.specs.Names.{event_lines, is_passed_over, line_read, LinesBefore, PlainLine, RecordedLine, config_words, event_line, line_from, line_place, line_words}
 use Rattle.scene_text.specs.Names.{value_of, with_made, LeavesLines, ReadsLines, lines_read, plain_line, event_line_fields, made, Noted, Place, goes_on, none_noted, says, noted_outputs, PlacedOutput}
 use Rattle.scene_text.specs.Names.{split_on}
+use Rattle.scene_text.specs.declared.reader.ParsedLine.TheVariants.{ConfigLine, NoEvent}
 use Rattle.std.proofs.lemmas.Bool.{cond_both}
 use Rattle.styled_text.specs.Names.{result_map_both, is_utf8, onto_first}
 use Rattle.scene_fields.specs.declared.fault.LineFault.TheVariants.{NotUtf8}

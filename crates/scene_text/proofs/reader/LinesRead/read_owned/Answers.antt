@@ -14,4 +14,4 @@ pub returns-in-Err-clause-left : goal.returns-in-Err-clause-left
 returns-in-Err-clause-left c =
     let one = ap (map plain_line) (split_on-missed 10 _ c.args.text.items _ c.as_slice-bytes.ensures.value (sym c.is_some.ensures ∙ c.if-is_some.false) c.memchr.ensures) in
     let h = c.in-Err.ensures.read in
-    rw (c.fault_at.ensures, one) (leaves_here _ _ h.1 h.2 h.3 h.4 _ [] c.in-Err.error h.0)
+    rw (c.fault_at.ensures, one) (leaves_here _ _ h.1 _ [] c.in-Err.error h.0)
