@@ -2,13 +2,11 @@
 use Rattle.std.specs.Prelude.{◌≡◌, ℕ, List, [], true, Option, None, Some, Result, Ok, Err, ⊤}
 use Rattle.std.specs.Option.{is_some, option_map}
 use Rattle.scene_text.specs.Names.{ChildOutputDescription, stream_in_field, StoredOutput, StoredStream, StreamField}
-use Rattle.run_model.specs.declared.output.ChildOutputDescription.TheVariants as captured
 use Rattle.recorded.specs.Outputs.{IsCounted, IsLoaded, counted, stream_at}
-use Rattle.recorded.specs.declared.outputs.LoadFault.{LoadFault}
-use Rattle.recorded.specs.declared.outputs.StreamFault.{StreamFault}
-use Rattle.scene_fields.specs.declared.stored.StoredOutput.TheVariants.{Split, Combined}
+use Rattle.recorded.specs.{declared.outputs.LoadFault.LoadFault, declared.outputs.StreamFault.StreamFault}
+use Rattle.scene_fields.specs.declared.stored.{StoredOutput.TheVariants.Split, StoredOutput.TheVariants.Combined, StreamField.TheVariants.First, StreamField.TheVariants.Second}
 use Rattle.scene_fields.specs.declared.stored.StoredStream.TheVariants.{NotCaptured, Empty, At}
-use Rattle.scene_fields.specs.declared.stored.StreamField.TheVariants.{First, Second}
+use Rattle.run_model.specs.declared.output.ChildOutputDescription.TheVariants as captured
 
 -- what was captured of a stream: nothing, no bytes, or those at its place among all outputs, if they are not damaged
 abbrev pub captured_stream_at : List ℕ → StoredStream → Option (Option (List ℕ))

@@ -2,19 +2,13 @@
 use Rattle.std.specs.Prelude.{◌≡◌, ◌==◌, ℕ, ◌+◌, List, [], ◌∷◌, length, Bool, true, not, nat_le, if◌then◌else◌, Option, None, Some, Result, Ok, Err, ⊤}
 use Rattle.std.specs.Option.{is_some, option_or}
 use Rattle.scene_text.specs.Names.{ChildOutputDescription, end_of, field_of, stream_in_field, PlacedOutput, StoredOutput, StoredStream, StreamField, event_with, SceneEvent, LineFault}
-use Rattle.run_model.specs.declared.output.ChildOutputDescription.TheVariants as captured
-use Rattle.recorded.specs.Outputs.{bytes_at}
-use Rattle.recorded.specs.declared.outputs.LoadFault.{LoadFault}
+use Rattle.recorded.specs.{Outputs.bytes_at, Captured.captured_stream_at, Skips.skips, declared.outputs.LoadFault.LoadFault, declared.events.LoadEventFault.LoadEventFault}
 use Rattle.recorded.specs.declared.outputs.LoadFault.TheVariants.{CannotRead, PastEnd, WrongSum, OutOfMemory}
-use Rattle.recorded.specs.Captured.{captured_stream_at}
-use Rattle.scene_fields.specs.declared.stored.StoredOutput.TheVariants.{Split, Combined}
+use Rattle.scene_fields.specs.declared.stored.{StoredOutput.TheVariants.Split, StoredOutput.TheVariants.Combined, StreamField.TheVariants.First, StreamField.TheVariants.Second}
 use Rattle.scene_fields.specs.declared.stored.StoredStream.TheVariants.{NotCaptured, Empty, At}
-use Rattle.scene_fields.specs.declared.stored.StreamField.TheVariants.{First, Second}
-use Rattle.reporter_state.specs.declared.decider.OutputLoadDecider.{OutputLoadDecider}
+use Rattle.{reporter_state.specs.declared.decider.OutputLoadDecider.OutputLoadDecider, scene_fields.specs.declared.fault.LineFault.TheVariants.BadField}
+use Rattle.run_model.specs.declared.output.ChildOutputDescription.TheVariants as captured
 use Rattle.scene_events.specs.declared.scene.event.SceneEvent.TheVariants as scene
-use Rattle.scene_fields.specs.declared.fault.LineFault.TheVariants.{BadField}
-use Rattle.recorded.specs.Skips.{skips}
-use Rattle.recorded.specs.declared.events.LoadEventFault.{LoadEventFault}
 
 -- the bytes of a stream at its place among all outputs, whatever their sum
 abbrev pub stream_inline : List ℕ → StoredStream → Option (List ℕ)

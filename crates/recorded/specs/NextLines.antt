@@ -1,16 +1,12 @@
 -- The next line of a recorded run, and what is left where it is wrong.
 use Rattle.std.specs.Prelude.{◌≡◌, ◌⊎◌, ℕ, ◌+◌, Bool, true, false, List, [], ◌∷◌, ◌++◌, Option, Some, Result, Ok}
 use Rattle.scenes.specs.Names.{decider_for, fault_of_read, IsUnread, Options, Fault, LinesRead}
-use Rattle.command_line.specs.declared.fault.Fault.TheVariants as program
-use Rattle.recorded.specs.declared.outputs.LoadFault.{LoadFault}
-use Rattle.recorded.specs.declared.outputs.LoadFault.TheVariants as load
-use Rattle.recorded.specs.Events.{event_replayed}
-use Rattle.recorded.specs.Outputs.{counted}
-use Rattle.recorded.specs.Runs.{needed_for, ended_lines}
-use Rattle.recorded.specs.declared.lines.Taken.{Taken}
-use Rattle.recorded.specs.declared.lines.Taken.TheVariants as taken
+use Rattle.recorded.specs.{declared.outputs.LoadFault.LoadFault, declared.lines.Taken.Taken, Events.event_replayed, Outputs.counted, Runs.needed_for, Runs.ended_lines}
 use Rattle.scene_text.specs.Names.{Lacks, LineFault, ReadFault, IsFaultOfNext, LeavesLines, ReadsLines, RunLine, before_next, recorded_line, with_made}
 use Rattle.scene_text.specs.declared.reader.ParsedLine.{ParsedLine}
+use Rattle.command_line.specs.declared.fault.Fault.TheVariants as program
+use Rattle.recorded.specs.declared.outputs.LoadFault.TheVariants as load
+use Rattle.recorded.specs.declared.lines.Taken.TheVariants as taken
 use Rattle.scene_fields.specs.declared.fault.LineFault.TheVariants as line
 
 -- what was read of a text: its first line, before a line feed and what is left; or the rest after the last line feed

@@ -1,8 +1,7 @@
 -- What is left of a recorded run.
 use Rattle.std.specs.Prelude.{◌≡◌, ℕ, List, Option, Some}
-use Rattle.command_line.specs.declared.args.Options.{Options}
-use Rattle.recorded.specs.Outputs.{counted}
 use Rattle.recorded.specs.Runs.{lines_replayed, needed, ended_lines}
+use Rattle.{command_line.specs.declared.args.Options.Options, recorded.specs.Outputs.counted}
 use Rattle.scene_text.specs.SceneTexts.{ParsedLines, RunLine, lines_before}
 
 -- These lines are left after those before. `total` bytes of outputs are read once these lines are read.

@@ -1,7 +1,7 @@
 //! The stored outputs of an event, loaded where the report shows them.
 
-ghost use Rattle.std.specs.Prelude.{◌≡◌, ◌≤◌, ◌-◌, ◌^◌, IfOk, IfSome, OnOk};
 ghost use Rattle.recorded.specs.Names.{counted, IsFirstBad, IsReplayed, event_inline, field_not, first_field_not, is_there, is_undamaged, is_wanted, needed_of, only_place, output_inline, output_len};
+ghost use Rattle.std.specs.Prelude.{◌≡◌, ◌≤◌, ◌-◌, ◌^◌, IfOk, IfSome, OnOk};
 ghost use Rattle.recorded.specs.Names.{outputs_len, stream_field_not, wanted, skips};
 ghost use Rattle.scene_events.specs.Loads.{event_with};
 

@@ -1,8 +1,7 @@
 //! The lines of a recorded run. One is read at a time, with the outputs that its report shows.
 
 ghost use Rattle.std.specs.Prelude.{◌≡◌, ℕ, List, [], ◌∷◌, Some, IfErr, IfOk, Ok, OnOk};
-ghost use Rattle.std.specs.Io.Buffered.{reader_buffer, reader_remaining};
-ghost use Rattle.scenes.specs.Names.{IsJudgeFault, IsUnread};
+ghost use Rattle.{std.specs.Io.Buffered.reader_buffer, std.specs.Io.Buffered.reader_remaining, scenes.specs.Names.IsJudgeFault, scenes.specs.Names.IsUnread};
 ghost use Rattle.recorded.specs.Names.{CountsLine, CountsMore, IsFaultOfLoad, IsLineFault, IsNextLine, LeavesLine, TakesOf, line_replayed, needed_by, value_replayed};
 ghost use Rattle.scene_text.specs.Names.{ReadsLines, before_next};
 

@@ -2,9 +2,8 @@
 //! which are never spelled as text.
 
 ghost use Rattle.std.specs.Prelude.{◌≡◌, ◌≤◌, ◌↔◌, IsTrue, IfOk, IfSome, OnOk, if◌then◌else◌, is_ok, length, vec_len};
-ghost use Rattle.std.specs.Option.{ForSome};
+ghost use Rattle.{std.specs.Option.ForSome, scene_fields.specs.References.end_of};
 ghost use Rattle.recorded.specs.Names.{IsCaptured, IsCapturedStream, IsCountedOf, IsCountedOfStream, HasSum, IsCounted, IsLoaded, counted, HasRead};
-ghost use Rattle.scene_fields.specs.References.{end_of};
 
 use super::read_at::ReadAt;
 use bytes::Bytes;
@@ -35,8 +34,7 @@ pub enum LoadFault {
 }
 
 impl From<io::Error> for LoadFault {
-    ghost use Rattle.std.specs.Prelude.{◌≡◌};
-    ghost use Rattle.std.specs.IoError.{error_kind};
+    ghost use Rattle.std.specs.{Prelude.◌≡◌, IoError.error_kind};
     ghost use Rattle.recorded.specs.declared.outputs.LoadFault.{LoadFault};
 
     ghost from_gives = { λ error fault. fault ≡ LoadFault.CannotRead (error_kind error) };

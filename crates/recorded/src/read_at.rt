@@ -4,8 +4,7 @@
 //! through [`ReadAt`] is counted as well: [`Metered`] is the meter, and wraps any source.
 
 ghost use Rattle.std.specs.Prelude.{◌≡◌, ℕ, List, Option, None, Some, IfOk, IfSome, OnOk, ⊤, if◌then◌else◌, is_ok, length};
-ghost use Rattle.std.specs.Io.Cursor.{cursor_inner};
-ghost use Rattle.recorded.specs.Names.{counted, HasRead};
+ghost use Rattle.{std.specs.Io.Cursor.cursor_inner, recorded.specs.Names.counted, recorded.specs.Names.HasRead};
 
 use std::fs::File;
 use std::io;

@@ -1,39 +1,22 @@
 -- The kinds of line that a scene has: the word that each begins with, how many fields follow it, and what they spell.
-use Rattle.std.specs.Option.{option_flatten, option_map}
+use Rattle.{std.specs.Option.option_flatten, std.specs.Option.option_map, uuid.specs.Text.parsed, scene_events.specs.SceneOutputs.written, scene_events.specs.SceneOutputs.no_output}
 use Rattle.std.specs.Prelude.{ℕ, zero, suc, ◌+◌, ◌/◌, ◌^◌, List, [], ◌∷◌, ◌++◌, length, if◌then◌else◌, nat_lt, Some, Err, ◌==◌, ◌&&◌, Option, None, codes, bytes_eq, ◌≡◌, Bool, true, false, Ok}
-use Rattle.uuid.specs.Text.{parsed}
 use Rattle.run_model.specs.Names.{Attempt, Attempts, final_stats_of, UniquePrefix, NotSeen}
-use Rattle.run_model.specs.declared.info.UnitState.{UnitState}
-use Rattle.run_model.specs.declared.status.ExecutionResultDescription.{ExecutionResultDescription}
-use Rattle.run_model.specs.declared.output.ChildOutputDescription.{ChildOutputDescription}
-use Rattle.run_model.specs.declared.output.LiveSpec.{LiveSpec}
-use Rattle.run_model.specs.declared.status.FlakyResult.{FlakyResult}
-use Rattle.run_model.specs.declared.status.RetryData.{RetryData}
-use Rattle.run_model.specs.declared.output.ChildOutputDescription.TheVariants as streams
+use Rattle.run_model.specs.declared.{info.UnitState.UnitState, output.ChildOutputDescription.ChildOutputDescription, output.LiveSpec.LiveSpec}
+use Rattle.run_model.specs.declared.status.{ExecutionResultDescription.ExecutionResultDescription, FlakyResult.FlakyResult, RetryData.RetryData}
 use Rattle.run_model.specs.declared.stats.RunFinishedStats.TheVariants.{Single, Stress}
-use Rattle.scene_events.specs.SceneOutputs.{written, no_output}
-use Rattle.scene_events.specs.declared.scene.SceneConfig.{SceneConfig}
-use Rattle.scene_events.specs.declared.scene.event.SceneEvent.{SceneEvent}
-use Rattle.scene_events.specs.declared.scene.event.SceneEvent.TheVariants as event
-use Rattle.scene_events.specs.declared.scene.run_events.RunCancel.{RunCancel}
-use Rattle.scene_events.specs.declared.scene.run_events.RunPause.{RunPause}
-use Rattle.scene_events.specs.declared.scene.unit_events.SceneScript.{SceneScript}
-use Rattle.scene_events.specs.declared.scene.unit_events.SceneTest.{SceneTest}
-use Rattle.scene_events.specs.declared.scene.unit_events.UnitAnswer.{UnitAnswer}
-use Rattle.scene_events.specs.declared.scene.outputs.SceneOutput.{SceneOutput}
-use Rattle.scene_events.specs.declared.scene.outputs.SceneOutput.TheVariants.{Output, StartError}
-use Rattle.scene_fields.specs.Counts.{stats_in, skips_in}
+use Rattle.scene_events.specs.declared.scene.{SceneConfig.SceneConfig, event.SceneEvent.SceneEvent, run_events.RunCancel.RunCancel, run_events.RunPause.RunPause}
+use Rattle.scene_events.specs.declared.scene.unit_events.{SceneScript.SceneScript, SceneTest.SceneTest, UnitAnswer.UnitAnswer}
+use Rattle.scene_events.specs.declared.scene.outputs.SceneOutput.{SceneOutput, TheVariants.Output, TheVariants.StartError}
+use Rattle.scene_fields.specs.{Counts.stats_in, Counts.skips_in, Results.result_in, Texts.text_in, Texts.bytes_in, Numbers.nanos_in, Numbers.number_in}
 use Rattle.scene_fields.specs.Fields.{◌>>=◌, Line, says, exactly, field, Place, next, next_stored, noting, valued, with_attempts}
 use Rattle.scene_fields.specs.Lists.{words_of, instances_in, chain_in, errors_in}
-use Rattle.scene_fields.specs.Numbers.{nanos_in, number_in}
-use Rattle.scene_fields.specs.Results.{result_in}
-use Rattle.scene_fields.specs.Texts.{text_in, bytes_in}
 use Rattle.scene_fields.specs.Values.{absent_in, config_key_in, display_in, final_level_in, flag_in, flaky_in, mode_in, reason_or_none_in, stress_in}
-use Rattle.scene_fields.specs.declared.stored.StoredOutput.{StoredOutput}
-use Rattle.scene_fields.specs.declared.fault.LineFault.TheVariants.{UnknownEvent, WrongNumberOfFields}
-use Rattle.scene_fields.specs.declared.values.ConfigKey.{ConfigKey}
-use Rattle.scene_fields.specs.declared.values.ConfigKey.TheVariants as key
+use Rattle.scene_fields.specs.declared.{stored.StoredOutput.StoredOutput, values.ConfigKey.ConfigKey, fault.LineFault.TheVariants.UnknownEvent, fault.LineFault.TheVariants.WrongNumberOfFields}
 use Rattle.scene_text.specs.Parts.{state_in, state_with, result_or_none_in, progress_in, moment_in, highlight_in}
+use Rattle.run_model.specs.declared.output.ChildOutputDescription.TheVariants as streams
+use Rattle.scene_events.specs.declared.scene.event.SceneEvent.TheVariants as event
+use Rattle.scene_fields.specs.declared.values.ConfigKey.TheVariants as key
 
 -- what is made of the value of fields
 abbrev pub made : {X Y : Type 0} → (X → Y) → Line X → Line Y

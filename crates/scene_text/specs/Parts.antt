@@ -1,27 +1,19 @@
 -- Values in one field with parts: the state of a unit, the progress of a stress run, moments and highlights.
 use Rattle.std.specs.Prelude.{ℕ, List, [], ◌∷◌, Bool, ◌&&◌, nat_le, nat_lt, unsigned_abs, if◌then◌else◌, Option, None, Some, codes, bytes_eq}
-use Rattle.std.specs.Int.{is_in_range}
-use Rattle.std.specs.Option.{option_and_then, option_map}
-use Rattle.jiff_core.specs.Calendar.{days_in_month}
+use Rattle.{std.specs.Int.is_in_range, std.specs.Option.option_and_then, std.specs.Option.option_map, jiff_core.specs.Calendar.days_in_month}
 use Rattle.run_model.specs.Names.{terminate_reason_text, StressCount, StressProgress, Nanos}
-use Rattle.run_model.specs.declared.info.UnitState.{UnitState}
-use Rattle.run_model.specs.declared.info.UnitTerminateReason.{UnitTerminateReason}
-use Rattle.run_model.specs.declared.output.Highlight.{Highlight}
-use Rattle.run_model.specs.declared.output.HighlightStream.{HighlightStream}
-use Rattle.run_model.specs.declared.status.ExecutionResultDescription.{ExecutionResultDescription}
+use Rattle.run_model.specs.declared.{info.UnitState.UnitState, info.UnitTerminateReason.UnitTerminateReason, output.Highlight.Highlight, output.HighlightStream.HighlightStream}
+use Rattle.run_model.specs.declared.status.ExecutionResultDescription.{ExecutionResultDescription, TheVariants.Pass}
+use Rattle.scene_events.specs.Moments.{Clock, Day, Moment}
+use Rattle.scene_fields.specs.Numbers.{code_in, nanos_in, number_in}
+use Rattle.scene_fields.specs.Values.{flag_in, of_word, total_in}
+use Rattle.scene_fields.specs.{Results.result_in, Split.cut, Texts.bytes_in, Texts.text_in}
 use Rattle.run_model.specs.declared.info.UnitState.TheVariants as state
 use Rattle.run_model.specs.declared.info.UnitTerminateMethod.TheVariants as method
 use Rattle.run_model.specs.declared.info.UnitTerminateReason.TheVariants as reason
 use Rattle.run_model.specs.declared.output.HighlightStream.TheVariants as stream
-use Rattle.run_model.specs.declared.status.ExecutionResultDescription.TheVariants.{Pass}
 use Rattle.run_names.specs.declared.stress.StressCount.TheVariants as count
 use Rattle.run_names.specs.declared.stress.StressProgress.TheVariants as progress
-use Rattle.scene_events.specs.Moments.{Clock, Day, Moment}
-use Rattle.scene_fields.specs.Numbers.{code_in, nanos_in, number_in}
-use Rattle.scene_fields.specs.Results.{result_in}
-use Rattle.scene_fields.specs.Split.{cut}
-use Rattle.scene_fields.specs.Texts.{bytes_in, text_in}
-use Rattle.scene_fields.specs.Values.{flag_in, of_word, total_in}
 
 -- the next step, where there is a value
 infixl 10 ◌>>=◌

@@ -1,24 +1,15 @@
 -- The scene that a text spells, or its first fault.
 use Rattle.std.specs.Prelude.{◌≡◌, ℕ, ◌+◌, List, [], ◌∷◌, ◌++◌, Bool, true, false, ◌==◌, ◌||◌, map, nat_lt, bytes_eq, codes, if◌then◌else◌, Option, None, Some, Result, Ok, Err, length, ⊤}
-use Rattle.std.specs.Result.{result_map_both}
-use Rattle.std.specs.Str.{is_utf8}
-use Rattle.scene_events.specs.Configs.{unconfigured}
-use Rattle.scene_fields.specs.Split.{split_on}
+use Rattle.{std.specs.Result.result_map_both, std.specs.Str.is_utf8, scene_events.specs.Configs.unconfigured}
+use Rattle.scene_fields.specs.{Split.split_on, declared.stored.PlacedOutput.PlacedOutput}
 use Rattle.scene_fields.specs.Fields.{◌>>=◌, Fails, Line, Noted, Place, exactly, next, none_noted, says, noted_outputs}
-use Rattle.scene_fields.specs.declared.stored.PlacedOutput.{PlacedOutput}
 use Rattle.scene_text.specs.EventLines.{config_line_fields, event_line_fields, made}
-use Rattle.scene_fields.specs.declared.fault.LineError.{LineError}
-use Rattle.scene_fields.specs.declared.fault.LineError.TheVariants as error
-use Rattle.scene_fields.specs.declared.fault.LineFault.{LineFault}
-use Rattle.scene_fields.specs.declared.fault.LineFault.TheVariants.{NotUtf8, ConfigAfterEvent}
-use Rattle.scene_fields.specs.declared.fault.ReadFault.{ReadFault}
-use Rattle.scene_fields.specs.declared.fault.ReadFault.TheVariants as fault
-use Rattle.scene_text.specs.declared.reader.LinesRead.{LinesRead}
-use Rattle.scene_text.specs.declared.reader.ParsedLine.{ParsedLine}
+use Rattle.scene_fields.specs.declared.fault.{LineError.LineError, LineFault.LineFault, ReadFault.ReadFault, LineFault.TheVariants.NotUtf8, LineFault.TheVariants.ConfigAfterEvent}
 use Rattle.scene_text.specs.declared.reader.ParsedLine.TheVariants.{NoEvent, ConfigLine, EventLine}
-use Rattle.scene_events.specs.declared.scene.ParsedRun.{ParsedRun}
-use Rattle.scene_events.specs.declared.scene.SceneConfig.{SceneConfig}
-use Rattle.scene_events.specs.declared.scene.event.SceneEvent.{SceneEvent}
+use Rattle.scene_text.specs.declared.reader.{LinesRead.LinesRead, ParsedLine.ParsedLine}
+use Rattle.scene_events.specs.declared.scene.{ParsedRun.ParsedRun, SceneConfig.SceneConfig, event.SceneEvent.SceneEvent}
+use Rattle.scene_fields.specs.declared.fault.LineError.TheVariants as error
+use Rattle.scene_fields.specs.declared.fault.ReadFault.TheVariants as fault
 
 -- lines that were read: the last value of each key, and the events in order
 pub record ParsedLines : Type 0 where

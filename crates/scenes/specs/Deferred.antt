@@ -1,10 +1,8 @@
 -- A writer whose delivery is put off, and the delivery of the rest.
 use Rattle.std.specs.Prelude.{◌≡◌, ◌⊎◌, ℕ, List, [], Option, Result, Err, ⊤}
 use Rattle.styled_text.specs.Names.{BufferAccepts, BufferStops, Meaning, WriterLaws, TextBuffer}
-use Rattle.writers.specs.declared.write_str.WriteFault.TheVariants.{Device}
-use Rattle.command_line.specs.declared.fault.Fault.{Fault}
-use Rattle.command_line.specs.declared.fault.Fault.TheVariants.{WriteFailed}
-use Rattle.scenes.specs.declared.deferred.Deferred.{Deferred}
+use Rattle.{writers.specs.declared.write_str.WriteFault.TheVariants.Device, scenes.specs.declared.deferred.Deferred.Deferred}
+use Rattle.command_line.specs.declared.fault.Fault.{Fault, TheVariants.WriteFailed}
 
 -- the writer below accepts; nothing need be delivered
 abbrev pub deferred_meaning : {W : Type 0} → Meaning W → Meaning (Deferred W)

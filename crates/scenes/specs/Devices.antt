@@ -1,9 +1,7 @@
 -- The device of a run's records.
 use Rattle.std.specs.Prelude.{◌≡◌, [], None, Some}
-use Rattle.command_line.specs.declared.args.Options.{Options}
-use Rattle.scenes.specs.Reports.{store_for}
-use Rattle.scenes.specs.declared.devices.RecordDevice.{RecordDevice}
-use Rattle.scenes.specs.declared.devices.RecordDevice.TheVariants.{Buffered, Unused}
+use Rattle.{command_line.specs.declared.args.Options.Options, scenes.specs.Reports.store_for}
+use Rattle.scenes.specs.declared.devices.RecordDevice.{RecordDevice, TheVariants.Buffered, TheVariants.Unused}
 
 -- it is this device: behind an empty buffer where the options ask for records, with what these hold, else as it is
 abbrev pub IsRecordDevice : {S : Type 0} → Options → S → RecordDevice S → Type 0

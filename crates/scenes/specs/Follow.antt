@@ -1,20 +1,12 @@
 -- A report that keeps up with its lines: what stops one, and what the run came to.
 use Rattle.std.specs.Prelude.{◌≡◌, ◌⊎◌, ℕ, List, ◌∷◌, ◌++◌, Bool, true, Result, Ok, Err, IfErr, IfOk, OnOk}
-use Rattle.styled_text.specs.Names.{Bor, Meaning}
-use Rattle.console_reporter.specs.OptionalStore.{store_meaning}
+use Rattle.{styled_text.specs.Names.Bor, styled_text.specs.Names.Meaning, console_reporter.specs.OptionalStore.store_meaning}
 use Rattle.scene_text.specs.Names.{ParsedLines, RunLine, is_begun, line_value, lines_before, SceneEvent, LineFault}
-use Rattle.scene_text.specs.declared.reader.ParsedLine.TheVariants.{EventLine}
-use Rattle.scene_text.specs.declared.reader.LinesRead.{LinesRead}
-use Rattle.scenes.specs.Judged.{RefusesEvent}
-use Rattle.scenes.specs.ParsedScenes.{OfLines}
+use Rattle.scene_text.specs.declared.reader.{ParsedLine.TheVariants.EventLine, LinesRead.LinesRead}
+use Rattle.scenes.specs.{Judged.RefusesEvent, ParsedScenes.OfLines, Read.AtLine, Read.HasReadLines, declared.outcome.RunOutcome.RunOutcome, declared.scene_reporter.SceneReporter.SceneReporter}
 use Rattle.scenes.specs.Prints.{Begins, Prints, PrintsFollowed}
-use Rattle.scenes.specs.Read.{AtLine, HasReadLines}
-use Rattle.scenes.specs.SceneReporter.{Follows, writers}
-use Rattle.command_line.specs.declared.fault.Fault.{Fault}
-use Rattle.command_line.specs.declared.fault.Fault.TheVariants.{CannotRead, Line}
-use Rattle.command_line.specs.declared.args.Options.{Options}
-use Rattle.scenes.specs.declared.outcome.RunOutcome.{RunOutcome}
-use Rattle.scenes.specs.declared.scene_reporter.SceneReporter.{SceneReporter}
+use Rattle.scenes.specs.{SceneReporter.Follows, SceneReporter.writers}
+use Rattle.command_line.specs.declared.{fault.Fault.Fault, fault.Fault.TheVariants.CannotRead, fault.Fault.TheVariants.Line, args.Options.Options}
 
 -- the next line, with this number, is malformed or its event is refused; `fault` says so
 pub record IsWrongLine (options : Options) (run : ParsedLines) (lines : List RunLine) (number : ℕ) (fault : Fault) : Type 0 where

@@ -3,15 +3,12 @@ use Rattle.std.specs.Prelude.{◌≡◌, ◌⊎◌, ℕ, List, ◌∷◌, ◌++�
 use Rattle.std.specs.Option.{option_and_then, option_map}
 use Rattle.reporter_state.specs.Refusals.{first_refused, refusal_at_by, refusal_by}
 use Rattle.reporter_state.specs.declared.decider.OutputLoadDecider.{OutputLoadDecider}
-use Rattle.run_model.specs.declared.call.ReportCall.{ReportCall}
 use Rattle.scenes.specs.Reports.{AreCallsOf, fault_at_call, decider_for}
-use Rattle.scene_text.specs.Names.{event_lines, no_lines, text_lines, text_read, IsCallOf, SceneConfig, SceneEvent, LineFault}
-use Rattle.command_line.specs.Faults.{IsJudgeFault}
-use Rattle.command_line.specs.declared.fault.Fault.{Fault}
-use Rattle.command_line.specs.declared.fault.Fault.TheVariants as fault
 use Rattle.scenes.specs.ParsedScenes.{IsFaultOf, IsSceneRead, scene_lines}
 use Rattle.scenes.specs.declared.scene.Scene.{Scene}
-use Rattle.command_line.specs.declared.args.Options.{Options}
+use Rattle.scene_text.specs.Names.{event_lines, no_lines, text_lines, text_read, IsCallOf, SceneConfig, SceneEvent, LineFault, ReportCall}
+use Rattle.command_line.specs.{Faults.IsJudgeFault, declared.fault.Fault.Fault, declared.args.Options.Options}
+use Rattle.command_line.specs.declared.fault.Fault.TheVariants as fault
 
 -- no call of the scene is refused
 pub record IsSceneAccepted (options : Options) (scene : Scene) : Type 0 where

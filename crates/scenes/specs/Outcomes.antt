@@ -1,13 +1,12 @@
 -- The outcome of a run: from its calls, and from the statistics that it ended with.
 use Rattle.std.specs.Prelude.{ℕ, List, [], ◌∷◌}
-use Rattle.run_model.specs.Stats.{final_stats_of, stress_stats_of}
+use Rattle.{run_model.specs.Stats.final_stats_of, run_model.specs.Stats.stress_stats_of, scenes.specs.declared.outcome.RunOutcome.RunOutcome}
 use Rattle.text_parts.specs.Names.{ReportCall, TestEventKind, FinalRunStats, RunFinishedStats, StressFinalRunStats}
 use Rattle.run_model.specs.declared.call.ReportCall.TheVariants as call
 use Rattle.run_model.specs.declared.event.TestEventKind.TheVariants as kind
 use Rattle.run_model.specs.declared.stats.FinalRunStats.TheVariants as final
 use Rattle.run_model.specs.declared.stats.RunFinishedStats.TheVariants as finished
 use Rattle.run_model.specs.declared.stats.StressFinalRunStats.TheVariants as stress
-use Rattle.scenes.specs.declared.outcome.RunOutcome.{RunOutcome}
 use Rattle.scenes.specs.declared.outcome.RunOutcome.TheVariants as outcome
 
 -- what a run came to by its statistics: one that was cancelled has failed

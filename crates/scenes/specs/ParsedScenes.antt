@@ -1,9 +1,8 @@
 -- Scenes as lines that were read.
 use Rattle.std.specs.Prelude.{◌≡◌, ℕ, List, Result, Ok, Err, ⊤}
 use Rattle.scene_text.specs.Names.{IsFirstFault, ParsedLines, RunLine, lines_read, no_lines, parsed_lines, text_lines, LineFault, ParsedRun}
-use Rattle.command_line.specs.declared.fault.Fault.{Fault}
+use Rattle.{command_line.specs.declared.fault.Fault.Fault, scenes.specs.declared.scene.Scene.Scene}
 use Rattle.command_line.specs.declared.fault.Fault.TheVariants as fault
-use Rattle.scenes.specs.declared.scene.Scene.{Scene}
 
 -- the run of a scene, as the reader holds it
 abbrev pub run_of : Scene → ParsedRun

@@ -2,21 +2,17 @@
 -- that no report shows.
 use Rattle.std.specs.Prelude.{ℕ, List, reverse, false, if◌then◌else◌, Option, ◌≡◌, Bool}
 use Rattle.styled_text.specs.Names.{option_map, AllZip, Text}
-use Rattle.run_names.specs.Filters.{default_config_filter}
+use Rattle.{run_names.specs.Filters.default_config_filter, scenes.specs.declared.scene.Scene.Scene, command_line.specs.declared.fault.Fault.Fault, command_line.specs.declared.args.Options.Options}
 use Rattle.text_parts.specs.Names.{ReportCall, overridden, ShowProgress, DisplayerKind}
-use Rattle.unit_report.specs.declared.config.ShowProgress.TheVariants as progress
-use Rattle.unit_report.specs.declared.unit_output.DisplayerKind.TheVariants as displayer
 use Rattle.reporter_state.specs.Names.{StoreConfig, unread, unread_call}
 use Rattle.console_reporter.specs.Names.{WriteEventError, OutputLoadDecider, Configuration, configured_in, report, stored, decider_of, IsIsolated}
-use Rattle.console_reporter.specs.declared.imp.builder.DisplayReporterBuilder.{DisplayReporterBuilder}
-use Rattle.console_reporter.specs.declared.imp.builder.Surroundings.{Surroundings}
+use Rattle.console_reporter.specs.declared.imp.builder.{DisplayReporterBuilder.DisplayReporterBuilder, Surroundings.Surroundings}
 use Rattle.reporter_state.specs.declared.faults.WriteEventError.TheVariants.{RetriedSuccess, OutputNotLoaded, Io, Memory, Failed, StoreIo}
 use Rattle.scene_text.specs.Names.{IsCallOf, SceneConfig, SceneEvent}
-use Rattle.scene_fields.specs.declared.fault.LineFault.TheVariants as line
-use Rattle.command_line.specs.declared.fault.Fault.{Fault}
 use Rattle.command_line.specs.declared.fault.Fault.TheVariants.{Line, WriteFailed, StoreFailed, OutOfMemory}
-use Rattle.scenes.specs.declared.scene.Scene.{Scene}
-use Rattle.command_line.specs.declared.args.Options.{Options}
+use Rattle.unit_report.specs.declared.config.ShowProgress.TheVariants as progress
+use Rattle.unit_report.specs.declared.unit_output.DisplayerKind.TheVariants as displayer
+use Rattle.scene_fields.specs.declared.fault.LineFault.TheVariants as line
 
 -- the calls of a scene: for each event one, in order
 abbrev pub AreCallsOf : Scene → List ReportCall → Type 0

@@ -1,8 +1,8 @@
 //! Delivery that is put off: the report of a whole scene goes to its device when its buffer is full, and at the end.
 
 ghost use Rattle.std.specs.Prelude.{◌≡◌, [], Ok, IfErr, OnOk};
-ghost use Rattle.writers.specs.TextBuffer.{BufferAccepts};
 ghost use Rattle.scenes.specs.Deferred.{DeliversRest, deferred_laws, deferred_meaning};
+ghost use Rattle.writers.specs.TextBuffer.{BufferAccepts};
 
 use command_line::fault::Fault;
 use console_reporter::write_str::{TextBuffer, WriteFault, WriteStr};

@@ -1,9 +1,8 @@
 //! What each program does with its process: the words that it was called with, its descriptors and the file of its records, and the line and
 //! the status of a fault.
 
-ghost use Rattle.std.specs.Fd.{file_raw_fd};
+ghost use Rattle.{std.specs.Fd.file_raw_fd, scenes.specs.Names.status_of, scenes.specs.Names.Fault};
 ghost use Rattle.std.specs.Prelude.{◌≡◌, ◌⊎◌, ◌↔◌, ◌≤ℤ◌, ◌<ℤ◌, pos, IfErr, IfOk, IsTrue};
-ghost use Rattle.scenes.specs.Names.{status_of, Fault};
 
 use command_line::fault::{Fault, FaultLine, ReportProgram};
 use std::fmt::Display;

@@ -1,8 +1,8 @@
 //! Where the lines of a run come from: a file that is read piece by piece, the way into `report` and `follow`, or another source.
 
 ghost use Rattle.std.specs.Prelude.{◌≡◌, ℕ, List, [], Ok, true, IfErr, IfOk, OnOk};
-ghost use Rattle.std.specs.Io.Buffered.{reader_remaining};
 ghost use Rattle.scenes.specs.Names.{IsJudgeFault, AreLeftOf, HasReadLines};
+ghost use Rattle.std.specs.Io.Buffered.{reader_remaining};
 ghost use Rattle.scene_text.specs.SceneTexts.{LeavesLines, ParsedLines, ReadsLines, RunLine, is_begun, text_lines};
 
 use command_line::fault::Fault;

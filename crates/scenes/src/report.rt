@@ -3,12 +3,11 @@
 //! A scene is read, then checked by `judge`, and then reported. `judge` has no device, and a report takes the scene that it accepted, so no
 //! byte is written before a scene is accepted, and none of a scene that is refused.
 
-ghost use Rattle.std.specs.Prelude.{◌≡◌, ◌⊎◌, ℕ, List, [], Option, None, Some, IfOk, IfErr, OnOk};
 ghost use Rattle.scenes.specs.Names.{Fault, IsJudgeFault, IsJudged, IsRefusedText, IsRejected, IsSceneAccepted, IsSceneRefused, ChecksEvent, Begins, Prints, Reported, StandAtOneCall, device};
+ghost use Rattle.std.specs.Prelude.{◌≡◌, ◌⊎◌, ℕ, List, [], Option, None, Some, IfOk, IfErr, OnOk};
 ghost use Rattle.scenes.specs.Names.{store_for, IsReadFault, IsSceneRead, OfText, scene_lines};
 ghost use Rattle.console_reporter.specs.OptionalStore.{IsSameStore, config_of, store_delivered, store_meaning};
-ghost use Rattle.styled_text.specs.Texts.{Text};
-ghost use Rattle.run_model.specs.declared.call.ReportCall.{ReportCall};
+ghost use Rattle.{styled_text.specs.Texts.Text, run_model.specs.declared.call.ReportCall.ReportCall};
 ghost use Rattle.scene_text.specs.SceneTexts.{AllRead, event_lines, no_lines, text_lines, text_read};
 
 use crate::deferred::{Deferred, deliver_rest};

@@ -1,9 +1,7 @@
 //! A run as a scene holds it, and the calls that it makes of its reporter.
 
 ghost use Rattle.std.specs.Prelude.{◌≡◌, IfOk, IfErr, get_or};
-ghost use Rattle.std.specs.List.{AllZip};
-ghost use Rattle.scene_events.specs.Scenes.{IsCallOf};
-ghost use Rattle.scenes.specs.Reports.{AreReadyCallsOf};
+ghost use Rattle.{std.specs.List.AllZip, scene_events.specs.Scenes.IsCallOf, scenes.specs.Reports.AreReadyCallsOf};
 
 use crate::reporter::decider_of;
 use command_line::args::Options;

@@ -1,24 +1,17 @@
 -- A test that has finished with all its outputs in it, and with that of its last attempt alone: no call of the one is shown otherwise than a
 -- call of the other.
 use Rattle.std.proofs.Common.{◌≡◌, ℕ, true, false, ◌==◌, List, [], ◌∷◌, None, Some, length, reverse, refl, ap, sym, ◌∙◌, subst, arith, inl, inr}
-use Rattle.std.proofs.lemmas.Bool.{cases_Bool}
-use Rattle.std.proofs.lemmas.List.{length-map}
+use Rattle.{std.proofs.lemmas.Bool.cases_Bool, std.proofs.lemmas.List.length-map, reporter_state.specs.Unread.unread_call, reporter_state.specs.declared.decider.OutputLoadDecider.OutputLoadDecider}
 use mathlib.Core.List.{reverse_aux}
 use Rattle.console_reporter.proofs.lemmas.Earlier.{call_of_last, calls_of_last, kind_of_last, last_alone}
 use Rattle.recorded.specs.Names.{event_inline, output_inline, wanted, wanted_of, skips}
-use Rattle.recorded.proofs.lemmas.Skipped.{skips-with}
-use Rattle.recorded.proofs.lemmas.Skips.{skips-same}
-use Rattle.recorded.proofs.lemmas.Unloaded.{unloaded-earlier}
-use Rattle.reporter_state.specs.Unread.{unread_call}
-use Rattle.reporter_state.specs.declared.decider.OutputLoadDecider.{OutputLoadDecider}
+use Rattle.recorded.proofs.lemmas.{Skipped.skips-with, Skips.skips-same, Unloaded.unloaded-earlier}
 use Rattle.run_model.specs.Names.{Attempts, attempt_with_output, unloaded_attempt}
-use Rattle.scene_text.specs.Names.{ReportCall, TestEvent, TestEventKind, ChildOutputDescription, LiveSpec, attempts_with, event_with, IsCallOf, SaysSame, SceneEvent, TestFinish}
-use Rattle.scene_text.specs.Names.{PlacedOutput}
+use Rattle.scene_text.specs.Names.{ReportCall, TestEvent, TestEventKind, ChildOutputDescription, LiveSpec, attempts_with, event_with, IsCallOf, SaysSame, SceneEvent, TestFinish, PlacedOutput}
+use Rattle.scenes.specs.{Outcomes.outcome_after, Outcomes.run_outcome, declared.outcome.RunOutcome.RunOutcome}
 use Rattle.run_model.specs.declared.call.ReportCall.TheVariants as call
 use Rattle.run_model.specs.declared.event.TestEventKind.TheVariants as kind
 use Rattle.scene_events.specs.declared.scene.event.SceneEvent.TheVariants as scene
-use Rattle.scenes.specs.Outcomes.{outcome_after, run_outcome}
-use Rattle.scenes.specs.declared.outcome.RunOutcome.{RunOutcome}
 
 abbrev AttemptsOfRun : Type 0
 AttemptsOfRun = Attempts LiveSpec ChildOutputDescription

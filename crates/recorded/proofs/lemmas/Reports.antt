@@ -1,21 +1,16 @@
 -- What a replay prints is the report of the run with every output in its place (for `RecordedRun::replay`).
 use Rattle.std.proofs.Common.{◌≡◌, ℕ, ◌^◌, ◌-◌, ◌≤◌, List, [], ◌∷◌, map, reverse, Option, Result, Ok, Err, IfOk, OnOk, refl, sym, ap, ◌∙◌, subst, arith, inl, inr}
-use Rattle.std.specs.Io.KnownBytes.{Appends}
-use Rattle.std.specs.List.{AllZip}
+use Rattle.{std.specs.Io.KnownBytes.Appends, std.specs.List.AllZip, scenes.specs.declared.outcome.RunOutcome.RunOutcome, scenes.proofs.lemmas.ReadyCalls.outcome_unread}
 use Rattle.scenes.specs.Names.{Options, Fault, PrintsFollowed, device, run_outcome, OfLines, OfText, configuration_for, report_of, stored_of, decider_for}
-use Rattle.scenes.specs.declared.outcome.RunOutcome.{RunOutcome}
 use Rattle.console_reporter.proofs.lemmas.Earlier.{call_of_last, calls_of_last, isolated_last}
 use Rattle.console_reporter.proofs.lemmas.Isolation.{isolated}
 use Rattle.recorded.proofs.lemmas.EarlierOutputs.{loaded_call, outcome_last, shown_call}
-use Rattle.recorded.proofs.lemmas.Skipped.{skipped_call}
-use Rattle.recorded.specs.Names.{counted, line_replayed, lines_inline, lines_replayed, needed, ended_lines, IsLeft, AreBytes, scene_spelled}
-use Rattle.recorded.proofs.lemmas.SpelledLines.{scene_law}
 use Rattle.recorded.proofs.lemmas.Inline.{AreInline, IsInline, go_on}
-use Rattle.reporter_state.specs.Names.{first_refused, unread}
-use Rattle.reporter_state.specs.declared.decider.OutputLoadDecider.{OutputLoadDecider}
+use Rattle.recorded.proofs.lemmas.{Skipped.skipped_call, SpelledLines.scene_law}
+use Rattle.recorded.specs.Names.{counted, line_replayed, lines_inline, lines_replayed, needed, ended_lines, IsLeft, AreBytes, scene_spelled}
+use Rattle.reporter_state.specs.{Names.first_refused, Names.unread, declared.decider.OutputLoadDecider.OutputLoadDecider}
 use Rattle.scene_text.specs.Names.{ReportCall, IsCallOf, SceneConfig, SceneEvent, ParsedLines, RunLine, lines_before, no_lines}
 use Rattle.scene_text.proofs.lemmas.Tellings.{all_tell, all_told}
-use Rattle.scenes.proofs.lemmas.ReadyCalls.{outcome_unread}
 
 -- a call of an event with every output in its place, which is shown as a call of the event that is replayed
 module _ (all : List ℕ) (d : OutputLoadDecider) where

@@ -1,14 +1,7 @@
 -- Bytes that are spelled out, and their fields.
-use Rattle.std.proofs.Common.{◌≡◌, ℕ, zero, suc, ◌+◌, ◌*◌, ◌/◌, ◌%◌, ◌<◌, List, [], ◌∷◌, Bool, true, false, get_or, take, drop, refl, ap, ◌∙◌, arith, Option, None, Some, ◌==◌, ◌&&◌}
-use Rattle.std.specs.Prelude.{nat_lt, not}
-use Rattle.std.specs.Char.{digit_value}
-use Rattle.std.specs.List.{list_all}
-use Rattle.std.specs.Option.{option_map, option_map_or}
-use Rattle.std.specs.Str.{IsAscii, IsUtf8}
-use Rattle.std.proofs.lemmas.Bool.{agree_below_at, and_parts, eqb-true}
-use Rattle.std.proofs.lemmas.Bool.Decides.{nat_tests}
-use Rattle.std.proofs.lemmas.Str.{IsUtf8-from_ascii}
-use Rattle.hex.specs.Hex.{lower_digits}
+use Rattle.std.proofs.Common.{◌≡◌, ℕ, zero, suc, ◌+◌, ◌*◌, ◌/◌, ◌%◌, ◌<◌, List, [], ◌∷◌, Bool, true, false, get_or, take, drop, refl, ap, ◌∙◌, arith, Option, None, Some, ◌==◌, ◌&&◌, nat_lt, not}
+use Rattle.std.proofs.{Common.option_map, Common.eqb-true, lemmas.Bool.agree_below_at, lemmas.Bool.and_parts, lemmas.Bool.Decides.nat_tests, lemmas.Str.IsUtf8-from_ascii}
+use Rattle.{std.specs.Char.digit_value, std.specs.List.list_all, std.specs.Option.option_map_or, std.specs.Str.IsAscii, std.specs.Str.IsUtf8, hex.specs.Hex.lower_digits}
 use Rattle.recorded.specs.Names.{bytes_at, AreBytes, bytes_spelled, field_spelled}
 use Rattle.scene_text.specs.Names.{reference_in, Lacks, bytes_in, hex_escape, unescaped_after, Reference, stream_in}
 

@@ -1,11 +1,8 @@
 -- When bytes that were read are the stream that a reference names.
 use Rattle.std.proofs.Common.{◌≡◌, ◌≢◌, ℕ, ◌<◌, ◌≤◌, ◌↔◌, IsTrue, List, length, take, drop, Bool, true, false, Option, None, Some, IfSome, Result, Ok, Err, ap, sym, ◌∙◌, arith}
-use Rattle.std.specs.Result.{IsErrAnd}
-use Rattle.std.proofs.lemmas.Bool.Decides.{nat_tests}
-use Rattle.std.proofs.lemmas.Slice.Eq.{bytes_eq-Decides}
+use Rattle.{std.specs.Result.IsErrAnd, recorded.specs.declared.outputs.LoadFault.TheVariants.OutOfMemory, std.proofs.lemmas.Bool.Decides.nat_tests, std.proofs.lemmas.Slice.Eq.bytes_eq-Decides}
 use Rattle.scene_text.specs.Names.{Reference, end_of, sum_of}
 use Rattle.recorded.specs.Names.{IsLoaded, bytes_at, stream_at, LoadFault, HasRead}
-use Rattle.recorded.specs.declared.outputs.LoadFault.TheVariants.{OutOfMemory}
 
 -- where known bytes do not hold a reference
 pub not_there : (known : Option (List ℕ)) (r : Reference) (holds : Bool) → holds ≡ false → IfSome known (λ all. IsTrue holds ↔ (end_of r ≤ length all)) → IfSome known (λ all. (length all < end_of r) × (stream_at all r ≡ None))

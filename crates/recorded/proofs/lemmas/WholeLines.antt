@@ -1,11 +1,7 @@
 -- The whole lines of a text, one by one (for `next_line`, `take_at_hand`, `read_next`).
 use Rattle.std.proofs.Common.{◌≡◌, ℕ, ◌+◌, ◌<◌, true, false, List, [], ◌∷◌, ◌++◌, Option, None, Some, length, take, drop, refl, sym, ap, ◌∙◌, subst, arith, append_assoc, append-nil, inl, inr, ◌==◌}
-use Rattle.std.specs.Prelude.{⊤}
-use Rattle.std.specs.List.{onto_first}
-use Rattle.std.proofs.lemmas.Bool.{cases_Bool}
-use Rattle.std.proofs.lemmas.List.{drop-append-le, drop_all}
-use Rattle.memchr.specs.Find.{IsFirstByte, is_byte}
-use Rattle.scene_fields.specs.Split.{Lacks, split_on}
+use Rattle.{std.specs.Prelude.⊤, std.specs.List.onto_first, memchr.specs.Find.IsFirstByte, memchr.specs.Find.is_byte, scene_fields.specs.Split.Lacks, scene_fields.specs.Split.split_on}
+use Rattle.std.proofs.lemmas.{Bool.cases_Bool, List.drop-append-le, List.drop_all}
 use Rattle.scene_fields.proofs.lemmas.Cuts.{Lacks-from_each, cut_at, split_on-lacks, split_on-parts}
 use Rattle.recorded.specs.Names.{IsNextLine, TakesOf, ended_lines, without_last}
 use Rattle.recorded.specs.declared.lines.Taken.TheVariants as taken

@@ -1,12 +1,8 @@
 -- Valid lines, one after the other (for `LinesRead::read_more`, `LinesRead::read_owned`, and for the program).
-use Rattle.std.proofs.Common.{◌≡◌, ℕ, ◌+◌, List, [], ◌∷◌, ◌++◌, Result, Ok, Err, length, refl, sym, ap, ◌∙◌, subst, arith, append_assoc, append-nil, inl, inr, ◌⊎◌}
-use Rattle.std.specs.Prelude.{nat_lt}
-use Rattle.std.specs.Result.{result_map_both}
-use Rattle.std.proofs.lemmas.Bool.Decides.{nat_tests}
-use Rattle.std.proofs.lemmas.List.{length-append}
-use Rattle.scene_text.specs.Names.{SceneEvent, Fails, LineError, LineFault, ReadFault, AllRead, IsNextFault, KeepsLines, LeavesLines, NotesLine, ParsedLine, ReadsLines, RunLine}
-use Rattle.scene_text.specs.Names.{ParsedLines, before_next, event_lines, fault_at, is_begun, is_begun_behind, line_here, line_read, line_value, lines_before, lines_read, parsed_lines, lines_after}
-use Rattle.scene_text.specs.Names.{lines_with, LinesRead}
+use Rattle.scene_text.specs.Names.{SceneEvent, Fails, LineError, LineFault, ReadFault, AllRead, IsNextFault, KeepsLines, LeavesLines, NotesLine, ParsedLine, ReadsLines, RunLine, ParsedLines}
+use Rattle.scene_text.specs.Names.{before_next, event_lines, fault_at, is_begun, is_begun_behind, line_here, line_read, line_value, lines_before, lines_read, parsed_lines, lines_after, lines_with}
+use Rattle.std.proofs.Common.{◌≡◌, ℕ, ◌+◌, List, [], ◌∷◌, ◌++◌, Result, Ok, Err, length, refl, sym, ap, ◌∙◌, subst, arith, append_assoc, append-nil, inl, inr, ◌⊎◌, nat_lt, length-append}
+use Rattle.{std.specs.Result.result_map_both, std.proofs.lemmas.Bool.Decides.nat_tests, scene_text.specs.Names.LinesRead}
 use Rattle.scene_text.specs.declared.reader.ParsedLine.TheVariants.{ConfigLine, EventLine, NoEvent}
 use Rattle.scene_fields.specs.declared.fault.LineError.TheVariants as error
 use Rattle.scene_fields.specs.declared.fault.ReadFault.TheVariants as fault

@@ -5,8 +5,7 @@
 
 ghost use Rattle.scene_text.specs.Names.{clock_of, day_of, delay_in, exited_in, exiting_in, result_or_none_in, running_in, slow_after_in, state_in, state_with, terminate_reason_in, terminating_in};
 ghost use Rattle.scene_text.specs.Names.{timing_in, wait_in, checked_clock, checked_day, moment_in, highlight_in, highlight_stream_in, progress_in, stress_count_in};
-ghost use Rattle.std.specs.Option.{option_map};
-ghost use Rattle.std.specs.Prelude.{◌≡◌, IfOk};
+ghost use Rattle.std.specs.{Option.option_map, Prelude.◌≡◌, Prelude.IfOk};
 
 use super::Field;
 use bytes::Bytes;

@@ -1,14 +1,13 @@
 -- What is read of lines that are followed is reported, or left (for `follow_lines`, `follow_to`, `follow_source`).
+use Rattle.scenes.proofs.Common.{AreWhole, AtLine, Begins, begun_behind, Followed, EventLine, Fault, fault_of_read, Follows, HasReadLines, is_begun, is_begun_behind, IsMore, IsNextFault, IsUnread}
+use Rattle.scenes.proofs.Common.{KeepsUp, Line, line_value, LineFault, lines_after, lines_before, lines_with, LinesRead, Meaning, no_lines, Options, OutOfMemory, parsed_lines, ParsedLine, ParsedLines}
+use Rattle.scenes.proofs.Common.{Prints, ReadFault, ReportCall, RunLine, RunOutcome, SceneConfig, SceneEvent, SceneReporter, StopsAtEvent, StopsBy, store-laws, store_meaning, with_line, WriterLaws}
 use Rattle.std.proofs.Common.{◌≡◌, ℕ, ◌+◌, Bool, true, false, List, [], ◌∷◌, ◌++◌, Result, Ok, Err, length, get_or, refl, sym, ap, ◌∙◌, subst, append_assoc, inl, inr, ◌⊎◌}
-use Rattle.std.specs.Borrow.{Bor}
-use Rattle.scenes.proofs.Common.{AreWhole, AtLine, Begins, begun_behind, Followed, EventLine, Fault, fault_of_read, Follows, HasReadLines, is_begun, is_begun_behind, IsMore, IsNextFault, IsUnread, KeepsUp, Line, line_value, LineFault, lines_after, lines_before, lines_with, LinesRead, Meaning, no_lines, Options, OutOfMemory, parsed_lines, ParsedLine, ParsedLines, Prints, ReadFault, ReportCall, RunLine, RunOutcome, SceneConfig, SceneEvent, SceneReporter, StopsAtEvent, StopsBy, store-laws, store_meaning, with_line, WriterLaws, writers}
-use Rattle.command_line.specs.declared.fault.Fault.TheVariants.{CannotRead}
-use Rattle.scenes.specs.Follow.{IsWrongLine}
-use Rattle.scene_fields.specs.declared.fault.ReadFault.TheVariants as read
-use Rattle.scene_text.specs.SceneTexts.{line_read}
-use Rattle.scenes.proofs.lemmas.ReadLines.{config_kept, at_behind, event_at, forgets, spells}
+use Rattle.{std.specs.Borrow.Bor, command_line.specs.declared.fault.Fault.TheVariants.CannotRead, scenes.specs.Follow.IsWrongLine, scene_text.specs.SceneTexts.line_read}
 use Rattle.scenes.proofs.lemmas.Prints.{begins_no_more, calls_so, none_begun, prints_only}
-use Rattle.scenes.proofs.lemmas.SceneReporters.{StopsAt}
+use Rattle.scenes.proofs.{Common.writers, lemmas.SceneReporters.StopsAt}
+use Rattle.scenes.proofs.lemmas.ReadLines.{config_kept, at_behind, event_at, forgets, spells}
+use Rattle.scene_fields.specs.declared.fault.ReadFault.TheVariants as read
 
 wrong_with : (before : ParsedLines) (f : LineFault) (r : Result ParsedLine LineFault) → lines_with before r ≡ Err f → r ≡ Err f
 wrong_with before f (Ok s) h = absurd (cc)

@@ -1,22 +1,23 @@
 -- A run of all calls that stopped at one of them, and calls whose output was left unread (for `write_calls`, `write_calls_and_records`,
 -- `report_by_calls`).
-use Rattle.std.proofs.Common.{◌≡◌, ◌⊎◌, ℕ, suc, ◌<◌, true, false, Bool, List, [], ◌∷◌, ◌++◌, Option, None, Some, length, take, drop, get_or, reverse, refl, sym, ap, ◌∙◌, subst, ap₂, append-nil, append_assoc, arith, ◌≤◌, inl, inr, if◌then◌else◌}
+use Rattle.std.proofs.Common.{◌≡◌, ◌⊎◌, ℕ, suc, ◌<◌, true, false, Bool, List, [], ◌∷◌, ◌++◌, Option, None, Some, length, take, drop, get_or, reverse, refl, sym, ap, ◌∙◌, subst, ap₂, append-nil}
+use Rattle.scenes.proofs.Common.{AllZip, Appends-nil, AreReadyCallsOf, AreWhole, Begins, buffer_meaning, BufferAccepts, common_steps, device, Prints, scene_lines, StandAtOneCall, TextBuffer, IsCallOf}
+use Rattle.scenes.proofs.Common.{position_or_len, configuration_for, decider_for, false≢true, Fault, fault_at_call, first_refused, HasAtLeast, HasAtMost, HasBeginning, HasFirstCalls, IsSceneRefused}
+use Rattle.scenes.proofs.Common.{is_some, Meaning, option_map, Options, OutOfMemory, OutputLoadDecider, Records, refusal_by, report, report_of, ReportCall, reverse-append, Scene, SceneConfig, Stops}
+use Rattle.std.proofs.Common.{append_assoc, arith, ◌≤◌, inl, inr, if◌then◌else◌, get_or-take, length-take-le, take-append-drop, slice_get}
 use Rattle.std.proofs.Math.Seq.{drop-append_seam, drop-cons, take-append_seam}
-use Rattle.std.proofs.lemmas.List.{get_or-take, length-take-le, drop-map, length-map, map-append, take-append-drop, take-map}
-use Rattle.std.proofs.lemmas.List.Quantifiers.{position-Some}
-use Rattle.std.proofs.lemmas.Option.{slice_get_cases}
+use Rattle.std.proofs.lemmas.List.{drop-map, length-map, take-map}
+use Rattle.std.proofs.lemmas.{List.Quantifiers.position-Some, Option.slice_get_cases}
 use Rattle.styled_text.specs.Names.{position, option_and_then, option_map_or, buffer_laws, Appends}
-use Rattle.std.specs.Prelude.{slice_get}
-use Rattle.scenes.proofs.Common.{AllZip, Appends-nil, AreReadyCallsOf, AreWhole, Begins, buffer_meaning, BufferAccepts, common_steps, device, Prints, scene_lines, StandAtOneCall, TextBuffer, IsCallOf, position_or_len, configuration_for, decider_for, false≢true, Fault, fault_at_call, first_refused, HasAtLeast, HasAtMost, HasBeginning, HasFirstCalls, IsSceneRefused, is_some, Meaning, option_map, Options, OutOfMemory, OutputLoadDecider, Records, refusal_by, report, report_of, ReportCall, reverse-append, Scene, SceneConfig, Stops, store_for, stored, stored_of, stored_text, take_all, Text, text, unloaded_for, unread, unread_call, WriteEventError, Io, StoreIo, StoreFailed, WriteFailed}
+use Rattle.scenes.proofs.Common.{store_for, stored, stored_of, stored_text, take_all, Text, text, unloaded_for, unread, unread_call, WriteEventError, Io, StoreIo, StoreFailed, WriteFailed, map-append}
 use Rattle.console_reporter.specs.Names.{refusal_at, Configuration, configured_in, Report, past_at, text_at, stored_at}
-use Rattle.console_reporter.specs.declared.imp.builder.DisplayReporterBuilder.{DisplayReporterBuilder}
+use Rattle.{console_reporter.specs.declared.imp.builder.DisplayReporterBuilder.DisplayReporterBuilder, writers.specs.declared.write_str.WriteFault.TheVariants.Device}
 use Rattle.reporter_state.specs.Names.{refusal_at_by, refusal_in, StoreConfig}
-use Rattle.writers.specs.declared.write_str.WriteFault.TheVariants.{Device}
 use Rattle.scenes.specs.Names.{fault_of_first, builder_for, surroundings_of, AreBegun}
 use Rattle.scenes.proofs.lemmas.Devices.{alone_begun, beginning_here, begun_here, stand_there}
 use Rattle.scenes.proofs.lemmas.Prints.{Begun, call_stopped, front_of_more, HasText, is_stop, IsNext, none_begun, stand_here}
-use Rattle.scenes.proofs.lemmas.ReadyCalls.{report_ready, stored_ready}
 use Rattle.scenes.proofs.lemmas.Refusals.{all_judged, fails_behind, mapped_none}
+use Rattle.scenes.proofs.lemmas.{ReadyCalls.report_ready, ReadyCalls.stored_ready}
 
 -- the call at a place, between those before it and those behind
 around : (calls : List ReportCall) (i : ℕ) (c : ReportCall) → i < length calls → get_or calls i c ≡ c → calls ≡ take i calls ++ c ∷ drop (suc i) calls

@@ -1,13 +1,12 @@
 -- Calls of which the output that no report shows is left unread have the same report (for `Scene::calls`, `SceneReporter::report_events` and
 -- replays).
+use Rattle.scenes.proofs.Common.{cases_Bool, configuration_for, decider_for, Event, map-append, Options, outcome_after, OutputLoadDecider, refusal_by, report_of, ReportCall, RunOutcome, SceneConfig}
 use Rattle.std.proofs.Common.{rules, if◌then◌else◌, ◌≡◌, Bool, true, false, List, [], ◌∷◌, ◌++◌, reverse, refl, ap, ◌∙◌, inl, inr, sym, subst}
 use mathlib.Core.List.{reverse_aux}
-use Rattle.scenes.proofs.Common.{cases_Bool, configuration_for, decider_for, Event, map-append, Options, outcome_after, OutputLoadDecider, refusal_by, report_of, ReportCall, RunOutcome, SceneConfig, stored_of, TestEventKind, unloaded_for, unread, unread_call, AreCallsOf, AreReadyCallsOf, IsIsolated, Scene}
-use Rattle.console_reporter.proofs.lemmas.Isolation.{isolated}
-use Rattle.reporter_state.specs.Unread.{is_skipped}
-use Rattle.run_model.specs.Unloaded.{unloaded_kind}
-use Rattle.run_model.specs.declared.event.TestEventKind.TheVariants as kind
+use Rattle.scenes.proofs.Common.{stored_of, TestEventKind, unloaded_for, unread, unread_call, AreCallsOf, AreReadyCallsOf, IsIsolated, Scene}
+use Rattle.{console_reporter.proofs.lemmas.Isolation.isolated, reporter_state.specs.Unread.is_skipped, run_model.specs.Unloaded.unloaded_kind}
 use Rattle.scenes.specs.Names.{outcome_after_event, run_outcome, ready_if}
+use Rattle.run_model.specs.declared.event.TestEventKind.TheVariants as kind
 
 module _ (options : Options) (scene : Scene) where
   -- nothing is left unread

@@ -1,6 +1,4 @@
-use Rattle.std.proofs.Common.{◌≡◌, drop}
-use Rattle.recorded.specs.Events.{is_there}
-use Rattle.recorded.proofs.lemmas.Fields.{IsLeft}
+use Rattle.{std.proofs.Common.◌≡◌, std.proofs.Common.drop, recorded.specs.Events.is_there, recorded.proofs.lemmas.Fields.IsLeft}
 use Rattle.recorded.proofs.events.check_all_there.Given as goal
 
 -- the outputs so far are there

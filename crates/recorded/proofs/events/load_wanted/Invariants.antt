@@ -1,6 +1,6 @@
 use Rattle.std.proofs.Common.{◌≡◌, ◌≤◌, ◌-◌, ◌^◌, drop}
 use Rattle.recorded.specs.Names.{counted, is_undamaged, outputs_len, wanted}
-use Rattle.recorded.proofs.lemmas.Fields.{IsLeft, IsLeftEvent}
+use Rattle.recorded.{proofs.lemmas.Fields.IsLeft, proofs.lemmas.Fields.IsLeftEvent}
 use Rattle.recorded.proofs.events.load_wanted.Given as goal
 
 -- the outputs so far, of those that are loaded, are undamaged and in the event, and the others will be

@@ -1,5 +1,5 @@
-use Rattle.std.proofs.Common.{refl}
 use Rattle.recorded.proofs.lemmas.LoadedLines.{load_left, none_in, none_loaded}
+use Rattle.std.proofs.Common.{refl}
 use Rattle.recorded.proofs.lines.load_shown.Goals as goal
 
 pub returns-then-is_empty-clause-loaded : goal.returns-then-is_empty-clause-loaded

@@ -1,6 +1,5 @@
 use Rattle.std.proofs.Common.{◌≡◌, [], ap, arith, length}
-use Rattle.std.specs.Io.Buffered.{reader_buffer}
-use Rattle.command_line.proofs.lemmas.Pieces.{kept_known}
+use Rattle.{std.specs.Io.Buffered.reader_buffer, command_line.proofs.lemmas.Pieces.kept_known}
 use Rattle.recorded.proofs.lemmas.WholeLines.{line_taken, none_taken, part_taken}
 use Rattle.recorded.proofs.lines.next_line.Goals as goal
 

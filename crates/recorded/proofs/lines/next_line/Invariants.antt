@@ -1,6 +1,5 @@
 use Rattle.std.proofs.Common.{◌≡◌, ℕ, List, Some}
-use Rattle.std.specs.Io.Buffered.{reader_remaining}
-use Rattle.recorded.proofs.lemmas.WholeLines.{IsPart}
+use Rattle.{std.specs.Io.Buffered.reader_remaining, recorded.proofs.lemmas.WholeLines.IsPart}
 use Rattle.recorded.proofs.lines.next_line.Given as goal
 
 -- what was taken is a part of a line, and what is left follows it

@@ -1,6 +1,5 @@
 use Rattle.std.proofs.Common.{◌==◌, arith, ap, length, refl}
-use Rattle.std.specs.Io.Buffered.{reader_buffer, reader_capacity}
-use Rattle.command_line.proofs.lemmas.Pieces.{at_hand_first}
+use Rattle.{std.specs.Io.Buffered.reader_buffer, std.specs.Io.Buffered.reader_capacity, command_line.proofs.lemmas.Pieces.at_hand_first}
 use Rattle.recorded.proofs.lemmas.WholeLines.{feed_found, feed_missed}
 use Rattle.recorded.proofs.lines.take_at_hand.Goals as goal
 

@@ -1,5 +1,4 @@
-use Rattle.std.proofs.Common.{refl, rules}
-use Rattle.scenes.proofs.Common.{same-after}
+use Rattle.{std.proofs.Common.refl, std.proofs.Common.rules, scenes.proofs.Common.same-after}
 use Rattle.scenes.proofs.lemmas.FollowedRuns.{forgotten, keeps_up, reads_on, stops_run, reported_all, reported_first, reported_uncounted}
 use Rattle.scenes.proofs.follow.follow_lines.Goals as goal
 

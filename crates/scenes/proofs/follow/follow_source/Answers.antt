@@ -1,11 +1,10 @@
 use Rattle.std.proofs.Common.{◌∙◌, [], ℕ, List, Some, ap, refl, rules, subst}
 use Rattle.scenes.proofs.Common.{Appends-nil, buffer_meaning, device, Followed, no_lines, OutOfMemory, RunLine, store_meaning}
 use Rattle.scenes.proofs.lemmas.Devices.{alone_begun, alone_whole, begun_here, both_begun, both_whole, same_there, whole_here}
-use Rattle.scenes.proofs.lemmas.FollowedRuns.{followed_so, nothing_stops}
-use Rattle.scenes.proofs.lemmas.Prints.{calls_so, moved}
+use Rattle.scenes.proofs.lemmas.{FollowedRuns.followed_so, FollowedRuns.nothing_stops, Prints.calls_so, Prints.moved}
+use Rattle.scenes.proofs.follow.follow_source.Goals.{After-into_inner-writer, After-into_inner-store_writer}
 use Rattle.scenes.proofs.follow.follow_source.Given as given
 use Rattle.scenes.proofs.follow.follow_source.Goals as goal
-use Rattle.scenes.proofs.follow.follow_source.Goals.{After-into_inner-writer, After-into_inner-store_writer}
 
 -- without a store
 alone : (g : given.Over) (c : After-into_inner-writer g) (total : ℕ) (all : List RunLine) → g.L.RunSource.left total c.args.source.now no_lines all →

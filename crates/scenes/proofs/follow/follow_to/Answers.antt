@@ -1,7 +1,4 @@
-use Rattle.std.proofs.Common.{ap}
-use Rattle.scenes.proofs.Common.{store-laws, store_meaning}
-use Rattle.scenes.proofs.lemmas.FollowedRuns.{nothing_stops}
-use Rattle.scenes.proofs.lemmas.ReadLines.{none_read}
+use Rattle.{std.proofs.Common.ap, scenes.proofs.Common.store-laws, scenes.proofs.Common.store_meaning, scenes.proofs.lemmas.FollowedRuns.nothing_stops, scenes.proofs.lemmas.ReadLines.none_read}
 use Rattle.scenes.proofs.follow.follow_to.Goals as goal
 
 pub returns-in-Err-clause-ends : goal.returns-in-Err-clause-ends

@@ -1,9 +1,7 @@
 use Rattle.std.proofs.Common.{◌≡◌, None, ap, get_or, refl, rules}
-use Rattle.scenes.proofs.Common.{device, OutOfMemory}
-use Rattle.scenes.proofs.lemmas.Devices.{alone_whole, whole_here}
+use Rattle.scenes.{proofs.Common.device, proofs.Common.OutOfMemory, specs.Prints.AreBegun}
 use Rattle.scenes.proofs.lemmas.PlainReports.{alone_stops, configured_so, untouched}
-use Rattle.scenes.proofs.lemmas.Prints.{moved}
-use Rattle.scenes.specs.Prints.{AreBegun}
+use Rattle.scenes.proofs.lemmas.{Devices.alone_whole, Devices.whole_here, Prints.moved}
 use Rattle.scenes.proofs.plain.write_calls.Goals as goal
 
 pub returns-in_default-clause-err : goal.returns-in_default-clause-err

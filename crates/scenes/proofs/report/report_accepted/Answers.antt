@@ -2,10 +2,9 @@ use Rattle.std.proofs.Common.{◌≡◌, ◌∙◌, Some, ap, rules, subst, refl
 use Rattle.scenes.proofs.Common.{Appends-nil, buffer_meaning, device, Reported, scene_lines, store_meaning, string_meaning}
 use Rattle.scenes.proofs.lemmas.Devices.{both_begun, both_whole, delivered, same_there}
 use Rattle.scenes.proofs.lemmas.Prints.{moved, none_begun, reported_so}
-use Rattle.scenes.specs.Judged.{IsSceneAccepted}
+use Rattle.scenes.{specs.Judged.IsSceneAccepted, proofs.report.report_accepted.Goals.After-into_inner-writer, proofs.report.report_accepted.Goals.After-into_inner-store_writer}
 use Rattle.scenes.proofs.report.report_accepted.Given as given
 use Rattle.scenes.proofs.report.report_accepted.Goals as goal
-use Rattle.scenes.proofs.report.report_accepted.Goals.{After-into_inner-writer, After-into_inner-store_writer}
 
 -- without a store
 alone : (g : given.Over) (c : After-into_inner-writer g) → Reported device device c.judged.inside.options.now (g.W.Write.contents c.args.writer, g.S.Write.contents c.args.store_writer) (g.W.Write.contents c.into_inner-writer.result.0, g.S.Write.contents c.in-Unused.store_writer)

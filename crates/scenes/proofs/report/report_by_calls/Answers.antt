@@ -1,11 +1,9 @@
 use Rattle.std.proofs.Common.{◌≡◌, ℕ, List, Option, refl, subst, sym, ◌∙◌, inl, inr, None, Some, rules}
-use Rattle.std.proofs.lemmas.Result.{on_ok_weaker, IfErr-weaker}
+use Rattle.{std.proofs.lemmas.Result.on_ok_weaker, std.proofs.lemmas.Result.IfErr-weaker, scenes.specs.Judged.fault_of_first, scenes.proofs.report.report_by_calls.Goals.After-refused_call}
 use Rattle.scenes.proofs.Common.{AreReadyCallsOf, decider_for, device, first_refused, Prints, scene_lines}
-use Rattle.scenes.specs.Judged.{fault_of_first}
 use Rattle.scenes.proofs.lemmas.PlainReports.{accepted_of_none, begins_scene, prints_scene, refused_of_some}
 use Rattle.scenes.proofs.report.report_by_calls.Given as given
 use Rattle.scenes.proofs.report.report_by_calls.Goals as goal
-use Rattle.scenes.proofs.report.report_by_calls.Goals.{After-refused_call}
 
 ready : (g : given.Over) (c : After-refused_call g) → AreReadyCallsOf c.args.options.now c.args.scene.now c.as_slice-calls.result.now
 ready g c = search rules

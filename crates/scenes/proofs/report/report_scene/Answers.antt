@@ -1,6 +1,6 @@
 use Rattle.std.proofs.Common.{ℕ, List, inl, inr, refl}
-use Rattle.scenes.specs.Names.{IsJudgeFault, IsFaultOf}
 use Rattle.scenes.proofs.Common.{Fault, Line, LineFault, OutOfMemory}
+use Rattle.scenes.{specs.Names.IsJudgeFault, specs.Names.IsFaultOf}
 use Rattle.scenes.proofs.report.report_scene.Goals as goal
 
 -- the fault of a refused call is one of judging

@@ -1,7 +1,4 @@
-use Rattle.std.proofs.Common.{ap}
-use Rattle.scenes.proofs.Common.{store-laws, store_meaning}
-use Rattle.scenes.proofs.lemmas.Prints.{none_begun}
-use Rattle.scenes.proofs.lemmas.SceneReporters.{reported_scene}
+use Rattle.{std.proofs.Common.ap, scenes.proofs.Common.store-laws, scenes.proofs.Common.store_meaning, scenes.proofs.lemmas.Prints.none_begun, scenes.proofs.lemmas.SceneReporters.reported_scene}
 use Rattle.scenes.proofs.report.report_to.Goals as goal
 
 pub returns-in-Err-clause-ends : goal.returns-in-Err-clause-ends

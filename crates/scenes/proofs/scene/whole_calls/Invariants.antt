@@ -1,5 +1,4 @@
-use Rattle.std.proofs.Common.{take}
-use Rattle.scenes.proofs.Common.{AllZip, IsCallOf}
+use Rattle.{std.proofs.Common.take, scenes.proofs.Common.AllZip, scenes.proofs.Common.IsCallOf}
 use Rattle.scenes.proofs.scene.whole_calls.Given as goal
 
 -- the events so far have their calls

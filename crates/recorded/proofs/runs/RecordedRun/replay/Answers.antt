@@ -1,7 +1,6 @@
-use Rattle.std.proofs.Common.{arith, refl}
+use Rattle.{std.proofs.Common.arith, std.proofs.Common.refl, scenes.specs.Prints.PrintsFollowed, scenes.specs.Prints.device}
 use Rattle.recorded.specs.Names.{counted, lines_replayed, needed_bytes}
 use Rattle.recorded.proofs.lemmas.Reports.{prints_on_ok, reads_on_ok, spelled_on_ok}
-use Rattle.scenes.specs.Prints.{PrintsFollowed, device}
 use Rattle.recorded.proofs.runs.RecordedRun.replay.Goals as goal
 
 pub returns-clause-ok : goal.returns-clause-ok

@@ -1,6 +1,5 @@
 use Rattle.std.proofs.Common.{true, refl, sym, subst}
-use Rattle.std.specs.Io.Buffered.{reader_remaining}
-use Rattle.recorded.specs.NextLines.{IsNextLine}
+use Rattle.{std.specs.Io.Buffered.reader_remaining, recorded.specs.NextLines.IsNextLine}
 use Rattle.recorded.proofs.lemmas.LeftLines.{line_is_left, line_is_read, none_left}
 use Rattle.recorded.proofs.runs.RecordedRunRunSource.read_next.Goals as goal
 

@@ -1,6 +1,5 @@
 use Rattle.std.proofs.Common.{[], ◌+◌, Ok, ap, sym, ◌∙◌}
-use Rattle.scene_text.specs.Names.{lines_with, parsed_lines}
-use Rattle.scene_text.proofs.lemmas.Tellings.{reads_more, reads_none}
+use Rattle.scene_text.{specs.Names.lines_with, specs.Names.parsed_lines, proofs.lemmas.Tellings.reads_more, proofs.lemmas.Tellings.reads_none}
 use Rattle.scene_text.proofs.reader.LinesRead.push.Goals as goal
 
 pub returns-clause-pushed : goal.returns-clause-pushed

@@ -1,6 +1,5 @@
 use Rattle.std.proofs.Common.{[], ap, map, refl, subst, sym, ◌∙◌}
-use Rattle.scene_fields.proofs.lemmas.Cuts.{split_on-missed}
-use Rattle.scene_text.specs.SceneTexts.{ReadsLines, plain_line}
+use Rattle.{scene_fields.proofs.lemmas.Cuts.split_on-missed, scene_text.specs.SceneTexts.ReadsLines, scene_text.specs.SceneTexts.plain_line}
 use Rattle.scene_text.proofs.lemmas.Tellings.{leaves_here, reads_more, reads_none}
 use Rattle.scene_text.proofs.reader.LinesRead.read_owned.Goals as goal
 

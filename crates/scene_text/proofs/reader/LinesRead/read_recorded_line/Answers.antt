@@ -1,6 +1,5 @@
 use Rattle.std.proofs.Common.{◌≡◌, Some, false, true, refl, sym, ap, ◌∙◌}
-use Rattle.std.specs.Str.{is_utf8}
-use Rattle.scene_fields.proofs.lemmas.Utf8.{utf8_passes}
+use Rattle.{std.specs.Str.is_utf8, scene_fields.proofs.lemmas.Utf8.utf8_passes}
 use Rattle.scene_text.specs.Names.{none_noted, field_texts, split_on, before_next, is_passed_over, line_from, line_words}
 use Rattle.scene_text.proofs.reader.LinesRead.read_recorded_line.Goals as goal
 

@@ -1,5 +1,4 @@
-use Rattle.std.proofs.Common.{sym, ◌∙◌}
-use Rattle.scene_text.proofs.lemmas.Outputs.{plain_next}
+use Rattle.{std.proofs.Common.sym, std.proofs.Common.◌∙◌, scene_text.proofs.lemmas.Outputs.plain_next}
 use Rattle.scene_text.proofs.reader.event_lines.read_output.Goals as goal
 
 pub returns : goal.returns

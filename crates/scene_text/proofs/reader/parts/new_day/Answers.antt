@@ -1,15 +1,9 @@
-use Rattle.std.proofs.Common.{◌≡◌, ◌↔◌, ℕ, ℤ, pos, negsuc, unsigned_abs, ◌&&◌, nat_le, true≢false, Some, Result, Ok, Err, IsOk, IfOk, refl, sym, ap, ◌∙◌, arith, OkIff, FitsSigned, to_z, of_z, w8, w16, w32}
-use Rattle.std.specs.Bool.{Decides}
-use Rattle.std.specs.Int.{is_in_range}
-use Rattle.std.specs.Option.{option_map}
-use Rattle.std.specs.Result.{result_ok}
-use Rattle.std.proofs.lemmas.Bool.{false_from_ne_true}
-use Rattle.std.proofs.lemmas.Bool.Decides.{nat_tests}
-use Rattle.std.proofs.lemmas.Int.{ints, to_z-of_z}
+use Rattle.std.proofs.Common.{◌≡◌, ◌↔◌, ℕ, ℤ, pos, negsuc, unsigned_abs, ◌&&◌, nat_le, true≢false, Some, Result, Ok, Err, IsOk, IfOk, refl, sym, ap, ◌∙◌, arith, OkIff, FitsSigned, to_z, of_z, w8, w16}
+use Rattle.std.proofs.{Common.w32, lemmas.Bool.false_from_ne_true, lemmas.Bool.Decides.nat_tests, lemmas.Int.ints, lemmas.Int.to_z-of_z}
+use Rattle.std.specs.{Bool.Decides, Int.is_in_range, Option.option_map, Result.result_ok}
 use mir.Syntax.{Width}
 use Rattle.jiff_core.specs.Calendar.{days_in_month, IsBetween, IsDate, IsYear}
-use Rattle.jiff_core.specs.Date.{IsYmd}
-use Rattle.jiff_core.specs.declared.civil.date.Date.{Date}
+use Rattle.jiff_core.specs.{Date.IsYmd, declared.civil.date.Date.Date}
 use Rattle.scene_text.specs.Names.{Day, day_of, checked_day, is_day}
 use Rattle.scene_text.proofs.reader.parts.new_day.Goals as goal
 

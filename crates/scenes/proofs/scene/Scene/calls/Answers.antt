@@ -1,6 +1,5 @@
 use Rattle.std.proofs.Common.{rules, ◌≡◌, ◌++◌, length, take, drop, ap, sym, subst, ◌∙◌}
-use Rattle.std.proofs.Math.Seq.{take-append_seam}
-use Rattle.std.proofs.lemmas.List.{length-map}
+use Rattle.std.proofs.{Math.Seq.take-append_seam, lemmas.List.length-map}
 use Rattle.scenes.proofs.Common.{AreReadyCallsOf, decider_for, unread, unread_call}
 use Rattle.scenes.proofs.lemmas.ReadyCalls.{ready_unread}
 use Rattle.scenes.proofs.scene.Scene.calls.Goals as goal

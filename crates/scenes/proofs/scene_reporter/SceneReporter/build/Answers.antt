@@ -1,6 +1,5 @@
 use Rattle.std.proofs.Common.{refl, subst, sym}
-use Rattle.scenes.proofs.Common.{store_meaning}
-use Rattle.scenes.proofs.lemmas.SceneReporters.{starts}
+use Rattle.{scenes.proofs.Common.store_meaning, scenes.proofs.lemmas.SceneReporters.starts}
 use Rattle.scenes.proofs.scene_reporter.SceneReporter.build.Goals as goal
 
 pub returns-clause-start : goal.returns-clause-start
