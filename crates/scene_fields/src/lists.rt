@@ -43,11 +43,16 @@ pub fn read_chain(alloc: Global, field: &str) -> Result<Option<ErrorChain>, OutO
     let Some(words) = read_words(alloc, field)? else {
         return Ok(None);
     };
-    let Some((message, causes)) = words.split_first() else {
+    let mut rest = words.into_iter();
+    let Some(word) = rest.next() else {
         return Ok(None);
     };
-    let message = DescriptionText::new(alloc, message.as_str())?;
-    let causes = descriptions(alloc, causes)?;
+    let message = DescriptionText::new(alloc, word.as_str())?;
+    let mut causes = Vec::with_capacity(alloc, rest.len())?;
+    // A chain may be long, and the memory of each word is free for the next text.
+    while let Some(word) = rest.next() {
+        causes.push(DescriptionText::new(alloc, word.as_str())?)?;
+    }
     Ok(Some(ErrorChain::new(alloc, message, causes)?))
 }
 
@@ -64,29 +69,17 @@ pub fn read_instances(alloc: Global, field: &str) -> Result<Option<TestInstanceL
         return Ok(None);
     };
     let mut instances = Vec::new(alloc);
-    let mut rest = words.as_slice();
-    while let Some((binary_id, names)) = rest.split_first() {
-        let Some((test_name, after)) = names.split_first() else {
+    let mut rest = words.into_iter();
+    while let Some(binary_id) = rest.next() {
+        let Some(test_name) = rest.next() else {
             return Ok(None);
         };
         instances.push(OwnedTestInstanceId {
             binary_id: RustBinaryId::new(alloc, binary_id.as_str())?,
             test_name: TestCaseName::new(alloc, test_name.as_str())?,
         })?;
-        rest = after;
     }
     Ok(Some(TestInstanceList::new(instances)))
-}
-
-// The words as descriptions.
-fn descriptions(alloc: Global, words: &[String]) -> Result<Vec<DescriptionText>, OutOfMemory>
-    ensures { IfOk result (λ texts. texts.items ≡ map string_bytes words.now) }
-{
-    let mut texts = Vec::with_capacity(alloc, words.len())?;
-    for word in words {
-        texts.push(DescriptionText::new(alloc, word.as_str())?)?;
-    }
-    Ok(texts)
 }
 
 // Reads the words of a list, where `-` is the list of no word. None is a bad word.

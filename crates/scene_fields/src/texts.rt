@@ -95,7 +95,29 @@ pub(crate) fn escape_at(escape: &[u8], most: u8) -> Option<(u8, usize)>
 fn hex_byte(high: u8, low: u8) -> Option<u8>
     ensures { SomeIff result ((digit_value high < 16) × (digit_value low < 16)) (16 * digit_value high + digit_value low) }
 {
-    let high = char::from(high).to_digit(16)?;
-    let low = char::from(low).to_digit(16)?;
-    u8::try_from(16 * high + low).ok()
+    let (high, low) = (digit_value(high), digit_value(low));
+    if high < 16 && low < 16 {
+        Some(16 * high + low)
+    } else {
+        None
+    }
+}
+
+// The value of a hexadecimal digit, and 16 for any other byte. Each step is a conditional move: digits of random bytes cannot be predicted.
+#[inline(always)]
+fn digit_value(byte: u8) -> u8
+    ensures digit { digit_value byte < 16 → result ≡ digit_value byte }
+    ensures other { 16 ≤ digit_value byte → result ≡ 16 }
+{
+    let mut value = 16;
+    if b'0' <= byte && byte <= b'9' {
+        value = byte - b'0';
+    }
+    if b'A' <= byte && byte <= b'F' {
+        value = byte - (b'A' - 10);
+    }
+    if b'a' <= byte && byte <= b'f' {
+        value = byte - (b'a' - 10);
+    }
+    value
 }

@@ -15,7 +15,7 @@ use super::parts::{
     state_with,
 };
 use super::{EventResult, Field, Line};
-use bytes::{Bytes, BytesMut};
+use bytes::BytesMut;
 use run_model::abort::DescriptionText;
 use run_model::boxed::Boxed;
 use run_model::event::TestCounts;
@@ -523,7 +523,7 @@ fn read_single(alloc: Global, field: &str) -> Field<ChildSingleOutput>
     ensures { IfOk result (λ output. output ≡ bytes_in field.now) }
 {
     match read_bytes(alloc, field)? {
-        Some(bytes) => Ok(Some(ChildSingleOutput::new(alloc, Bytes::from_vec(bytes)?)?)),
+        Some(bytes) => Ok(Some(ChildSingleOutput::from_vec(alloc, bytes)?)),
         None => Ok(None),
     }
 }
