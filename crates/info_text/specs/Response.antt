@@ -1,22 +1,14 @@
 -- The response of a unit that is asked for its state.
 use Rattle.std.specs.Prelude.{◌≡◌, ℕ, ◌+◌, ◌-◌, ◌==◌, Bool, true, false, ◌&&◌, ◌||◌, Option, None, Some, [], ◌++◌, length, codes, nat_lt, if◌then◌else◌, refl}
-use Rattle.styled_text.specs.Names.{decimal, HasNoEscape, plain, Text, spaces}
+use Rattle.styled_text.{specs.Names.decimal, specs.Names.HasNoEscape, specs.Names.plain, specs.Names.Text, specs.Names.spaces, proofs.lemmas.Closed.spaces_free, proofs.lemmas.Widths.free_both}
 use Rattle.report_words.specs.Names.{Styles, Parts, Fixed, Line, Lines, Open, Count, none, words, Word, Verbatim, number, ◌⧺◌, choice, indented_line, drawn_given_line, hbar_text}
-use Rattle.run_model.specs.Names.{has_valid_output, has_errors, has_loaded_output, UnitKind, Written}
+use Rattle.run_model.specs.{Names.has_valid_output, Names.has_errors, Names.has_loaded_output, Names.UnitKind, Names.Written, declared.info.InfoResponse.TheVariants.SetupScript, declared.info.InfoResponse.TheVariants.Test}
 use Rattle.text_parts.specs.Names.{InfoResponse, SetupScriptInfoResponse, TestInfoResponse, UnitState, RetryData, ThemeCharacters, OutputLayout, execution_output, instance_end, Script, shown_script}
-use Rattle.run_model.specs.declared.info.InfoResponse.TheVariants.{SetupScript, Test}
+use Rattle.{text_parts.specs.declared.instance.CountedInstance.CountedInstance, text_parts.specs.declared.settings.Settings.Settings, report_words.proofs.lemmas.FreeWords.free-hbar_text, report_words.proofs.lemmas.FreeWords.free-if}
 use Rattle.run_model.specs.declared.info.UnitState.TheVariants.{Running, Exiting, Terminating, Exited, DelayBeforeNextAttempt}
+use Rattle.{unit_report.proofs.lemmas.UnitColourPairs.ends-execution_output, unit_report.specs.declared.unit_output.header.OutputHeader.TheVariants.Label, info_text.specs.State.state_text, info_text.specs.declared.state.InfoUnit.InfoUnit}
 use Rattle.run_names.specs.declared.unit.UnitKind.TheVariants as unit
-use Rattle.styled_text.proofs.lemmas.Closed.{spaces_free}
-use Rattle.styled_text.proofs.lemmas.Widths.{free_both}
-use Rattle.report_words.proofs.lemmas.FreeWords.{free-hbar_text, free-if}
-use Rattle.text_parts.specs.declared.instance.CountedInstance.{CountedInstance}
-use Rattle.text_parts.specs.declared.settings.Settings.{Settings}
-use Rattle.unit_report.proofs.lemmas.UnitColourPairs.{ends-execution_output}
-use Rattle.unit_report.specs.declared.unit_output.header.OutputHeader.TheVariants.{Label}
 use Rattle.unit_report.specs.declared.unit_output.header.OutputName.TheVariants as name
-use Rattle.info_text.specs.State.{state_text}
-use Rattle.info_text.specs.declared.state.InfoUnit.{InfoUnit}
 
 -- a bar of eight characters before each response but the first
 unfoldable pub separator : ThemeCharacters → ℕ → Text

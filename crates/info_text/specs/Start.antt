@@ -1,8 +1,7 @@
 -- All units are asked for their state, and no further responses are waited for.
-use Rattle.std.specs.Prelude.{ℕ, ◌==◌, codes}
+use Rattle.{std.specs.Prelude.ℕ, std.specs.Prelude.◌==◌, std.specs.Prelude.codes, info_text.specs.Seconds.seconds_part}
 use Rattle.text_parts.specs.Names.{RunStats, ThemeCharacters, bar_line, failure_tone, progress_message}
 use Rattle.report_words.specs.Parts.{Fixed, Line, Lines, Count, Skip, none, words, toned, number, ◌⧺◌, choice}
-use Rattle.info_text.specs.Seconds.{seconds_part}
 
 -- n units are asked, those that run. The line has the counts of the run and how long it has taken
 unfoldable pub info_started_text : ThemeCharacters → ℕ → ℕ → RunStats → Fixed Line

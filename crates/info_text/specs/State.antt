@@ -1,17 +1,12 @@
 -- The state of a unit, in the lines of its response.
 use Rattle.std.specs.Prelude.{ℕ, Bool, false, Option, None, Some, [], ◌++◌, codes, nat_lt, if◌then◌else◌, refl}
 use Rattle.styled_text.specs.Names.{decimal, is_some, option_map, HasNoEscape, seconds, plain, Text}
-use Rattle.run_model.specs.Names.{terminate_reason_text, NextestRunMode, Nanos}
+use Rattle.run_model.specs.{Names.terminate_reason_text, Names.NextestRunMode, Names.Nanos, declared.info.UnitTerminateMethod.TheVariants.Signal}
 use Rattle.text_parts.specs.Names.{UnitState, UnitTerminateMethod, UnitTerminateReason, UnitTerminatingState, ExecutionResultDescription, RetryData, unit_part, info_text}
 use Rattle.run_model.specs.declared.info.UnitState.TheVariants.{Running, Exiting, Terminating, Exited, DelayBeforeNextAttempt}
-use Rattle.run_model.specs.declared.info.UnitTerminateMethod.TheVariants.{Signal}
-use Rattle.run_model.specs.declared.info.UnitTerminateReason.TheVariants as terminate
-use Rattle.styled_text.proofs.lemmas.Closed.{decimal_free}
-use Rattle.styled_text.proofs.lemmas.Widths.{free_both}
-use Rattle.report_words.proofs.lemmas.FreeWords.{free-seconds}
+use Rattle.{styled_text.proofs.lemmas.Closed.decimal_free, styled_text.proofs.lemmas.Widths.free_both, report_words.proofs.lemmas.FreeWords.free-seconds, info_text.specs.Seconds.seconds_between, info_text.specs.Seconds.seconds_part, info_text.specs.declared.state.InfoUnit.InfoUnit}
 use Rattle.report_words.specs.Parts.{Parts, Fixed, Line, Lines, Open, Tone, Count, Fail, Pass, Skip, none, words, Verbatim, toned, Toned, number, given, ◌⧺◌, choice, loosely, openly, plainly}
-use Rattle.info_text.specs.Seconds.{seconds_between, seconds_part}
-use Rattle.info_text.specs.declared.state.InfoUnit.{InfoUnit}
+use Rattle.run_model.specs.declared.info.UnitTerminateReason.TheVariants as terminate
 
 -- which attempt it is, if that is shown
 unfoldable pub attempt_text : Option RetryData → Text

@@ -1,9 +1,7 @@
 //! The response of a unit that is asked for its state.
 
 ghost use Rattle.std.specs.Prelude.{◌≡◌, ◌+◌, false};
-ghost use Rattle.styled_text.specs.Names.{indent, Puts, spaces};
-ghost use Rattle.text_parts.specs.Names.{layout_of, script_of};
-ghost use Rattle.report_words.specs.Parts.{paint};
+ghost use Rattle.{text_parts.specs.Names.layout_of, text_parts.specs.Names.script_of, report_words.specs.Parts.paint, styled_text.specs.Names.indent, styled_text.specs.Names.Puts, styled_text.specs.Names.spaces};
 ghost use Rattle.info_text.specs.Response.{HasAnswerOutput, HasValidOutput, answer, answering_script, answering_test, info_layout, info_response_text, is_delay, number_padding, script_answer, script_unit, separator, test_answer, test_unit, told_attempt, unit_answer, valid_output};
 
 use crate::state::{InfoUnit, write_state};

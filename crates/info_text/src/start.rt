@@ -1,8 +1,6 @@
 //! All units are asked for their state, and no further responses are waited for.
 
-ghost use Rattle.writers.specs.Writer.{Puts};
-ghost use Rattle.report_words.specs.Parts.{paint};
-ghost use Rattle.info_text.specs.Start.{info_finished_text, info_started_text};
+ghost use Rattle.{writers.specs.Writer.Puts, report_words.specs.Parts.paint, info_text.specs.Start.info_finished_text, info_text.specs.Start.info_started_text};
 
 use run_model::stats::RunStats;
 use run_model::time::Nanos;

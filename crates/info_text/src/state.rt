@@ -1,8 +1,7 @@
 //! The state of a unit, in the lines of its response.
 
-ghost use Rattle.styled_text.specs.Names.{is_some, Puts};
+ghost use Rattle.{styled_text.specs.Names.is_some, styled_text.specs.Names.Puts, report_words.specs.Parts.paint, report_words.specs.Parts.style_of};
 ghost use Rattle.std.specs.Prelude.{◌≡◌, ◌++◌};
-ghost use Rattle.report_words.specs.Parts.{paint, style_of};
 ghost use Rattle.info_text.specs.State.{attempt_text, marked_slow_end, nanos_of, running_tone, state_text, status_start, taken_end, tentative_info, terminating_line, terminating_note, signal_of};
 
 use run_model::info::{UnitState, UnitTerminateMethod, UnitTerminatingState};

@@ -2,15 +2,11 @@
 
 use crate::runs::{TWO_TESTS, run_started};
 use crate::testing::{line_builder, retried_success, write_event};
-use console_reporter::imp::{Surroundings, WriteEventError};
-use run_model::event::TestEvent;
-use run_model::level::StatusLevel;
-use run_model::name::OwnedTestInstanceId;
+use console_reporter::prelude::*;
 use std::alloc::Global;
 use std::mem;
 use std::test::Fail;
 use test_devices::Device;
-use writers::write_str::TextBuffer;
 
 #[test]
 fn a_refused_event_changes_nothing(rt: HostRuntime) -> Result<(), Fail> {

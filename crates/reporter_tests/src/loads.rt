@@ -2,20 +2,9 @@
 //! reporter refuses if it needs an output that is not loaded.
 
 use crate::testing::{finished, line_builder, retried, retried_success, script_finished};
-use console_reporter::imp::{
-    OutputLoadDecider, ReportCall, StoreConfig, Surroundings, WriteEventError, first_refused,
-};
-use run_model::config::TestOutputDisplay;
-use run_model::event::TestEvent;
-use run_model::level::StatusLevel;
-use run_model::memory::OutOfMemory;
-use run_model::name::{OwnedTestInstanceId, TestInstanceId};
-use run_model::output::{ChildExecutionOutputDescription, LiveSpec};
-use run_model::output_event::LoadOutput;
-use run_model::status::{
-    ExecuteStatus, ExecutionResultDescription, ExecutionStatuses, FlakyResult, LeakTimeoutResult,
-};
-use run_model::time::Nanos;
+use console_reporter::prelude::*;
+use run_model::output::ChildExecutionOutputDescription;
+use run_model::status::LeakTimeoutResult;
 use std::alloc::Global;
 use std::mem;
 use std::test::Fail;

@@ -3,19 +3,11 @@
 
 use crate::runs::run_started;
 use crate::testing::{finished, retried, script_finished};
-use run_model::abort::{AbortDescription, DescriptionText};
+use console_reporter::prelude::*;
+use run_model::abort::AbortDescription;
 use run_model::boxed::Boxed;
-use run_model::config::TestOutputDisplay;
-use run_model::event::TestEvent;
-use run_model::memory::OutOfMemory;
-use run_model::name::OwnedTestInstanceId;
-use run_model::output::{
-    ChildExecutionOutputDescription, ChildOutputDescription, ErrorChain, LiveSpec,
-};
-use run_model::status::{
-    ExecuteStatus, ExecutionResultDescription, ExecutionStatuses, FailureDescription, FlakyResult,
-};
-use run_model::time::Nanos;
+use run_model::output::ChildExecutionOutputDescription;
+use run_model::status::FailureDescription;
 use std::alloc::Global;
 use std::mem;
 use std::test::Fail;

@@ -8,24 +8,13 @@ mod faults;
 mod growths;
 
 use crate::testing::{ended, line_builder};
-use bytes::Bytes;
-use console_reporter::imp::{ReportCall, RunFault, StoreConfig, run_report, run_report_with_store};
+use console_reporter::prelude::*;
 use run_model::boxed::Boxed;
-use run_model::config::TestOutputDisplay;
-use run_model::event::{SkipCounts, TestCounts, TestEvent, TestEventKind};
 use run_model::info::{InfoResponse, TestInfoResponse, UnitState};
-use run_model::level::{CancelReason, StatusLevel};
-use run_model::memory::OutOfMemory;
-use run_model::name::{OwnedTestInstanceId, ProfileName, TestInstanceId};
-use run_model::output::{ChildExecutionOutputDescription, ChildOutputDescription, LiveSpec};
-use run_model::stats::RunStats;
-use run_model::status::{ExecuteStatus, RetryData};
-use run_model::time::Nanos;
+use run_model::output::ChildExecutionOutputDescription;
 use std::alloc::Global;
 use std::mem;
 use std::test::Fail;
-use uuid::Uuid;
-use writers::write_str::WriteStr;
 
 /// What is tried with each run.
 #[derive(Clone, Copy)]

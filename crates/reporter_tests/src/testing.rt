@@ -2,24 +2,11 @@
 //! reporter's clauses for each. What drops an event or a reporter is proved in each crate that does so: the tests give reporters back as
 //! their writers, and let events go undropped.
 
-use console_reporter::imp::{
-    DisplayReporter, DisplayReporterBuilder, ReportCall, RunFault, WriteEventError,
-};
-use run_model::command::CommandLine;
-use run_model::config::TestOutputDisplay;
-use run_model::event::{TestEvent, TestEventKind};
-use run_model::level::{FinalStatusLevel, StatusLevel};
-use run_model::memory::OutOfMemory;
-use run_model::name::{ProgramName, ScriptId, TestInstanceId};
-use run_model::output::{ChildExecutionOutputDescription, LiveSpec};
-use run_model::stats::RunStats;
-use run_model::status::{
-    ExecuteStatus, ExecutionResultDescription, ExecutionStatuses, SetupScriptExecuteStatus,
-};
-use run_model::time::Nanos;
+use console_reporter::prelude::*;
+use run_model::name::{ProgramName, ScriptId};
+use run_model::output::ChildExecutionOutputDescription;
+use run_model::status::SetupScriptExecuteStatus;
 use std::alloc::Global;
-use unit_report::config::{DisplayConfig, ShowProgress};
-use writers::write_str::WriteStr;
 
 /// A reporter of a run of two tests that shows a line of each from this level on, and in the summary those that failed.
 pub fn line_builder(

@@ -1,6 +1,5 @@
 -- A value with memory of its own, which can be changed there.
-use Rattle.std.specs.Borrow.{Lends, MutBor, Fml}
-use Rattle.run_names.specs.contracts.boxed.Boxed.{the_row}
+use Rattle.{std.specs.Borrow.Lends, std.specs.Borrow.MutBor, std.specs.Borrow.Fml, run_names.specs.contracts.boxed.Boxed.the_row}
 use denote.RattleType.{RattleType}
 
 -- the value ends as what was last written through the reference

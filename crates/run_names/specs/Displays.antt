@@ -1,7 +1,6 @@
 -- When a test's output is shown.
 use Rattle.std.specs.Prelude.{Bool, true, false, List, ℕ, codes}
-use Rattle.run_names.specs.declared.config.TestOutputDisplay.{TestOutputDisplay}
-use Rattle.run_names.specs.declared.config.TestOutputDisplay.TheVariants.{Immediate, ImmediateFinal, Final, Never}
+use Rattle.run_names.specs.declared.config.TestOutputDisplay.{TestOutputDisplay, TheVariants.Immediate, TheVariants.ImmediateFinal, TheVariants.Final, TheVariants.Never}
 
 -- the name in a configuration
 abbrev pub display_name : TestOutputDisplay → List ℕ

@@ -1,7 +1,6 @@
 //! Parts of a value that are rare and large, held apart so that the value itself stays small.
 
-ghost use Rattle.std.specs.Prelude.{◌≡◌, IfOk};
-ghost use Rattle.std.specs.Borrow.{sem};
+ghost use Rattle.std.specs.{Prelude.◌≡◌, Prelude.IfOk, Borrow.sem};
 
 use crate::memory::OutOfMemory;
 use std::alloc::Global;

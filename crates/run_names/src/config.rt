@@ -1,9 +1,7 @@
 //! What kind of run it is, and what a profile leaves out.
 
 ghost use Rattle.std.specs.Prelude.{◌≡◌, ◌≢◌, IfOk, MatchOption};
-ghost use Rattle.run_names.specs.Displays.{display_name, is_immediate, is_final};
-ghost use Rattle.run_names.specs.Filters.{default_config_filter};
-ghost use Rattle.run_names.specs.declared.config.TestOutputDisplay.{TestOutputDisplay};
+ghost use Rattle.run_names.specs.{Displays.display_name, Displays.is_immediate, Displays.is_final, Filters.default_config_filter, declared.config.TestOutputDisplay.TestOutputDisplay};
 
 use crate::memory::OutOfMemory;
 use crate::name::ProfileName;

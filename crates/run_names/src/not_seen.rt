@@ -31,8 +31,7 @@ pub struct TestInstanceList {
 }
 
 impl Model for TestInstanceList {
-    ghost use Rattle.std.specs.Prelude.{List};
-    ghost use Rattle.run_names.specs.declared.name.OwnedTestInstanceId.{OwnedTestInstanceId};
+    ghost use Rattle.{std.specs.Prelude.List, run_names.specs.declared.name.OwnedTestInstanceId.OwnedTestInstanceId};
 
     ghost Value = { List OwnedTestInstanceId };
 

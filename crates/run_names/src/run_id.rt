@@ -20,8 +20,7 @@ pub struct ShortestRunIdPrefix {
 }
 
 impl Model for ShortestRunIdPrefix {
-    ghost use Rattle.std.specs.Prelude.{string_bytes};
-    ghost use Rattle.run_names.specs.UniquePrefixes.{UniquePrefix};
+    ghost use Rattle.{std.specs.Prelude.string_bytes, run_names.specs.UniquePrefixes.UniquePrefix};
 
     ghost Value = { UniquePrefix };
 

@@ -1,10 +1,6 @@
 //! Runs of the same tests again and again, to find those that fail now and then.
 
-ghost use Rattle.std.specs.Prelude.{◌≡◌};
-ghost use Rattle.std.specs.Option.{option_map};
-ghost use Rattle.std.specs.Int.NonZero.{non_zero_u32_get};
-ghost use Rattle.std.specs.Ordering.{nat_cmp};
-ghost use Rattle.std.specs.Cmp.Lexicographic.{slice_cmp};
+ghost use Rattle.std.specs.{Prelude.◌≡◌, Option.option_map, Int.NonZero.non_zero_u32_get, Ordering.nat_cmp, Cmp.Lexicographic.slice_cmp};
 ghost use Rattle.run_names.specs.Stress.{completed_of, count_left, elapsed_of, remaining_of, remaining_value, stress_key, time_left};
 
 use crate::time::Nanos;

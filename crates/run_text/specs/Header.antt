@@ -1,12 +1,8 @@
 -- The header of a replay.
 use Rattle.std.specs.Prelude.{ℤ, pos, [], ◌++◌, codes, int_lt, unsigned_abs, if◌then◌else◌, false}
-use Rattle.jiff_core.specs.declared.civil.date.Date.{Date}
-use Rattle.jiff_core.specs.declared.civil.datetime.DateTime.{DateTime}
-use Rattle.jiff_core.specs.declared.civil.time.Time.{Time}
-use Rattle.run_model.specs.declared.replay.ReplayHeader.{ReplayHeader}
-use Rattle.styled_text.specs.Names.{Text, last_digits, plain}
+use Rattle.jiff_core.specs.declared.civil.{date.Date.Date, datetime.DateTime.DateTime, time.Time.Time}
+use Rattle.{run_model.specs.declared.replay.ReplayHeader.ReplayHeader, run_text.specs.RunId.id_text, styled_text.specs.Names.Text, styled_text.specs.Names.last_digits, styled_text.specs.Names.plain}
 use Rattle.report_words.specs.Parts.{Parts, Line, Count, Pass, words, right, given_toned, drawn_given, ◌⧺◌}
-use Rattle.run_text.specs.RunId.{id_text}
 
 -- a minus before the year, if that is before the year 0
 abbrev pub year_sign : ℤ → Text

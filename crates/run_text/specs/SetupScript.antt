@@ -1,14 +1,12 @@
 -- Setup scripts: that one has started, runs for long or has finished.
 use Rattle.std.specs.Prelude.{◌≡◌, ℕ, ◌+◌, Bool, true, false, ◌++◌, codes}
 use Rattle.styled_text.specs.Names.{decimal, Text, right_in, plain}
-use Rattle.run_model.specs.Names.{has_loaded_output, is_success, StatusLevel}
-use Rattle.text_parts.specs.Names.{ChildOutputDescription, LiveSpec, ExecutionResultDescription, SetupScriptExecuteStatus, bracketed, exceeded, script_output, short_word, Script, shown_script}
-use Rattle.text_parts.specs.Names.{is_level_shown}
+use Rattle.{run_model.specs.Names.has_loaded_output, run_model.specs.Names.is_success, run_model.specs.Names.StatusLevel, text_parts.specs.declared.settings.Settings.Settings}
+use Rattle.text_parts.specs.Names.{ChildOutputDescription, LiveSpec, ExecutionResultDescription, SetupScriptExecuteStatus, bracketed, exceeded, script_output, short_word, Script, shown_script, is_level_shown}
+use Rattle.report_words.specs.Parts.{Parts, Fixed, Open, Line, Lines, Tone, Pass, Fail, Skip, none, words, right, given_right, ◌⧺◌, choice, drawn_given}
 use Rattle.run_names.specs.declared.level.StatusLevel.TheVariants as level
 use Rattle.run_model.specs.declared.status.ExecutionResultDescription.TheVariants as outcome
 use Rattle.run_model.specs.declared.status.LeakTimeoutResult.TheVariants as leak
-use Rattle.report_words.specs.Parts.{Parts, Fixed, Open, Line, Lines, Tone, Pass, Fail, Skip, none, words, right, given_right, ◌⧺◌, choice, drawn_given}
-use Rattle.text_parts.specs.declared.settings.Settings.{Settings}
 
 -- which script of how many it is, from 1
 unfoldable pub script_counter : ℕ → ℕ → Text

@@ -1,8 +1,6 @@
 //! The state of a run, when it is requested by a key.
 
-ghost use Rattle.writers.specs.Writer.{Puts};
-ghost use Rattle.report_words.specs.Parts.{paint};
-ghost use Rattle.run_text.specs.Input.{input_enter_text};
+ghost use Rattle.{writers.specs.Writer.Puts, report_words.specs.Parts.paint, run_text.specs.Input.input_enter_text};
 
 use run_model::stats::RunStats;
 use run_model::time::Nanos;

@@ -1,8 +1,7 @@
 //! The id of a run.
 
 ghost use Rattle.std.specs.Prelude.{◌≡◌, ◌≤◌, length};
-ghost use Rattle.report_words.specs.Parts.{paint};
-ghost use Rattle.run_text.specs.RunId.{run_id_text, id_text};
+ghost use Rattle.{report_words.specs.Parts.paint, run_text.specs.RunId.run_id_text, run_text.specs.RunId.id_text};
 
 use run_model::run_id::ShortestRunIdPrefix;
 use styled_text::style::Styles;

@@ -1,9 +1,6 @@
 //! The start of a run: its id and profile, and the tests that will run.
 
-ghost use Rattle.writers.specs.Writer.{Puts};
-ghost use Rattle.report_words.specs.Parts.{paint};
-ghost use Rattle.run_text.specs.Start.{run_started_text, test_counts_text};
-ghost use Rattle.unit_report.specs.SkipCounts.{skip_counts_text};
+ghost use Rattle.{writers.specs.Writer.Puts, report_words.specs.Parts.paint, unit_report.specs.SkipCounts.skip_counts_text, run_text.specs.Start.run_started_text, run_text.specs.Start.test_counts_text};
 
 use crate::run_id::ShownRunId;
 use report_text::helpers::plural::{binaries_str, tests_str};

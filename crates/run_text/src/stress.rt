@@ -1,8 +1,7 @@
 //! The iterations of a stress run: one has started or has finished.
 
 ghost use Rattle.styled_text.specs.Names.{styled, non_zero_u32_get, option_map, Puts};
-ghost use Rattle.run_names.specs.Stress.{remaining_value};
-ghost use Rattle.report_words.specs.Names.{paint, clock_text, whole_seconds};
+ghost use Rattle.{run_names.specs.Stress.remaining_value, report_words.specs.Names.paint, report_words.specs.Names.clock_text, report_words.specs.Names.whole_seconds};
 ghost use Rattle.run_text.specs.Stress.{count_left_text, iteration_text, of_iterations, of_time, remaining_text, stress_sub_run_finished_text, stress_sub_run_started_text};
 
 use crate::summary::{RunCounts, outcome_style};

@@ -1,8 +1,7 @@
 //! The end of a run before its entries: how long it took, and its counts.
 
 ghost use Rattle.std.specs.Prelude.{◌≡◌};
-ghost use Rattle.writers.specs.Writer.{Puts};
-ghost use Rattle.report_words.specs.Parts.{paint, style_of};
+ghost use Rattle.{writers.specs.Writer.Puts, report_words.specs.Parts.paint, report_words.specs.Parts.style_of};
 ghost use Rattle.run_text.specs.Summary.{cancelled_due_to, last_number, of_total, outcome_tone, run_counts_text, run_finished_text, stress_outcome_tone, summary_tone};
 
 use report_text::helpers::plural::{iterations_str, tests_plural_if};

@@ -1,20 +1,13 @@
 -- The responses of units, without escape characters (for the texts of their events).
 use Rattle.std.proofs.Common.{ℕ, Bool, true, false, refl, Option, None, Some}
-use Rattle.styled_text.specs.Names.{is_some, without_end_spaces, styles_of}
-use Rattle.run_model.specs.Names.{Written, NextestRunMode, UnitKind}
+use Rattle.{styled_text.specs.Names.is_some, styled_text.specs.Names.without_end_spaces, styled_text.specs.Names.styles_of, report_words.specs.PlainTexts.HoldsIf, report_words.proofs.lemmas.PartsInColour.AreFree}
+use Rattle.run_model.specs.{Names.Written, Names.NextestRunMode, Names.UnitKind, declared.info.InfoResponse.TheVariants.SetupScript, declared.info.InfoResponse.TheVariants.Test}
 use Rattle.text_parts.specs.Names.{InfoResponse, UnitState, ExecutionResultDescription, IsPlainResult, IsPlainWritten}
-use Rattle.run_model.specs.declared.info.InfoResponse.TheVariants.{SetupScript, Test}
+use Rattle.text_parts.{specs.declared.settings.Settings.Settings, proofs.lemmas.ResultColourPairs.free-info_text, proofs.lemmas.LineColourPairs.free-instance_end, proofs.lemmas.LineColourPairs.free-shown_script}
 use Rattle.run_model.specs.declared.info.UnitState.TheVariants.{Running, Exiting, Terminating, Exited, DelayBeforeNextAttempt}
-use Rattle.report_words.specs.PlainTexts.{HoldsIf}
-use Rattle.report_words.proofs.lemmas.PartsInColour.{AreFree}
-use Rattle.text_parts.specs.declared.settings.Settings.{Settings}
 use Rattle.unit_report.proofs.lemmas.UnitColourPairs.{IsColourPairOfLayout, colour_pair-label, colour_pair-execution_output}
-use Rattle.text_parts.proofs.lemmas.LineColourPairs.{free-instance_end, free-shown_script}
-use Rattle.text_parts.proofs.lemmas.ResultColourPairs.{free-info_text}
-use Rattle.info_text.specs.PlainResponses.{IsPlainResponse, IsPlainState}
+use Rattle.info_text.specs.{PlainResponses.IsPlainResponse, PlainResponses.IsPlainState, declared.state.InfoUnit.InfoUnit, State.tentative_info, State.exited_text, State.exiting_line, State.terminating_note, State.waiting_line, State.state_line, State.state_note, State.state_text}
 use Rattle.info_text.specs.Response.{info_layout, valid_output, unit_answer, answering_script, script_unit, script_answer, test_unit, test_answer, info_response_text}
-use Rattle.info_text.specs.State.{tentative_info, exited_text, exiting_line, terminating_note, waiting_line, state_line, state_note, state_text}
-use Rattle.info_text.specs.declared.state.InfoUnit.{InfoUnit}
 
 free-tentative_info : (k is_slow : Bool) (result : Option ExecutionResultDescription) → HoldsIf IsPlainResult result → AreFree k (tentative_info is_slow result)
 free-tentative_info k is_slow None h = tt

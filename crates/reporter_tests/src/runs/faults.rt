@@ -3,18 +3,12 @@
 
 use super::{ALL_OUTPUT, Texts, Trial, begin, front_len, run_alone, run_with_store, try_runs};
 use crate::testing::{Answers, line_builder, make_calls, retried_success, write_event};
-use console_reporter::imp::{
-    DisplayReporterBuilder, ReportCall, RunFault, Store, Surroundings, WriteEventError,
-};
-use run_model::event::TestEvent;
-use run_model::level::StatusLevel;
-use run_model::memory::OutOfMemory;
-use run_model::name::TestInstanceId;
+use console_reporter::imp::Store;
+use console_reporter::prelude::*;
 use std::alloc::Global;
 use std::mem;
 use std::test::Fail;
 use test_devices::{BYTES_AT_ONCE, Device, Failure};
-use writers::write_str::TextBuffer;
 
 // Which writer's device fails, and whether there is a store.
 #[derive(Clone, Copy, PartialEq, Eq)]

@@ -3,15 +3,12 @@
 
 use super::{ALL_OUTPUT, Texts, Trial, begin, front_len, run_alone, run_with_store, try_runs};
 use crate::testing::{Answers, line_builder, make_call, make_calls};
-use console_reporter::imp::{DisplayReporterBuilder, ReportCall, RunFault, WriteEventError};
-use run_model::level::StatusLevel;
-use run_model::memory::OutOfMemory;
+use console_reporter::prelude::*;
 use run_model::run_id::ShortestRunIdPrefix;
 use std::alloc::Global;
 use std::mem;
 use std::test::Fail;
 use test_devices::Device;
-use writers::write_str::{TextBuffer, WriteStr};
 
 // How a run is made: by one call, without a store and with one, or call by call.
 #[derive(Clone, Copy, PartialEq, Eq)]

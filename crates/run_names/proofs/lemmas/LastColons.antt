@@ -1,9 +1,6 @@
 -- Where a text has its last `::` (for `cut_at_last_colons`).
 use Rattle.std.proofs.Common.{◌≡◌, ◌≢◌, ℕ, zero, suc, ◌+◌, ◌<◌, ◌≤◌, List, [], ◌∷◌, true, false, length, drop, refl, ap, ◌∙◌, arith, inl, inr, Some, None}
-use Rattle.std.specs.Str.Pattern.{RFindsText, LacksTextAt, SplitsAroundMatch}
-use Rattle.std.proofs.lemmas.Bool.{cases_lt}
-use Rattle.std.proofs.lemmas.List.{drop_all}
-use Rattle.std.proofs.lemmas.Bool.Decides.{eqb_tells}
+use Rattle.std.{specs.Str.Pattern.RFindsText, specs.Str.Pattern.LacksTextAt, specs.Str.Pattern.SplitsAroundMatch, proofs.lemmas.Bool.cases_lt, proofs.lemmas.Bool.Decides.eqb_tells, proofs.lemmas.List.drop_all}
 use Rattle.run_names.specs.Names.{begins_with_colons, last_colons, module_path_of, last_name_of}
 
 -- no place has them

@@ -1,6 +1,5 @@
 use Rattle.info_text.specs.State.{marked_slow_end}
-use Rattle.info_text.proofs.state.MarkedSlowEndWriteText.write_to.Goals as goal
 
-pub returns-in-Some : goal.returns-in-Some
+pub returns-in-Some : Rattle.info_text.proofs.state.MarkedSlowEndWriteText.write_to.Goals.returns-in-Some
 unfolding marked_slow_end
 returns-in-Some g c = rw c.in-Some.is c.write_to-in-Some.ensures

@@ -1,6 +1,5 @@
 use Rattle.run_text.specs.Cancel.{still_running, terminating_at_once, terminating_words}
-use Rattle.run_text.proofs.cancel.StillRunningWriteText.write_to.Goals as goal
 
-pub returns : goal.returns
+pub returns : Rattle.run_text.proofs.cancel.StillRunningWriteText.write_to.Goals.returns
 unfolding still_running terminating_at_once terminating_words
 returns g c = rw c.is_none.ensures at c.write_to.ensures
