@@ -1,6 +1,7 @@
 -- What the words of a command line ask for.
 use Rattle.std.specs.Prelude.{ℕ, List, [], ◌∷◌, ◌++◌, map, Bool, true, false, not, ◌&&◌, ◌||◌, if◌then◌else◌, Option, None, Some, is_none, is_some, unwrap_or, String, string_bytes, codes, bytes_eq}
-use Rattle.{std.specs.Option.option_map, std.specs.Option.option_and_then, std.specs.Option.option_or, std.specs.declared.alloc.Global.Global, run_names.specs.declared.level.StatusLevel.StatusLevel, store_text.specs.declared.config.StoreConfig.StoreConfig}
+use Rattle.std.specs.Option.{option_map, option_and_then, option_or}
+use Rattle.{std.specs.declared.alloc.Global.Global, run_names.specs.declared.level.StatusLevel.StatusLevel, store_text.specs.declared.config.StoreConfig.StoreConfig}
 use Rattle.command_line.specs.declared.args.{ArgsSoFar.ArgsSoFar, Options.Options, StoreOptions.StoreOptions}
 use Rattle.run_names.specs.declared.level.StatusLevel.TheVariants as status
 

@@ -2,7 +2,8 @@
 //!
 //! Options come before the file, which is the last word whatever it looks like.
 
-ghost use Rattle.std.specs.{Prelude.◌≡◌, Prelude.true, Prelude.if◌then◌else◌, Prelude.Some, Prelude.None, Prelude.IfOk, Option.option_map};
+ghost use Rattle.std.specs.Prelude.{◌≡◌, true, if◌then◌else◌, Some, None, IfOk};
+ghost use Rattle.std.specs.Option.{option_map};
 ghost use Rattle.command_line.specs.Args.{options_after, options_of, options_or_input, asked, asked_of, texts, with_flag, with_level, level_of};
 
 use run_model::level::StatusLevel;

@@ -1,7 +1,8 @@
 //! What can go wrong, the line that says so, and the status that the program then ends with.
 
 ghost use Rattle.std.specs.Prelude.{◌≡◌, Some};
-ghost use Rattle.command_line.specs.{declared.fault.Fault.TheVariants.OutOfMemory, Faults.fault_by_kind, Faults.fault_line, Faults.fault_of_read, Faults.line_of, Faults.program_words, Faults.status_of};
+ghost use Rattle.command_line.specs.Faults.{fault_by_kind, fault_line, fault_of_read, line_of, program_words, status_of};
+ghost use Rattle.command_line.specs.declared.fault.Fault.TheVariants.{OutOfMemory};
 
 use run_model::memory::OutOfMemory;
 pub use scene_fields::fault::{LineFault, ReadFault};

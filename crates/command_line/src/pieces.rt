@@ -1,6 +1,7 @@
 //! A file read in pieces of whole lines, so that no more than one of them is in memory.
 
-ghost use Rattle.std.specs.{Prelude.◌≡◌, Prelude.ℕ, Prelude.List, Prelude.Some, Prelude.IfOk, Prelude.IfErr, Io.Buffered.reader_buffer, Io.Buffered.reader_remaining};
+ghost use Rattle.std.specs.Prelude.{◌≡◌, ℕ, List, Some, IfOk, IfErr};
+ghost use Rattle.std.specs.{Io.Buffered.reader_buffer, Io.Buffered.reader_remaining};
 ghost use Rattle.command_line.specs.Pieces.{IsBehind, IsNextPiece, IsUnread};
 
 use crate::fault::Fault;

@@ -1,5 +1,6 @@
 -- The configuration of a reporter, and the settings that it leads to.
-use Rattle.{std.specs.Prelude.ℕ, std.specs.Prelude.Bool, std.specs.Prelude.false, std.specs.Prelude.Option, std.specs.Prelude.None, std.specs.Prelude.Some, unit_report.specs.declared.config.ShowProgress.TheVariants.Auto, unit_report.specs.declared.unit_output.DisplayerKind.TheVariants.Live}
+use Rattle.std.specs.Prelude.{ℕ, Bool, false, Option, None, Some}
+use Rattle.{unit_report.specs.declared.config.ShowProgress.TheVariants.Auto, unit_report.specs.declared.unit_output.DisplayerKind.TheVariants.Live}
 use Rattle.{run_names.specs.Filters.default_config_filter, run_names.specs.declared.config.NextestRunMode.TheVariants.Test, styled_text.specs.Style.styles_of, reporter_state.specs.Names.Settings, reporter_state.specs.Names.StoreConfig}
 use Rattle.text_parts.specs.Names.{resolved_display, ResolvedDisplay, OutputDisplayOverrides, counter_width_of, overrides_by, theme_of}
 use Rattle.console_reporter.specs.declared.imp.builder.{DisplayReporterBuilder.DisplayReporterBuilder, Surroundings.Surroundings}

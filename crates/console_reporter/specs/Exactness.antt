@@ -1,6 +1,7 @@
 -- Exactness: the load decider loads what a report shows or a store keeps, and nothing else.
 use Rattle.std.specs.Prelude.{◌≡◌, ◌≢◌, ◌↔◌, ◌⊎◌, List, ◌∷◌, ◌++◌, reverse, None, Some, codes}
-use Rattle.{text_parts.specs.Names.TestEvent, text_parts.specs.Names.TestEventKind, text_parts.specs.Names.ReportCall, run_model.specs.Attempts.Written, styled_text.specs.Texts.Text, reporter_state.specs.Loads.decision, reporter_state.specs.declared.decider.OutputLoadDecider.OutputLoadDecider}
+use Rattle.text_parts.specs.Names.{TestEvent, TestEventKind, ReportCall}
+use Rattle.{run_model.specs.Attempts.Written, styled_text.specs.Texts.Text, reporter_state.specs.Loads.decision, reporter_state.specs.declared.decider.OutputLoadDecider.OutputLoadDecider}
 use Rattle.run_model.specs.declared.event.TestEventKind.TheVariants.{SetupScriptFinished, TestAttemptFailedWillRetry, TestFinished}
 use Rattle.run_model.specs.declared.{output.ChildExecutionOutputDescription.TheVariants.Output, output.ChildOutputDescription.TheVariants.Combined, output_event.LoadOutput.TheVariants.Load, call.ReportCall.TheVariants.Event}
 use Rattle.console_reporter.specs.{Uninterrupted.AreUninterrupted, Uninterrupted.EndsRun, Configuration.Configuration, Report.report_texts, Stored.records}

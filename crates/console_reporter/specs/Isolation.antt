@@ -1,5 +1,6 @@
 -- Isolation: a replay may skip every captured output that the load decider skips, and no byte changes.
-use Rattle.{std.specs.Prelude.◌≡◌, std.specs.Prelude.ℕ, std.specs.Prelude.List, std.specs.Prelude.reverse, run_model.specs.declared.call.ReportCall.ReportCall}
+use Rattle.std.specs.Prelude.{◌≡◌, ℕ, List, reverse}
+use Rattle.run_model.specs.declared.call.ReportCall.{ReportCall}
 use Rattle.reporter_state.specs.{Refusals.AreAcceptedBy, Refusals.first_refused, Refusals.refusal_at_by, declared.decider.OutputLoadDecider.OutputLoadDecider}
 use Rattle.console_reporter.specs.{Accepted.decider_of, Configuration.Configuration, Report.report, Report.report_texts, Stored.records, Stored.stored}
 

@@ -6,13 +6,19 @@ pub use Rattle.console_reporter.specs.OptionalStore.{IsSameStore, config_of, sto
 pub use Rattle.console_reporter.specs.Report.{Known, end_of_run_text, event_parts, known_after, past_at, report, script_by, text, text_at}
 pub use Rattle.console_reporter.specs.Telling.{AreDelivered, Breaks, IsDelivered, IsNeverRefused, IsSameReporter, MayGrowFor, Promises, Tells, TellsRun, past_with, refusal_for, told_text}
 pub use Rattle.console_reporter.specs.declared.{error.ReportError.ReportError, imp.reporter.DisplayReporter.DisplayReporter, imp.store.Store.Store}
-pub use Rattle.console_reporter.specs.{Accepted.AreAccepted, Accepted.IsAccepted, Accepted.decider_of, Accepted.refusal_at, ReportErrors.error_of_io, ReportErrors.error_of_run, ReportErrors.error_of_write, Stored.record_of, Stored.records, Stored.stored, Stored.stored_at, Stored.stored_text}
+pub use Rattle.console_reporter.specs.Accepted.{AreAccepted, IsAccepted, decider_of, refusal_at}
+pub use Rattle.console_reporter.specs.Stored.{record_of, records, stored, stored_at, stored_text}
+pub use Rattle.console_reporter.specs.{ReportErrors.error_of_io, ReportErrors.error_of_run, ReportErrors.error_of_write}
 pub use Rattle.console_reporter.specs.{ColourLaw.ColourLaw, ColourLaw.in_colour, Isolation.IsIsolated, Runs.Runs, Runs.absent, PlainLaw.IsPlainReport, PlainLaw.PlainLaw, Statistics.IsStatsIndependent, Statistics.with_stats}
-pub use Rattle.console_reporter.specs.{OrderIndependence.AreOfOneKey, OrderIndependence.IsOrderIndependent, OrderIndependence.entry_after, Outcomes.HasFront, Outcomes.IsOfConsole, Outcomes.Side, Outcomes.Stops, Outcomes.error_for, Outcomes.Side.Records, Outcomes.Side.Report}
-pub use Rattle.console_reporter.specs.{PlainCalls.ArePlain, PlainCalls.IsPlainCall, PlainCalls.IsPlainConfiguration, PlainCalls.IsPlainKind, Uninterrupted.AreUninterrupted, Uninterrupted.carried_reason, Uninterrupted.is_end_of_run}
+pub use Rattle.console_reporter.specs.Outcomes.{HasFront, IsOfConsole, Side, Stops, error_for}
+pub use Rattle.console_reporter.specs.{OrderIndependence.AreOfOneKey, OrderIndependence.IsOrderIndependent, OrderIndependence.entry_after, Outcomes.Side.Records, Outcomes.Side.Report}
+pub use Rattle.console_reporter.specs.PlainCalls.{ArePlain, IsPlainCall, IsPlainConfiguration, IsPlainKind}
+pub use Rattle.console_reporter.specs.{Uninterrupted.AreUninterrupted, Uninterrupted.carried_reason, Uninterrupted.is_end_of_run}
 unfoldable pub use Rattle.console_reporter.specs.Report.{event_text, listed_text, report_texts}
 unfoldable pub use Rattle.info_text.specs.Response.{info_response_text, script_answer, test_answer, unit_answer, valid_output}
 pub use Rattle.reporter_state.specs.declared.{decider.OutputLoadDecider.OutputLoadDecider, faults.WriteEventError.WriteEventError}
 pub use Rattle.run_text.specs.{NotSeen.not_seen_text, PlainRuns.IsPlainPrefix}
-unfoldable pub use Rattle.run_text.specs.{Header.replay_header_text, RunId.id_text, RunId.run_id_text, Start.profile_text, Start.run_id_line, Start.run_started_text, Start.starting_line, Start.test_counts_text}
-unfoldable pub use Rattle.run_text.specs.{SetupScript.failed_script_output, SetupScript.setup_script_finished_text, SetupScript.setup_script_line, SetupScript.setup_script_slow_text, Summary.initial_count_text, Summary.run_counts_text, Summary.run_finished_text, Summary.summary_line}
+unfoldable pub use Rattle.run_text.specs.Start.{profile_text, run_id_line, run_started_text, starting_line, test_counts_text}
+unfoldable pub use Rattle.run_text.specs.{Header.replay_header_text, RunId.id_text, RunId.run_id_text}
+unfoldable pub use Rattle.run_text.specs.SetupScript.{failed_script_output, setup_script_finished_text, setup_script_line, setup_script_slow_text}
+unfoldable pub use Rattle.run_text.specs.Summary.{initial_count_text, run_counts_text, run_finished_text, summary_line}

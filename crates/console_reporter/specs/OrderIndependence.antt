@@ -1,6 +1,7 @@
 -- Order: in an uninterrupted run, its end does not depend on which of two neighbouring calls came first.
 use Rattle.std.specs.Prelude.{◌≡◌, true, List, [], ◌∷◌, ◌++◌, reverse, Option, None, Some}
-use Rattle.{text_parts.specs.Names.TestEvent, text_parts.specs.Names.ReportCall, reporter_state.specs.Names.entry_of, reporter_state.specs.Names.cancel, reporter_state.specs.Names.entry_key, reporter_state.specs.declared.final_output.FinalOutputEntry.FinalOutputEntry}
+use Rattle.reporter_state.specs.Names.{entry_of, cancel, entry_key}
+use Rattle.{text_parts.specs.Names.TestEvent, text_parts.specs.Names.ReportCall, reporter_state.specs.declared.final_output.FinalOutputEntry.FinalOutputEntry}
 use Rattle.console_reporter.specs.{Uninterrupted.AreUninterrupted, Uninterrupted.is_end_of_run, Report.text, Configuration.Configuration, Configuration.settings_of}
 use Rattle.run_model.specs.declared.call.ReportCall.TheVariants.{Event, Header, Prefix}
 

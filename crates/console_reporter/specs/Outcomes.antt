@@ -1,6 +1,7 @@
 -- How a call of a reporter ends.
 use Rattle.std.specs.Prelude.{◌≡◌, ◌++◌, ◌⊎◌, Option, None, Result, Ok, Err}
-use Rattle.{styled_text.specs.Names.Text, styled_text.specs.Names.Meaning, styled_text.specs.Names.WriteFault, reporter_state.specs.Refusals.refusal_in, reporter_state.specs.declared.faults.WriteEventError.WriteEventError}
+use Rattle.styled_text.specs.Names.{Text, Meaning, WriteFault}
+use Rattle.{reporter_state.specs.Refusals.refusal_in, reporter_state.specs.declared.faults.WriteEventError.WriteEventError}
 use Rattle.writers.specs.declared.write_str.WriteFault.TheVariants.{Device, Memory as RefusedMemory}
 use Rattle.reporter_state.specs.declared.faults.WriteEventError.TheVariants.{RetriedSuccess, OutputNotLoaded, Io, Memory, Failed, StoreIo}
 

@@ -1,6 +1,7 @@
 -- What the laws need of a reporter's input for texts without escape characters.
 use Rattle.{std.specs.Prelude.Bool, std.specs.Prelude.List, report_words.specs.PlainTexts.IsPlainInstance, info_text.specs.PlainResponses.IsPlainResponse, console_reporter.specs.Configuration.Configuration, console_reporter.specs.Report.script_by}
-use Rattle.{styled_text.specs.Names.AllByRecursion, styled_text.specs.Names.HasNoEscape, styled_text.specs.Names.Text, run_text.specs.PlainRuns.IsPlainHeader, run_text.specs.PlainRuns.IsPlainNotSeen, run_text.specs.PlainRuns.IsPlainPrefix, run_text.specs.PlainRuns.IsPlainScriptStatus}
+use Rattle.run_text.specs.PlainRuns.{IsPlainHeader, IsPlainNotSeen, IsPlainPrefix, IsPlainScriptStatus}
+use Rattle.{styled_text.specs.Names.AllByRecursion, styled_text.specs.Names.HasNoEscape, styled_text.specs.Names.Text}
 use Rattle.text_parts.specs.Names.{TestEventKind, ChildOutputDescription, LiveSpec, ExecuteStatus, ReportCall, IsPlainResult, IsPlainWritten, IsPlainScript}
 use Rattle.run_model.specs.declared.event.TestEventKind.TheVariants.{RunStarted, SetupScriptStarted, SetupScriptSlow, SetupScriptFinished, TestStarted, TestSlow, TestAttemptFailedWillRetry, TestRetryStarted, TestFinished, TestSkipped, InfoResponse, RunFinished}
 use Rattle.run_model.specs.declared.call.ReportCall.TheVariants.{Event, Header, Prefix}

@@ -1,5 +1,6 @@
 -- The law of plain reports: captured output brings no escape character into them.
-use Rattle.{std.specs.Prelude.◌≡◌, std.specs.Prelude.ℕ, std.specs.Prelude.List, std.specs.Prelude.false, std.specs.Prelude.reverse, styled_text.specs.Escapes.HasNoEscape, run_model.specs.declared.call.ReportCall.ReportCall}
+use Rattle.std.specs.Prelude.{◌≡◌, ℕ, List, false, reverse}
+use Rattle.{styled_text.specs.Escapes.HasNoEscape, run_model.specs.declared.call.ReportCall.ReportCall}
 use Rattle.console_reporter.specs.{Configuration.Configuration, Report.report, Report.text_at, PlainCalls.ArePlain, PlainCalls.IsPlainConfiguration}
 
 -- no escape character is in the text of any call, nor in the whole report

@@ -3,8 +3,10 @@ use Rattle.run_model.specs.declared.event.TestEventKind.TheVariants.{RunStarted,
 use Rattle.run_model.specs.declared.event.TestEventKind.TheVariants.{RunContinued, InfoStarted, InfoResponse, InfoFinished, InputEnter, StressSubRunFinished, RunFinished}
 use Rattle.std.specs.Prelude.{ℕ, Bool, false, List, [], ◌∷◌, ◌++◌, Option, nat_lt, reverse, take, slice_get}
 use Rattle.{styled_text.specs.Names.option_map_or, styled_text.specs.Names.Text, reporter_state.specs.declared.final_output.FinalOutputEntry.FinalOutputEntry, info_text.specs.Response.info_response_text, info_text.specs.Start.info_finished_text, info_text.specs.Start.info_started_text}
-use Rattle.run_model.specs.{Names.final_stats_of_run, Names.UniquePrefix, Names.NotSeen, Names.StressIndex, declared.call.ReportCall.TheVariants.Event, declared.call.ReportCall.TheVariants.Header, declared.call.ReportCall.TheVariants.Prefix}
-use Rattle.{text_parts.specs.Names.TestEventKind, text_parts.specs.Names.RunFinishedStats, text_parts.specs.Names.ReportCall, text_parts.specs.Names.final_warnings, text_parts.specs.Names.Script, console_reporter.specs.Configuration.Configuration, console_reporter.specs.Configuration.settings_of}
+use Rattle.run_model.specs.Names.{final_stats_of_run, UniquePrefix, NotSeen, StressIndex}
+use Rattle.run_model.specs.{declared.call.ReportCall.TheVariants.Event, declared.call.ReportCall.TheVariants.Header, declared.call.ReportCall.TheVariants.Prefix}
+use Rattle.text_parts.specs.Names.{TestEventKind, RunFinishedStats, ReportCall, final_warnings, Script}
+use Rattle.{console_reporter.specs.Configuration.Configuration, console_reporter.specs.Configuration.settings_of}
 use Rattle.reporter_state.specs.Names.{Settings, test_finish, test_finished_text, attempt_failed_text, test_skipped_text, test_slow_text, test_retry_started_text, test_started_text, cancel, entries_text, final_order, hiding_rank, kept, prefix}
 use Rattle.run_text.specs.{Cancel.begin_cancel_text, Cancel.begin_kill_text, Header.replay_header_text, Input.input_enter_text, NotSeen.not_seen_text, Start.run_started_text, Summary.run_finished_text, Pause.run_continued_text, Pause.run_paused_text}
 use Rattle.report_words.specs.Parts.{Parts, Line, Lines, none, ◌⧺◌, choice, plainly, loosely, paint}

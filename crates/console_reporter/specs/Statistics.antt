@@ -1,5 +1,6 @@
 -- Statistics: without counters, nothing depends on how far the run was when a test finished.
-use Rattle.{std.specs.Prelude.◌≡◌, std.specs.Prelude.List, std.specs.Prelude.◌∷◌, std.specs.Prelude.◌++◌, std.specs.Prelude.reverse, std.specs.Prelude.None, text_parts.specs.Names.TestEvent, text_parts.specs.Names.TestEventKind, text_parts.specs.Names.RunStats, text_parts.specs.Names.ReportCall}
+use Rattle.std.specs.Prelude.{◌≡◌, List, ◌∷◌, ◌++◌, reverse, None}
+use Rattle.text_parts.specs.Names.{TestEvent, TestEventKind, RunStats, ReportCall}
 use Rattle.{run_model.specs.declared.event.TestEventKind.TheVariants.TestFinished, run_model.specs.declared.call.ReportCall.TheVariants.Event, console_reporter.specs.Configuration.Configuration, console_reporter.specs.Configuration.settings_of, console_reporter.specs.Report.report_texts}
 
 -- the event with these statistics, if a test has finished

@@ -1,7 +1,8 @@
 -- What a store keeps of a run: the record of each finished test, whatever the cancel reasons.
 use Rattle.std.specs.Prelude.{ℕ, List, [], ◌∷◌, ◌++◌, Option, None, Some, map, slice_get}
 use Rattle.{styled_text.specs.Names.option_map_or, styled_text.specs.Names.Text, text_parts.specs.Names.TestEventKind, text_parts.specs.Names.ReportCall, run_model.specs.declared.event.TestEventKind.TheVariants.TestFinished}
-use Rattle.{reporter_state.specs.Names.record_text, reporter_state.specs.Names.StoreConfig, run_model.specs.declared.call.ReportCall.TheVariants.Event, run_model.specs.declared.call.ReportCall.TheVariants.Header, run_model.specs.declared.call.ReportCall.TheVariants.Prefix}
+use Rattle.run_model.specs.declared.call.ReportCall.TheVariants.{Event, Header, Prefix}
+use Rattle.{reporter_state.specs.Names.record_text, reporter_state.specs.Names.StoreConfig}
 
 -- the record of an event: only a finished test has one, and only with a store
 abbrev pub record_of : Option StoreConfig → TestEventKind → Text

@@ -1,6 +1,7 @@
 -- Uninterrupted calls, and the end of a run.
 use Rattle.std.specs.Prelude.{◌≡◌, ℕ, ◌<◌, Bool, true, false, List, [], ◌∷◌, ◌++◌, Some}
-use Rattle.{std.specs.List.AllByRecursion, run_names.specs.Levels.reason_rank, run_model.specs.declared.event.TestEventKind.TheVariants.RunFinished, reporter_state.specs.Effects.effect_of, text_parts.specs.Names.TestEvent, text_parts.specs.Names.TestEventKind, text_parts.specs.Names.ReportCall}
+use Rattle.text_parts.specs.Names.{TestEvent, TestEventKind, ReportCall}
+use Rattle.{std.specs.List.AllByRecursion, run_names.specs.Levels.reason_rank, run_model.specs.declared.event.TestEventKind.TheVariants.RunFinished, reporter_state.specs.Effects.effect_of}
 use Rattle.run_model.specs.declared.call.ReportCall.TheVariants.{Event, Header, Prefix}
 use Rattle.run_names.specs.declared.level.CancelReason.TheVariants as cause
 

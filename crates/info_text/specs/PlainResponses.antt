@@ -1,7 +1,8 @@
 -- The responses of units without escape characters.
 use Rattle.{std.specs.Prelude.Bool, styled_text.specs.Escapes.HasNoEscape, info_text.specs.Response.answering_script, info_text.specs.State.signal_of, report_words.specs.PlainTexts.HoldsIf, report_words.specs.PlainTexts.IsPlainInstance}
 use Rattle.text_parts.specs.Names.{InfoResponse, UnitState, IsPlainResult, IsPlainWritten, IsPlainScript}
-use Rattle.run_model.specs.declared.info.{InfoResponse.TheVariants.SetupScript, InfoResponse.TheVariants.Test, UnitState.TheVariants.Running, UnitState.TheVariants.Exiting, UnitState.TheVariants.Terminating, UnitState.TheVariants.Exited, UnitState.TheVariants.DelayBeforeNextAttempt}
+use Rattle.run_model.specs.declared.info.UnitState.TheVariants.{Running, Exiting, Terminating, Exited, DelayBeforeNextAttempt}
+use Rattle.run_model.specs.declared.info.{InfoResponse.TheVariants.SetupScript, InfoResponse.TheVariants.Test}
 
 -- the result of a unit and the signal that it was sent hold no escape character
 abbrev pub IsPlainState : UnitState → Type 0

@@ -1,8 +1,10 @@
 -- The response of a unit that is asked for its state.
 use Rattle.std.specs.Prelude.{◌≡◌, ℕ, ◌+◌, ◌-◌, ◌==◌, Bool, true, false, ◌&&◌, ◌||◌, Option, None, Some, [], ◌++◌, length, codes, nat_lt, if◌then◌else◌, refl}
-use Rattle.styled_text.{specs.Names.decimal, specs.Names.HasNoEscape, specs.Names.plain, specs.Names.Text, specs.Names.spaces, proofs.lemmas.Closed.spaces_free, proofs.lemmas.Widths.free_both}
+use Rattle.styled_text.specs.Names.{decimal, HasNoEscape, plain, Text, spaces}
+use Rattle.styled_text.{proofs.lemmas.Closed.spaces_free, proofs.lemmas.Widths.free_both}
 use Rattle.report_words.specs.Names.{Styles, Parts, Fixed, Line, Lines, Open, Count, none, words, Word, Verbatim, number, ◌⧺◌, choice, indented_line, drawn_given_line, hbar_text}
-use Rattle.run_model.specs.{Names.has_valid_output, Names.has_errors, Names.has_loaded_output, Names.UnitKind, Names.Written, declared.info.InfoResponse.TheVariants.SetupScript, declared.info.InfoResponse.TheVariants.Test}
+use Rattle.run_model.specs.Names.{has_valid_output, has_errors, has_loaded_output, UnitKind, Written}
+use Rattle.run_model.specs.{declared.info.InfoResponse.TheVariants.SetupScript, declared.info.InfoResponse.TheVariants.Test}
 use Rattle.text_parts.specs.Names.{InfoResponse, SetupScriptInfoResponse, TestInfoResponse, UnitState, RetryData, ThemeCharacters, OutputLayout, execution_output, instance_end, Script, shown_script}
 use Rattle.{text_parts.specs.declared.instance.CountedInstance.CountedInstance, text_parts.specs.declared.settings.Settings.Settings, report_words.proofs.lemmas.FreeWords.free-hbar_text, report_words.proofs.lemmas.FreeWords.free-if}
 use Rattle.run_model.specs.declared.info.UnitState.TheVariants.{Running, Exiting, Terminating, Exited, DelayBeforeNextAttempt}

@@ -1,5 +1,7 @@
 -- Durations within lines.
-use Rattle.{std.specs.Prelude.ℕ, std.specs.Prelude.◌++◌, report_words.proofs.lemmas.FreeWords.free-seconds, report_words.specs.Parts.Fixed, report_words.specs.Parts.Open, report_words.specs.Parts.Word, styled_text.specs.Names.seconds, styled_text.specs.Names.plain, styled_text.specs.Names.Text}
+use Rattle.report_words.specs.Parts.{Fixed, Open, Word}
+use Rattle.styled_text.specs.Names.{seconds, plain, Text}
+use Rattle.{std.specs.Prelude.ℕ, std.specs.Prelude.◌++◌, report_words.proofs.lemmas.FreeWords.free-seconds}
 
 -- a duration in seconds with three decimals
 abbrev pub seconds_part : ℕ → Fixed Open

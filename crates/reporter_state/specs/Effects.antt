@@ -2,7 +2,8 @@
 use Rattle.std.specs.Prelude.{◌≡◌, ℕ, nat_le, Bool, Option, None, Some, if◌then◌else◌}
 use Rattle.styled_text.specs.Names.{Bor, is_some, option_and_then, option_map}
 use Rattle.{run_names.specs.Levels.final_rank, run_names.specs.Levels.reason_rank, test_text.specs.TestFinished.FinishReport, test_text.specs.TestFinished.finish_of, test_text.specs.TestFinished.test_finish}
-use Rattle.text_parts.specs.{Names.TestEventKind, Names.is_final_wanted, Names.timed_at_end, Names.timed_listed, Names.padded_instance, declared.instance.CountedInstance.CountedInstance, declared.settings.Settings.Settings}
+use Rattle.text_parts.specs.Names.{TestEventKind, is_final_wanted, timed_at_end, timed_listed, padded_instance}
+use Rattle.text_parts.specs.{declared.instance.CountedInstance.CountedInstance, declared.settings.Settings.Settings}
 use Rattle.run_model.specs.declared.event.TestEventKind.TheVariants.{TestFinished, TestSkipped, RunBeginCancel, RunBeginKill}
 use Rattle.reporter_state.specs.{KeptTests.kept_test, declared.finished_attempts.FinishedAttempts.FinishedAttempts, declared.final_output.FinalOutput.FinalOutput, declared.final_output.FinalOutputEntry.FinalOutputEntry}
 use Rattle.run_names.specs.declared.level.FinalStatusLevel.TheVariants as final

@@ -1,5 +1,6 @@
 -- What the summary shows of a test, from its short form.
-use Rattle.std.specs.{Prelude.Bool, Prelude.ℕ, Prelude.ℤ, Prelude.pos, Prelude.false, Prelude.if◌then◌else◌, Ordering.int_eq}
+use Rattle.std.specs.Prelude.{Bool, ℕ, ℤ, pos, false, if◌then◌else◌}
+use Rattle.std.specs.Ordering.{int_eq}
 use Rattle.text_parts.specs.Names.{ExecutionResultDescription, RetryData, StatusCase, StatusSummary}
 use Rattle.reporter_state.specs.declared.{final_output.FinalOutput.FinalOutput, kept_output.OutputForm.OutputForm, kept_output.ShortSummary.ShortSummary}
 use Rattle.reporter_state.specs.declared.kept_output.OutputForm.TheVariants.{Skipped, Line, LineWithOutput, Whole}

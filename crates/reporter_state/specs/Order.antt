@@ -1,5 +1,6 @@
 -- The final order of entries: by key, and those of one key in their order of arrival.
-use Rattle.{std.specs.Prelude.ℕ, std.specs.Prelude.List, std.specs.Prelude.[], std.specs.Prelude.◌∷◌, std.specs.Prelude.Bool, std.specs.Prelude.if◌then◌else◌, styled_text.specs.Names.Ordering, styled_text.specs.Names.nat_cmp, styled_text.specs.Names.slice_cmp}
+use Rattle.std.specs.Prelude.{ℕ, List, [], ◌∷◌, Bool, if◌then◌else◌}
+use Rattle.{styled_text.specs.Names.Ordering, styled_text.specs.Names.nat_cmp, styled_text.specs.Names.slice_cmp}
 
 -- keys are lists of lists of numbers, in the order of words
 abbrev pub key_cmp : List (List ℕ) → List (List ℕ) → Ordering

@@ -1,6 +1,7 @@
 -- Which calls a decider refuses: from the call alone, whatever came before.
 use Rattle.std.specs.Prelude.{◌≡◌, ℕ, List, Bool, false, if◌then◌else◌, Option, None, Some, slice_get}
-use Rattle.{styled_text.specs.Names.AllByRecursion, styled_text.specs.Names.position, styled_text.specs.Names.is_some, styled_text.specs.Names.option_and_then, text_parts.specs.Names.TestEventKind, text_parts.specs.Names.ReportCall, text_parts.specs.declared.settings.Settings.Settings}
+use Rattle.styled_text.specs.Names.{AllByRecursion, position, is_some, option_and_then}
+use Rattle.{text_parts.specs.Names.TestEventKind, text_parts.specs.Names.ReportCall, text_parts.specs.declared.settings.Settings.Settings}
 use Rattle.{run_model.specs.Statuses.is_success, run_model.specs.declared.event.TestEventKind.TheVariants.TestAttemptFailedWillRetry, store_text.specs.declared.config.StoreConfig.StoreConfig}
 use Rattle.reporter_state.specs.{Loads.lacks_output, declared.decider.OutputLoadDecider.OutputLoadDecider, declared.faults.WriteEventError.WriteEventError}
 use Rattle.run_model.specs.declared.call.ReportCall.TheVariants.{Event, Header, Prefix}

@@ -1,7 +1,9 @@
 -- A list of calls without the outputs that the decider skips.
 use Rattle.std.specs.Prelude.{Bool, true, false, List, map, Option, None, Some, if◌then◌else◌}
-use Rattle.{run_model.specs.Unloaded.unloaded_event, reporter_state.specs.Loads.decision, reporter_state.specs.declared.decider.OutputLoadDecider.OutputLoadDecider, text_parts.specs.Names.TestEventKind, text_parts.specs.Names.LoadOutput, text_parts.specs.Names.ReportCall}
-use Rattle.run_model.specs.declared.{output_event.LoadOutput.TheVariants.Load, output_event.LoadOutput.TheVariants.Skip, call.ReportCall.TheVariants.Event, call.ReportCall.TheVariants.Header, call.ReportCall.TheVariants.Prefix}
+use Rattle.text_parts.specs.Names.{TestEventKind, LoadOutput, ReportCall}
+use Rattle.{run_model.specs.Unloaded.unloaded_event, reporter_state.specs.Loads.decision, reporter_state.specs.declared.decider.OutputLoadDecider.OutputLoadDecider}
+use Rattle.run_model.specs.declared.call.ReportCall.TheVariants.{Event, Header, Prefix}
+use Rattle.run_model.specs.declared.{output_event.LoadOutput.TheVariants.Load, output_event.LoadOutput.TheVariants.Skip}
 
 -- the decision is to skip
 abbrev pub is_skip : Option LoadOutput → Bool

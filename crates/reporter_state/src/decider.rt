@@ -3,7 +3,8 @@
 ghost use Rattle.reporter_state.specs.Names.{decider_by, event_refusal, first_refused, is_retried_success, refusal_by, refusal_in, HasMetadata, loads_by_metadata, loads_last, decision, is_asked_of, lacks_output, load_if, loads, loads_attempt, loads_finish, loads_script, needed_answer};
 ghost use Rattle.text_parts.specs.Names.{RecordedOutput, RecordingSpec, OutputEventKind, TestEventKind};
 ghost use Rattle.{run_model.specs.Names.recorded_kind, run_model.specs.Names.summary_of, reporter_state.specs.Names.needed_output, reporter_state.specs.Names.unread_call};
-ghost use Rattle.std.specs.{Prelude.◌≡◌, Prelude.IfSome, Prelude.None, Prelude.Some, Prelude.false, Option.is_some, Option.option_map};
+ghost use Rattle.std.specs.Prelude.{◌≡◌, IfSome, None, Some, false};
+ghost use Rattle.std.specs.{Option.is_some, Option.option_map};
 
 use crate::faults::WriteEventError;
 use run_model::call::ReportCall;

@@ -1,7 +1,8 @@
 //! A short form of what the summary shows of a test: an ordered map moves its values, and most lines fit in few bytes.
 
 ghost use Rattle.std.specs.Prelude.{◌≡◌, IfOk, IfSome};
-ghost use Rattle.reporter_state.specs.{KeptOutputs.ended_by, KeptOutputs.final_output_of, KeptOutputs.summary_of_line, declared.final_output.FinalOutput.TheVariants.Executed, declared.final_output.FinalOutput.TheVariants.ExecutedWithOutput};
+ghost use Rattle.reporter_state.specs.KeptOutputs.{ended_by, final_output_of, summary_of_line};
+ghost use Rattle.reporter_state.specs.{declared.final_output.FinalOutput.TheVariants.Executed, declared.final_output.FinalOutput.TheVariants.ExecutedWithOutput};
 
 use crate::final_output::FinalOutput;
 use crate::loaded_output::LoadedOutput;

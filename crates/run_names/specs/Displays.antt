@@ -1,6 +1,7 @@
 -- When a test's output is shown.
 use Rattle.std.specs.Prelude.{Bool, true, false, List, ℕ, codes}
-use Rattle.run_names.specs.declared.config.TestOutputDisplay.{TestOutputDisplay, TheVariants.Immediate, TheVariants.ImmediateFinal, TheVariants.Final, TheVariants.Never}
+use Rattle.run_names.specs.declared.config.TestOutputDisplay.TheVariants.{Immediate, ImmediateFinal, Final, Never}
+use Rattle.run_names.specs.declared.config.TestOutputDisplay.{TestOutputDisplay}
 
 -- the name in a configuration
 abbrev pub display_name : TestOutputDisplay → List ℕ

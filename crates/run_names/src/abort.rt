@@ -1,6 +1,7 @@
 //! How a process was ended from outside.
 
-ghost use Rattle.std.specs.{Prelude.◌≡◌, Prelude.IfOk, Prelude.IsOk, Prelude.false, Prelude.nat_eq, Cmp.partial_equiv_from_equiv, Option.is_some, Cmp.Lexicographic.pointwise, Cmp.Lexicographic.nat_list_eq_equiv};
+ghost use Rattle.std.specs.Prelude.{◌≡◌, IfOk, IsOk, false, nat_eq};
+ghost use Rattle.std.specs.{Cmp.partial_equiv_from_equiv, Option.is_some, Cmp.Lexicographic.pointwise, Cmp.Lexicographic.nat_list_eq_equiv};
 ghost use Rattle.run_names.specs.Aborts.{abort_has_text};
 
 use crate::memory::OutOfMemory;

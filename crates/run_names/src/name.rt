@@ -1,6 +1,7 @@
 //! Names, which contracts see as the bytes of their texts.
 
-ghost use Rattle.std.{specs.Prelude.◌≡◌, specs.Prelude.◌==◌, specs.Prelude.IfOk, specs.Ordering.as_partial_cmp, specs.Ordering.nat_cmp, specs.Cmp.partial_order_from_own_ties, specs.Cmp.Rules.comparing, specs.Cmp.Lexicographic.pointwise, specs.Cmp.Lexicographic.slice_cmp, proofs.Common.rules};
+ghost use Rattle.std.specs.Prelude.{◌≡◌, ◌==◌, IfOk};
+ghost use Rattle.std.{specs.Ordering.as_partial_cmp, specs.Ordering.nat_cmp, specs.Cmp.partial_order_from_own_ties, specs.Cmp.Rules.comparing, specs.Cmp.Lexicographic.pointwise, specs.Cmp.Lexicographic.slice_cmp, proofs.Common.rules};
 ghost use Rattle.run_names.specs.{Instances.instance_cmp, Names.module_path_of, Names.last_name_of, Names.optional_text};
 
 use crate::memory::OutOfMemory;

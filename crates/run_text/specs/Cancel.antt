@@ -1,6 +1,7 @@
 -- A run that is about to be cancelled or killed.
 use Rattle.std.specs.Prelude.{ℕ, Bool, true, false, Option, None, Some, codes}
-use Rattle.{run_model.specs.Names.NextestRunMode, run_model.specs.Names.reason_words, run_model.specs.Names.CancelReason, report_words.proofs.lemmas.FreeWords.free-reason_words, run_text.specs.declared.running.Running.Running}
+use Rattle.run_model.specs.Names.{NextestRunMode, reason_words, CancelReason}
+use Rattle.{report_words.proofs.lemmas.FreeWords.free-reason_words, run_text.specs.declared.running.Running.Running}
 use Rattle.report_words.specs.Parts.{Fixed, Open, Line, Fail, none, words, toned, Toned, right, ◌⧺◌, choice, openly}
 use Rattle.run_text.specs.Running.{is_none_running, running_of, running_text}
 use Rattle.run_names.specs.declared.level.CancelReason.TheVariants as reason

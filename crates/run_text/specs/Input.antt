@@ -1,5 +1,6 @@
 -- The state of a run, when it is requested by a key.
-use Rattle.{std.specs.Prelude.ℕ, std.specs.Prelude.codes, text_parts.specs.Names.RunStats, text_parts.specs.Names.clock, text_parts.specs.Names.failure_tone, text_parts.specs.Names.progress_message}
+use Rattle.text_parts.specs.Names.{RunStats, clock, failure_tone, progress_message}
+use Rattle.{std.specs.Prelude.ℕ, std.specs.Prelude.codes}
 use Rattle.report_words.specs.Parts.{Fixed, Open, Line, Count, words, right, number, ◌⧺◌}
 
 -- how many of how many tests have finished

@@ -1,6 +1,7 @@
 -- The outstanding tests that a rerun has not seen.
 use Rattle.std.specs.Prelude.{ℕ, false, ◌-◌, List, ◌==◌, Option, None, Some, length, codes}
-use Rattle.{run_model.specs.Names.NextestRunMode, run_model.specs.Names.OwnedTestInstanceId, run_model.specs.Names.NotSeen, report_text.specs.Instance.test_text, report_words.proofs.lemmas.FreeWords.free-tests_word_if, styled_text.specs.Texts.Text}
+use Rattle.run_model.specs.Names.{NextestRunMode, OwnedTestInstanceId, NotSeen}
+use Rattle.{report_text.specs.Instance.test_text, report_words.proofs.lemmas.FreeWords.free-tests_word_if, styled_text.specs.Texts.Text}
 use Rattle.report_words.specs.Names.{tests_word, Parts, Fixed, Line, Lines, Count, Skip, none, words, Word, right, number, ◌⧺◌, choice, each, plainly, drawn_given, paint, Styles}
 
 -- how many tests there are

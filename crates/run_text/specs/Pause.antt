@@ -1,5 +1,6 @@
 -- A run that is stopped for a while, and goes on.
-use Rattle.{std.specs.Prelude.ℕ, std.specs.Prelude.codes, run_names.specs.declared.config.NextestRunMode.NextestRunMode, run_text.specs.declared.running.Running.Running, run_text.specs.Running.is_none_running, run_text.specs.Running.running_of, run_text.specs.Running.running_text}
+use Rattle.run_text.specs.Running.{is_none_running, running_of, running_text}
+use Rattle.{std.specs.Prelude.ℕ, std.specs.Prelude.codes, run_names.specs.declared.config.NextestRunMode.NextestRunMode, run_text.specs.declared.running.Running.Running}
 use Rattle.report_words.specs.Parts.{Fixed, Line, Open, none, choice, words, toned, right, ◌⧺◌, Pass, Count}
 
 -- how many run, where anything does

@@ -1,5 +1,6 @@
 -- What is handed in for the texts of a run without escape characters.
-use Rattle.{std.specs.Prelude.Bool, std.specs.Prelude.Option, report_words.specs.PlainTexts.HoldsIf, styled_text.specs.Names.AllByRecursion, styled_text.specs.Names.HasNoEscape, run_model.specs.Names.UniquePrefix, run_model.specs.Names.OwnedTestInstanceId, run_model.specs.Names.NotSeen}
+use Rattle.run_model.specs.Names.{UniquePrefix, OwnedTestInstanceId, NotSeen}
+use Rattle.{std.specs.Prelude.Bool, std.specs.Prelude.Option, report_words.specs.PlainTexts.HoldsIf, styled_text.specs.Names.AllByRecursion, styled_text.specs.Names.HasNoEscape}
 use Rattle.text_parts.specs.Names.{ChildOutputDescription, LiveSpec, ReplayHeader, SetupScriptExecuteStatus, IsPlainResult, IsPlainWritten}
 
 -- a run's id in two parts holds no escape character

@@ -1,5 +1,6 @@
 -- The iterations of a stress run: one has started or has finished.
-use Rattle.{std.specs.Prelude.ℕ, std.specs.Prelude.◌+◌, std.specs.Prelude.Option, std.specs.Prelude.None, std.specs.Prelude.Some, std.specs.Prelude.codes, text_parts.specs.Names.RunStats, text_parts.specs.Names.ThemeCharacters, text_parts.specs.Names.bracketed, text_parts.specs.Names.bar_line}
+use Rattle.std.specs.Prelude.{ℕ, ◌+◌, Option, None, Some, codes}
+use Rattle.text_parts.specs.Names.{RunStats, ThemeCharacters, bracketed, bar_line}
 use Rattle.{std.specs.Int.NonZero.non_zero_u32_get, run_text.specs.Summary.outcome_tone, run_text.specs.Summary.run_counts_text, report_words.proofs.lemmas.FreeWords.free-clock_text, report_words.proofs.lemmas.FreeWords.free-iterations_word}
 use Rattle.run_model.specs.Names.{NextestRunMode, final_stats_of, Remaining, Iterations, Endless, TimeLeft, completed_of, elapsed_of, remaining_of, StressProgress}
 use Rattle.{run_names.specs.declared.stress.StressProgress.TheVariants.Count, run_names.specs.declared.stress.StressProgress.TheVariants.Time, report_words.specs.declared.durations.DurationRounding.TheVariants.Floor, report_words.specs.declared.durations.DurationRounding.TheVariants.Ceiling}

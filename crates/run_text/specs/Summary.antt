@@ -1,7 +1,9 @@
 -- The end of a run before its entries: how long it took, and its counts.
 use Rattle.std.specs.Prelude.{ℕ, not, ◌&&◌, ◌==◌, Option, None, Some, codes}
-use Rattle.{styled_text.specs.Names.NonZeroU32, styled_text.specs.Names.non_zero_u32_get, report_words.proofs.lemmas.FreeWords.free-iterations_word, report_words.proofs.lemmas.FreeWords.free-reason_words, report_words.proofs.lemmas.FreeWords.free-tests_word_if}
-use Rattle.run_model.specs.{Names.reason_words, Names.final_stats_of, Names.stress_stats_of, Names.NextestRunMode, Names.CancelReason, Names.StressIndex, declared.stats.RunFinishedStats.TheVariants.Single, declared.stats.RunFinishedStats.TheVariants.Stress}
+use Rattle.report_words.proofs.lemmas.FreeWords.{free-iterations_word, free-reason_words, free-tests_word_if}
+use Rattle.{styled_text.specs.Names.NonZeroU32, styled_text.specs.Names.non_zero_u32_get}
+use Rattle.run_model.specs.Names.{reason_words, final_stats_of, stress_stats_of, NextestRunMode, CancelReason, StressIndex}
+use Rattle.run_model.specs.{declared.stats.RunFinishedStats.TheVariants.Single, declared.stats.RunFinishedStats.TheVariants.Stress}
 use Rattle.text_parts.specs.Names.{RunStats, FinalRunStats, RunFinishedStats, StressFinalRunStats, StressRunStats, ThemeCharacters, bracketed, bar_line, counted_text, summary_text}
 use Rattle.run_model.specs.declared.stats.FinalRunStats.TheVariants.{Success, NoTestsRun, Cancelled, Failed}
 use Rattle.report_words.specs.Names.{iterations_word, tests_word_if, Fixed, Open, Line, Tone, Pass, Fail, Skip, Count, none, words, Word, toned, Toned, right, number, ◌⧺◌, choice, openly}

@@ -1,7 +1,8 @@
 //! A run that is about to be cancelled or killed.
 
 ghost use Rattle.std.specs.Prelude.{◌≡◌};
-ghost use Rattle.{writers.specs.Writer.Puts, report_words.specs.Parts.paint, run_text.specs.Cancel.begin_cancel_text, run_text.specs.Cancel.begin_kill_text, run_text.specs.Cancel.ends_at_once, run_text.specs.Cancel.reason_text, run_text.specs.Cancel.still_running};
+ghost use Rattle.run_text.specs.Cancel.{begin_cancel_text, begin_kill_text, ends_at_once, reason_text, still_running};
+ghost use Rattle.{writers.specs.Writer.Puts, report_words.specs.Parts.paint};
 
 use crate::running::{Running, ShownRunning};
 use run_model::level::CancelReason;

@@ -1,7 +1,8 @@
 //! The header of a replay: which recorded run it shows, when that started, and how it ended.
 
 ghost use Rattle.std.specs.Prelude.{◌≡◌};
-ghost use Rattle.{writers.specs.Writer.Puts, report_words.specs.Parts.paint, run_text.specs.Header.date_text, run_text.specs.Header.replay_header_text, run_text.specs.Header.started_text, run_text.specs.Header.time_text, run_text.specs.Header.year_sign};
+ghost use Rattle.run_text.specs.Header.{date_text, replay_header_text, started_text, time_text, year_sign};
+ghost use Rattle.{writers.specs.Writer.Puts, report_words.specs.Parts.paint};
 
 use crate::run_id::ShownRunId;
 use jiff::civil::{Date, DateTime, Time};

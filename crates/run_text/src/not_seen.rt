@@ -1,6 +1,7 @@
 //! The outstanding tests that a rerun has not seen.
 
-ghost use Rattle.{styled_text.specs.Names.flat_map, styled_text.specs.Names.Puts, report_words.specs.Parts.paint, run_text.specs.NotSeen.listed_line, run_text.specs.NotSeen.not_seen_line, run_text.specs.NotSeen.not_seen_note, run_text.specs.NotSeen.not_seen_text};
+ghost use Rattle.run_text.specs.NotSeen.{listed_line, not_seen_line, not_seen_note, not_seen_text};
+ghost use Rattle.{styled_text.specs.Names.flat_map, styled_text.specs.Names.Puts, report_words.specs.Parts.paint};
 
 use report_text::helpers::DisplayTestInstance;
 use report_text::helpers::plural::tests_str;

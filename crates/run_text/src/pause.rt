@@ -1,7 +1,9 @@
 //! A run that is stopped for a while, and goes on.
 
 ghost use Rattle.std.specs.Prelude.{◌++◌};
-ghost use Rattle.{report_words.specs.Parts.paint, run_text.specs.Pause.due_to_signal, run_text.specs.Pause.run_continued_text, run_text.specs.Pause.run_paused_text, styled_text.specs.Names.Puts, styled_text.specs.Names.styled, styled_text.specs.Names.right_in};
+ghost use Rattle.run_text.specs.Pause.{due_to_signal, run_continued_text, run_paused_text};
+ghost use Rattle.styled_text.specs.Names.{Puts, styled, right_in};
+ghost use Rattle.report_words.specs.Parts.{paint};
 
 use crate::running::{Running, ShownRunning};
 use styled_text::text::{Right, Toned};

@@ -1,7 +1,8 @@
 //! Setup scripts: one has started, runs for long or has finished.
 
 ghost use Rattle.std.specs.Prelude.{◌≡◌};
-ghost use Rattle.{text_parts.specs.Script.script_of, report_words.specs.Parts.paint, report_words.specs.Parts.style_of, styled_text.specs.Names.styled, styled_text.specs.Names.right_in, styled_text.specs.Names.Puts};
+ghost use Rattle.styled_text.specs.Names.{styled, right_in, Puts};
+ghost use Rattle.{text_parts.specs.Script.script_of, report_words.specs.Parts.paint, report_words.specs.Parts.style_of};
 ghost use Rattle.run_text.specs.SetupScript.{HasFailedScriptOutput, failed_script_output, script_counter, script_status_tone, script_status_words, setup_script_finished_text, setup_script_slow_text, setup_script_started_text, slow_script_level, slow_script_words};
 
 use itoa::Buffer;

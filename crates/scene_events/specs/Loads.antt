@@ -1,5 +1,6 @@
 -- What an event says once captured output is put into it.
-use Rattle.{std.specs.Prelude.ℕ, std.specs.Prelude.length, std.specs.Prelude.◌==◌, std.specs.Prelude.if◌then◌else◌, scene_events.specs.SceneOutputs.with_output_at, scene_events.specs.declared.scene.event.SceneEvent.SceneEvent, scene_events.specs.declared.scene.unit_events.UnitAnswer.UnitAnswer}
+use Rattle.std.specs.Prelude.{ℕ, length, ◌==◌, if◌then◌else◌}
+use Rattle.{scene_events.specs.SceneOutputs.with_output_at, scene_events.specs.declared.scene.event.SceneEvent.SceneEvent, scene_events.specs.declared.scene.unit_events.UnitAnswer.UnitAnswer}
 use Rattle.run_model.specs.{Attempts.Attempts, Attempts.attempt_with_output, Attempts.execution_with_output, declared.output.ChildOutputDescription.ChildOutputDescription, declared.output.LiveSpec.LiveSpec}
 use Rattle.scene_events.specs.declared.scene.event.SceneEvent.TheVariants as scene
 

@@ -1,7 +1,8 @@
 -- The output of a unit, as a scene holds it and as an event has it, and the outputs of a test's attempts before the last one.
 use Rattle.std.specs.Prelude.{ℕ, List, [], length, slice_get, slice_set, Bool, ◌==◌, if◌then◌else◌, Option, None, Some}
 use Rattle.{std.specs.Option.option_map_or, run_model.specs.declared.status.ExecutionResultDescription.ExecutionResultDescription}
-use Rattle.run_model.specs.{declared.output.ChildOutputDescription.TheVariants.Split, declared.output.ChildOutputDescription.ChildOutputDescription, Names.Attempt, Names.Written, Names.attempt_with_output, Names.has_loaded_output}
+use Rattle.run_model.specs.Names.{Attempt, Written, attempt_with_output, has_loaded_output}
+use Rattle.run_model.specs.{declared.output.ChildOutputDescription.TheVariants.Split, declared.output.ChildOutputDescription.ChildOutputDescription}
 use Rattle.scene_events.specs.declared.scene.outputs.SceneOutput.{SceneOutput, TheVariants.Output, TheVariants.StartError}
 use Rattle.run_model.specs.declared.output.ChildExecutionOutputDescription.TheVariants as described
 

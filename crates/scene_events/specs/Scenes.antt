@@ -1,6 +1,7 @@
 -- What a scene asks of a reporter.
 use Rattle.std.specs.Prelude.{◌≡◌, ℕ, List, [], ◌∷◌, ◌++◌, Bool, true, false, not, ◌||◌, Option, Result, Ok, Err}
-use Rattle.run_model.specs.{Names.has_loaded_output, Names.planned_stats, Names.is_success, Names.CancelReason, Names.TestInstanceId, declared.event.TestEventKind.TestEventKind, declared.replay.ReplayHeader.ReplayHeader, declared.stats.RunStats.RunStats, declared.call.ReportCall.ReportCall}
+use Rattle.run_model.specs.Names.{has_loaded_output, planned_stats, is_success, CancelReason, TestInstanceId}
+use Rattle.run_model.specs.{declared.event.TestEventKind.TestEventKind, declared.replay.ReplayHeader.ReplayHeader, declared.stats.RunStats.RunStats, declared.call.ReportCall.ReportCall}
 use Rattle.scene_events.specs.{Moments.moment_of, SceneAttempts.script_status, declared.scene.event.SceneEvent.SceneEvent, declared.scene.run_events.SceneHeader.SceneHeader, declared.scene.unit_events.SceneScript.SceneScript, declared.scene.unit_events.SceneTest.SceneTest}
 use Rattle.run_model.specs.declared.event.TestEventKind.TheVariants as kind
 use Rattle.run_model.specs.declared.info.InfoResponse.TheVariants as response

@@ -1,5 +1,6 @@
 -- The message of a scene that cannot be read.
-use Rattle.{std.specs.Prelude.ℕ, std.specs.Prelude.List, std.specs.Prelude.◌++◌, std.specs.Prelude.codes, std.specs.Prelude.decimal, scene_fields.specs.declared.fault.LineFault.LineFault, scene_fields.specs.declared.fault.ReadFault.ReadFault}
+use Rattle.std.specs.Prelude.{ℕ, List, ◌++◌, codes, decimal}
+use Rattle.{scene_fields.specs.declared.fault.LineFault.LineFault, scene_fields.specs.declared.fault.ReadFault.ReadFault}
 use Rattle.scene_fields.specs.declared.fault.LineFault.TheVariants as line
 use Rattle.scene_fields.specs.declared.fault.ReadFault.TheVariants as fault
 

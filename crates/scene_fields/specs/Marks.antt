@@ -1,5 +1,6 @@
 -- The positions of a byte as the bits of a mask.
-use Rattle.{std.specs.Prelude.ℕ, std.specs.Prelude.◌-◌, std.specs.Prelude.List, std.specs.Prelude.map, std.specs.Simd.Lanes.chunk, std.specs.Simd.Lanes.mask_l, memchr.specs.Find.is_byte}
+use Rattle.std.specs.Prelude.{ℕ, ◌-◌, List, map}
+use Rattle.{std.specs.Simd.Lanes.chunk, std.specs.Simd.Lanes.mask_l, memchr.specs.Find.is_byte}
 
 -- a bit for each of these bytes, which is set for the byte that is searched
 abbrev pub marks : ℕ → List ℕ → ℕ

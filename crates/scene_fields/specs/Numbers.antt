@@ -1,6 +1,7 @@
 -- Numbers, which are decimal. They may have leading zeros, and never a plus.
 use Rattle.std.specs.Prelude.{◌≡◌, ◌⊎◌, ℕ, ◌≤◌, ◌^◌, List, [], ◌∷◌, ◌++◌, Bool, true, false, ◌&&◌, nat_lt, if◌then◌else◌, length, drop, cond, ℤ, pos, negsuc, Option, None, Some}
-use Rattle.{std.specs.Char.digit_value, std.specs.Int.w32, std.specs.Option.option_map, std.specs.Str.Parse.IsNumeral, std.specs.Str.Parse.digits_value, std.specs.Str.Parse.starts_with_minus, std.specs.Str.Parse.signed_digits_value, run_names.specs.declared.time.Nanos.Nanos}
+use Rattle.std.specs.Str.Parse.{IsNumeral, digits_value, starts_with_minus, signed_digits_value}
+use Rattle.{std.specs.Char.digit_value, std.specs.Int.w32, std.specs.Option.option_map, run_names.specs.declared.time.Nanos.Nanos}
 use mir.Val.{SFits as FitsSigned}
 
 abbrev pub are_digits : List ℕ → Bool

@@ -1,5 +1,6 @@
 -- Texts cut at a byte.
-use Rattle.std.specs.{Prelude.◌≡◌, Prelude.ℕ, Prelude.◌+◌, Prelude.List, Prelude.[], Prelude.◌∷◌, Prelude.map, Prelude.false, Prelude.◌==◌, Prelude.if◌then◌else◌, Prelude.length, Prelude.Option, Prelude.None, Prelude.Some, Prelude.⊤, List.slice_split, Option.option_map, Borrow.Bor}
+use Rattle.std.specs.Prelude.{◌≡◌, ℕ, ◌+◌, List, [], ◌∷◌, map, false, ◌==◌, if◌then◌else◌, length, Option, None, Some, ⊤}
+use Rattle.std.specs.{List.slice_split, Option.option_map, Borrow.Bor}
 
 -- the byte is not in the text
 abbrev pub Lacks : ℕ → List ℕ → Type 0

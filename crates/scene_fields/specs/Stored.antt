@@ -1,6 +1,7 @@
 -- What a recorded run stores of an output, as the fields of a line say it.
 use Rattle.std.specs.Prelude.{ℕ, ◌+◌, ◌-◌, ◌^◌, min, List, [], ◌∷◌, Bool, true, false, ◌||◌, ◌&&◌, codes, bytes_eq, if◌then◌else◌, Option, None, Some}
-use Rattle.{std.specs.Option.option_map, scene_fields.specs.References.reference_in, scene_fields.specs.declared.stored.StoredStream.TheVariants.NotCaptured, scene_fields.specs.declared.stored.StoredStream.TheVariants.Empty, scene_fields.specs.declared.stored.StoredStream.TheVariants.At}
+use Rattle.scene_fields.specs.declared.stored.StoredStream.TheVariants.{NotCaptured, Empty, At}
+use Rattle.{std.specs.Option.option_map, scene_fields.specs.References.reference_in}
 use Rattle.scene_fields.specs.declared.stored.{PlacedOutput.PlacedOutput, StoredStream.StoredStream, StreamField.StreamField, StreamField.TheVariants.First, StreamField.TheVariants.Second, StoredOutput.StoredOutput, StoredOutput.TheVariants.Split, StoredOutput.TheVariants.Combined}
 
 -- a stream that is empty, was not captured, or is a reference; any other text is none of them

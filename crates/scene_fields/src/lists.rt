@@ -2,7 +2,8 @@
 //!
 //! A word is a text. A comma without a backslash is part of a word, and the empty field is one empty word.
 
-ghost use Rattle.std.specs.{Prelude.◌≡◌, Prelude.map, Prelude.string_bytes, Prelude.IfOk, Option.option_map};
+ghost use Rattle.std.specs.Prelude.{◌≡◌, map, string_bytes, IfOk};
+ghost use Rattle.std.specs.Option.{option_map};
 ghost use Rattle.scene_fields.specs.Lists.{chain_in, instances_in, words_of};
 
 use super::split::split_at_byte;

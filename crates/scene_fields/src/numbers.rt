@@ -2,7 +2,8 @@
 //!
 //! They are decimal, and may have leading zeros. A plus is never allowed, and a minus only if a number may be negative.
 
-ghost use Rattle.std.specs.{Prelude.◌≡◌, Prelude.◌<◌, Prelude.◌≤◌, Prelude.◌^◌, Prelude.length, Prelude.false, Prelude.MatchOption, Option.SomeIff, Str.Parse.IsNumeral, Str.Parse.digits_value, Str.Parse.signed_digits_value};
+ghost use Rattle.std.specs.Prelude.{◌≡◌, ◌<◌, ◌≤◌, ◌^◌, length, false, MatchOption};
+ghost use Rattle.std.specs.{Option.SomeIff, Str.Parse.IsNumeral, Str.Parse.digits_value, Str.Parse.signed_digits_value};
 ghost use Rattle.scene_fields.specs.Numbers.{IsLeadingNumber, IsSigned, code_in, nanos_in, number_in, starts_with_digit};
 
 use run_model::time::Nanos;

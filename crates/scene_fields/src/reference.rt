@@ -1,6 +1,7 @@
 //! The position of a captured stream, as the scene of a recorded run has it.
 
-ghost use Rattle.std.specs.{Prelude.◌≡◌, Prelude.◌≤◌, Prelude.◌↔◌, Prelude.IsTrue, Char.is_ascii_uppercase, List.list_any, Option.option_map};
+ghost use Rattle.std.specs.Prelude.{◌≡◌, ◌≤◌, ◌↔◌, IsTrue};
+ghost use Rattle.std.specs.{Char.is_ascii_uppercase, List.list_any, Option.option_map};
 ghost use Rattle.scene_fields.specs.References.{after_mark, end_of, reference_in, sum_in, sum_of};
 
 use super::numbers::read_count;

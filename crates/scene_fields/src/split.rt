@@ -4,7 +4,8 @@
 //! end to the other.
 
 ghost use Rattle.std.specs.Prelude.{◌≡◌, ◌<◌, ◌≤◌, ◌+◌, [], ◌∷◌, ◌++◌, length, IfSome, MatchOption};
-ghost use Rattle.{memchr.specs.Find.IsFirstByte, memchr.specs.Find.is_byte, scene_fields.specs.Split.Lacks, scene_fields.specs.Split.cut, scene_fields.specs.Split.cut_texts, scene_fields.specs.Split.split_on, scene_fields.specs.Split.pieces_left, scene_fields.specs.Split.size_left};
+ghost use Rattle.scene_fields.specs.Split.{Lacks, cut, cut_texts, split_on, pieces_left, size_left};
+ghost use Rattle.{memchr.specs.Find.IsFirstByte, memchr.specs.Find.is_byte};
 
 use super::marks::find_byte;
 use memchr::memchr;

@@ -3,7 +3,8 @@
 //! What a text spells is never longer than the text, so a large output is read without a second memory of its size. It is
 //! moved by blocks: most of an output is between escapes.
 
-ghost use Rattle.std.specs.{Prelude.◌≡◌, Prelude.◌≢◌, Prelude.◌<◌, Prelude.◌≤◌, Prelude.◌-◌, Prelude.IfSome, Prelude.length, Prelude.slice_index, Prelude.take, Option.option_map};
+ghost use Rattle.std.specs.Prelude.{◌≡◌, ◌≢◌, ◌<◌, ◌≤◌, ◌-◌, IfSome, length, slice_index, take};
+ghost use Rattle.std.specs.Option.{option_map};
 ghost use Rattle.scene_fields.specs.Texts.{LacksEscapes, MovesPlain, bytes_in, escape_byte, escape_len};
 
 use super::marks::{first_place, load_block, match_mask};

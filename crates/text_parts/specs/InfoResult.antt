@@ -1,6 +1,7 @@
 -- The result of an attempt, in words.
 use Rattle.std.specs.Prelude.{ℤ, Bool, true, false, Option, None, Some, [], ◌++◌, codes, refl}
-use Rattle.{styled_text.specs.Names.signed_decimal, styled_text.specs.Names.Text, styled_text.specs.Names.plain, styled_text.specs.Names.HasNoEscape, report_words.proofs.lemmas.FreeWords.free-signed}
+use Rattle.styled_text.specs.Names.{signed_decimal, Text, plain, HasNoEscape}
+use Rattle.report_words.proofs.lemmas.FreeWords.{free-signed}
 use Rattle.run_names.specs.declared.abort.AbortDescription.{AbortDescription, TheVariants.UnixSignal, TheVariants.WindowsNtStatus, TheVariants.WindowsJobObject}
 use Rattle.run_model.specs.declared.status.{ExecutionResultDescription.ExecutionResultDescription, LeakTimeoutResult.LeakTimeoutResult, SlowTimeoutResult.SlowTimeoutResult, FailureDescription.FailureDescription, FailureDescription.TheVariants.ExitCode, FailureDescription.TheVariants.Abort}
 use Rattle.report_words.specs.Parts.{Parts, Fixed, Open, Count, Pass, Fail, Skip, words, toned, Toned, Verbatim, ◌⧺◌, choice, plainly, drawn_given}

@@ -1,5 +1,6 @@
 -- Setup scripts as their lines name them.
-use Rattle.{std.specs.Prelude.false, std.specs.Prelude.List, std.specs.Prelude.◌∷◌, std.specs.Prelude.Option, styled_text.specs.Names.AllByRecursion, styled_text.specs.Names.HasNoEscape, styled_text.specs.Names.Text}
+use Rattle.std.specs.Prelude.{false, List, ◌∷◌, Option}
+use Rattle.{styled_text.specs.Names.AllByRecursion, styled_text.specs.Names.HasNoEscape, styled_text.specs.Names.Text}
 use Rattle.{run_names.specs.declared.stress.StressIndex.StressIndex, text_parts.specs.declared.script.ScriptInstance.ScriptInstance, report_text.specs.Instance.script_part, report_text.specs.Quoting.shell_words, report_words.specs.Parts.Parts, report_words.specs.Parts.Open}
 
 -- a setup script: its iteration of a stress run, its id, its program and the program's arguments

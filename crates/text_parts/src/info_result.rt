@@ -1,6 +1,7 @@
 //! The result of an attempt, in words.
 
-ghost use Rattle.{report_words.specs.Parts.paint, writers.specs.Writer.Puts, text_parts.specs.InfoResult.abort_info, text_parts.specs.InfoResult.failure_info, text_parts.specs.InfoResult.info_text, text_parts.specs.InfoResult.leaked_note, text_parts.specs.InfoResult.signal_name};
+ghost use Rattle.text_parts.specs.InfoResult.{abort_info, failure_info, info_text, leaked_note, signal_name};
+ghost use Rattle.{report_words.specs.Parts.paint, writers.specs.Writer.Puts};
 
 use itoa::Buffer;
 use run_model::abort::{AbortDescription, DescriptionText};

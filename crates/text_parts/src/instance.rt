@@ -1,7 +1,8 @@
 //! The test that a line is about.
 
 ghost use Rattle.std.specs.Prelude.{◌≡◌};
-ghost use Rattle.{writers.specs.Writer.Puts, report_words.specs.Parts.paint, text_parts.specs.Names.instance_text, text_parts.specs.Names.instance_end, text_parts.specs.Names.padded_instance, text_parts.specs.Names.untimed_end};
+ghost use Rattle.text_parts.specs.Names.{instance_text, instance_end, padded_instance, untimed_end};
+ghost use Rattle.{writers.specs.Writer.Puts, report_words.specs.Parts.paint};
 
 use crate::settings::Settings;
 use report_text::helpers::{DisplayCounterIndex, write_test_instance};

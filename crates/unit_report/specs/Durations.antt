@@ -1,7 +1,9 @@
 -- Durations in the lines of a report.
 use Rattle.std.specs.Prelude.{ℕ, ◌/◌, ◌++◌, codes, refl}
-use Rattle.report_words.{specs.Names.clock_text, specs.Names.Fixed, specs.Names.Open, specs.Names.Verbatim, proofs.lemmas.FreeWords.free-seconds, proofs.lemmas.FreeWords.free-clock_text}
-use Rattle.styled_text.{specs.Names.HasNoEscape, specs.Names.Text, specs.Names.right_in, specs.Names.seconds, proofs.lemmas.Closed.right_free, proofs.lemmas.Widths.free_both}
+use Rattle.report_words.specs.Names.{clock_text, Fixed, Open, Verbatim}
+use Rattle.report_words.{proofs.lemmas.FreeWords.free-seconds, proofs.lemmas.FreeWords.free-clock_text}
+use Rattle.styled_text.specs.Names.{HasNoEscape, Text, right_in, seconds}
+use Rattle.styled_text.{proofs.lemmas.Closed.right_free, proofs.lemmas.Widths.free_both}
 
 -- nanoseconds as seconds, right in eight columns between brackets
 unfoldable pub bracketed_duration : ℕ → Text

@@ -1,6 +1,7 @@
 -- An error and its causes, as text.
 use Rattle.std.specs.Prelude.{false, List, [], ◌++◌, ◌==◌, length, codes, if◌then◌else◌}
-use Rattle.{styled_text.specs.Names.flat_map, styled_text.specs.Names.indent, styled_text.specs.Names.plain, styled_text.specs.Names.Text, run_names.specs.ErrorChains.MessageAndCauses}
+use Rattle.styled_text.specs.Names.{flat_map, indent, plain, Text}
+use Rattle.run_names.specs.ErrorChains.{MessageAndCauses}
 
 -- a cause on a line of its own; its later lines are aligned below its first
 unfoldable pub cause_text : Text → Text

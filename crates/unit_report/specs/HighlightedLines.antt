@@ -1,6 +1,7 @@
 -- Lines in the style of a highlight.
 use Rattle.std.specs.Prelude.{ℕ, suc, Bool, true, ◌&&◌, ◌||◌, ◌==◌, [], ◌∷◌, ◌++◌, take, drop, if◌then◌else◌}
-use Rattle.styled_text.specs.{Names.flat_map, Names.visible, Names.whole_lines, Names.style_prefix, Names.style_suffix, Names.Text, declared.style.Style.Style}
+use Rattle.styled_text.specs.Names.{flat_map, visible, whole_lines, style_prefix, style_suffix, Text}
+use Rattle.styled_text.specs.declared.style.Style.{Style}
 
 -- a line feed or a carriage return
 abbrev pub closes_line : ℕ → Bool

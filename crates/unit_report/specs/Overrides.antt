@@ -1,5 +1,6 @@
 -- Whose setting decides when a test's output is shown.
-use Rattle.{std.specs.Prelude.Bool, std.specs.Prelude.true, std.specs.Prelude.false, std.specs.Prelude.unwrap_or, std.specs.Prelude.if◌then◌else◌, unit_report.specs.declared.unit_output.overrides.OutputDisplayOverrides.OutputDisplayOverrides}
+use Rattle.std.specs.Prelude.{Bool, true, false, unwrap_or, if◌then◌else◌}
+use Rattle.unit_report.specs.declared.unit_output.overrides.OutputDisplayOverrides.{OutputDisplayOverrides}
 use Rattle.run_model.specs.{Names.is_success_case, Names.TestOutputDisplay, declared.status.ExecutionResultDescription.ExecutionResultDescription, declared.status.StatusSummary.StatusSummary}
 use Rattle.run_model.specs.declared.status.ExecutionResultDescription.TheVariants as outcome
 

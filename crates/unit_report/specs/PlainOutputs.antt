@@ -3,7 +3,8 @@ use Rattle.std.specs.Prelude.{◌<◌, Bool, true, false, Option, IsTrue, length
 use Rattle.styled_text.specs.Names.{option_and_then, ends_in_line_feed, HasNoEscape, Text}
 use Rattle.run_model.specs.Names.{Part, stdout_part, stderr_part, combined_part, decoded_text}
 use Rattle.run_model.specs.declared.output.ChildExecutionOutputDescription.{ChildExecutionOutputDescription, TheVariants.Output, TheVariants.StartError}
-use Rattle.run_model.specs.declared.output.{ChildOutputDescription.ChildOutputDescription, Highlight.Highlight, LiveSpec.LiveSpec, ChildOutputDescription.TheVariants.Split, ChildOutputDescription.TheVariants.Combined, ChildOutputDescription.TheVariants.NotLoaded}
+use Rattle.run_model.specs.declared.output.ChildOutputDescription.TheVariants.{Split, Combined, NotLoaded}
+use Rattle.run_model.specs.declared.output.{ChildOutputDescription.ChildOutputDescription, Highlight.Highlight, LiveSpec.LiveSpec}
 use Rattle.{report_words.specs.PlainTexts.HoldsIf, report_words.specs.PlainTexts.IsPlainChain, unit_report.specs.Captured.is_valid, unit_report.specs.Captured.highlight_stop}
 
 -- a valid highlight of a text that closes with a line feed ends before the text does

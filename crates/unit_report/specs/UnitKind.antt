@@ -1,5 +1,6 @@
 -- The words for units.
-use Rattle.{std.specs.Prelude.codes, std.specs.Prelude.refl, run_model.specs.Names.NextestRunMode, run_model.specs.Names.UnitKind, styled_text.specs.Names.HasNoEscape, styled_text.specs.Names.Text, report_words.specs.Parts.Fixed, report_words.specs.Parts.Open, report_words.specs.Parts.Verbatim}
+use Rattle.report_words.specs.Parts.{Fixed, Open, Verbatim}
+use Rattle.{std.specs.Prelude.codes, std.specs.Prelude.refl, run_model.specs.Names.NextestRunMode, run_model.specs.Names.UnitKind, styled_text.specs.Names.HasNoEscape, styled_text.specs.Names.Text}
 use Rattle.run_names.specs.declared.config.NextestRunMode.TheVariants as mode
 use Rattle.run_names.specs.declared.unit.UnitKind.TheVariants as kind
 

@@ -1,9 +1,11 @@
 -- What is shown of the output of a test or a setup script.
 use Rattle.std.specs.Prelude.{Bool, true, false, not, ◌||◌, ◌==◌, [], ◌∷◌, ◌++◌, length, Option, None, Some, codes, if◌then◌else◌}
-use Rattle.styled_text.specs.{Names.option_and_then, Names.indent, Names.plain, Names.styled, Names.Text, declared.style.Styles.Styles}
+use Rattle.styled_text.specs.Names.{option_and_then, indent, plain, styled, Text}
+use Rattle.styled_text.specs.declared.style.Styles.{Styles}
 use Rattle.run_model.specs.Names.{MessageAndCauses, Part, stdout_part, stderr_part, combined_part, UnitKind, decoded_text}
 use Rattle.run_model.specs.declared.output.ChildExecutionOutputDescription.{ChildExecutionOutputDescription, TheVariants.Output, TheVariants.StartError}
-use Rattle.run_model.specs.declared.output.{ChildOutputDescription.ChildOutputDescription, Highlight.Highlight, LiveSpec.LiveSpec, ChildOutputDescription.TheVariants.Split, ChildOutputDescription.TheVariants.Combined, ChildOutputDescription.TheVariants.NotLoaded}
+use Rattle.run_model.specs.declared.output.ChildOutputDescription.TheVariants.{Split, Combined, NotLoaded}
+use Rattle.run_model.specs.declared.output.{ChildOutputDescription.ChildOutputDescription, Highlight.Highlight, LiveSpec.LiveSpec}
 use Rattle.unit_report.specs.{Captured.captured, ErrorChain.error_chain_text, Header.header_text, Header.output_name_text}
 use Rattle.unit_report.specs.declared.unit_output.{DisplayerKind.DisplayerKind, DisplayerKind.TheVariants.Live, DisplayerKind.TheVariants.Replay, header.OutputHeader.OutputHeader, header.OutputName.OutputName, reporter.ChildOutputSpec.ChildOutputSpec, reporter.UnitOutputReporter.UnitOutputReporter}
 use Rattle.unit_report.specs.declared.unit_output.header.OutputName.TheVariants as name

@@ -1,7 +1,8 @@
 //! Which levels and which progress display a report has.
 
 ghost use Rattle.std.specs.Prelude.{◌≡◌, ◌≤◌, true, false};
-ghost use Rattle.{run_names.specs.Levels.status_rank, unit_report.specs.Levels.progress_display_of, unit_report.specs.Levels.suppresses, unit_report.specs.Levels.raised, unit_report.specs.Levels.resolved_levels, unit_report.specs.Levels.resolved_display, unit_report.specs.Levels.overridden};
+ghost use Rattle.unit_report.specs.Levels.{progress_display_of, suppresses, raised, resolved_levels, resolved_display, overridden};
+ghost use Rattle.run_names.specs.Levels.{status_rank};
 
 use run_model::level::{FinalStatusLevel, StatusLevel};
 

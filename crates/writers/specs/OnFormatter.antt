@@ -1,7 +1,8 @@
 -- What a formatter accepts.
 use Rattle.std.proofs.Common.{sym, ap, ◌∙◌, subst, append_assoc, ◌∷◌, ◌≡◌, ℕ, List, [], ◌++◌, None, refl}
 use Rattle.std.specs.{Fmt.HasWritten, Fmt.IsPlainFormatter, declared.fmt.Formatter.Formatter, List.FoldsTo, List.concat}
-use Rattle.writers.specs.{Writer.Meaning, Writer.WriterLaws, Writer.successor, declared.write_str.WriteFault.WriteFault, declared.write_str.on_formatter.OnFormatter.OnFormatter, declared.write_str.WriteFault.TheVariants.Memory, declared.write_str.WriteFault.TheVariants.Device}
+use Rattle.writers.specs.Writer.{Meaning, WriterLaws, successor}
+use Rattle.writers.specs.{declared.write_str.WriteFault.WriteFault, declared.write_str.on_formatter.OnFormatter.OnFormatter, declared.write_str.WriteFault.TheVariants.Memory, declared.write_str.WriteFault.TheVariants.Device}
 
 -- steps, and then more steps
 pub folds_append : {W : Type 0} (took : W → List ℕ → W → Type 0) (s t u : W) (xs ys : List (List ℕ)) → FoldsTo took s xs t → FoldsTo took t ys u → FoldsTo took s (xs ++ ys) u

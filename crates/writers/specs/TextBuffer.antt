@@ -1,7 +1,8 @@
 -- What a `TextBuffer` accepts.
 use Rattle.std.proofs.Common.{sym, ap, ◌∙◌, append_assoc, ◌≡◌, ℕ, List, [], ◌++◌, Option, refl}
 use Rattle.std.{specs.Io.KnownBytes.Appends, specs.Io.KnownBytes.append_known, proofs.KnownBytes.Appends-nil, proofs.KnownBytes.Appends-trans}
-use Rattle.writers.specs.{Writer.Meaning, Writer.WriterLaws, Writer.AppendsFront, Writer.successor, declared.write_str.WriteFault.WriteFault, declared.write_str.text_buffer.TextBuffer.TextBuffer, declared.write_str.WriteFault.TheVariants.Memory, declared.write_str.WriteFault.TheVariants.Device}
+use Rattle.writers.specs.Writer.{Meaning, WriterLaws, AppendsFront, successor}
+use Rattle.writers.specs.{declared.write_str.WriteFault.WriteFault, declared.write_str.text_buffer.TextBuffer.TextBuffer, declared.write_str.WriteFault.TheVariants.Memory, declared.write_str.WriteFault.TheVariants.Device}
 
 -- bytes grew by a prefix of the text
 pub record GrowsWithin (old new text : List ℕ) : Type 0 where

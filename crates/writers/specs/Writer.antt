@@ -1,5 +1,6 @@
 -- Acceptance of a text, for any writer.
-use Rattle.std.specs.{Prelude.◌≡◌, Prelude.ℕ, Prelude.◌+◌, Prelude.◌%◌, Prelude.◌^◌, Prelude.List, Prelude.[], Prelude.◌++◌, Prelude.Option, Prelude.Result, Prelude.MatchResult, Io.KnownBytes.Appends}
+use Rattle.std.specs.Prelude.{◌≡◌, ℕ, ◌+◌, ◌%◌, ◌^◌, List, [], ◌++◌, Option, Result, MatchResult}
+use Rattle.std.specs.Io.KnownBytes.{Appends}
 use Rattle.writers.specs.declared.write_str.WriteFault.{WriteFault, TheVariants.Device, TheVariants.Memory}
 
 -- what "accepted", "delivered" and a fault mean for one type of writer: for a `String`, `accepts old text new` is `new ≡ old ++ text`

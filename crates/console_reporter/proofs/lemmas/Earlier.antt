@@ -7,7 +7,8 @@ use Rattle.text_parts.specs.Names.{TestEventKind, ChildOutputDescription, LiveSp
 use Rattle.reporter_state.specs.Names.{Settings, netstring, record_text, is_stored, stored_output, written_text, StoreConfig, FinishReport, test_finish, test_finished_text, AreAcceptedBy, event_refusal, refusal_by, kept_entry, Finished, loads_finish}
 use Rattle.console_reporter.specs.Names.{event_text, record_of, records, stored, stored_text, Configuration, settings_of, IsIsolated, OutputLoadDecider}
 use Rattle.run_model.specs.declared.call.ReportCall.TheVariants.{Event, Header, Prefix}
-use Rattle.console_reporter.proofs.lemmas.{Isolation.map_reverse, Same.AreSame, Same.IsSameEvent, Same.same-call, Same.same-event, Same.same-itself, Same.same-report}
+use Rattle.console_reporter.proofs.lemmas.Same.{AreSame, IsSameEvent, same-call, same-event, same-itself, same-report}
+use Rattle.console_reporter.proofs.lemmas.Isolation.{map_reverse}
 
 -- the attempts, and the event, with the output of the last one alone
 abbrev pub last_alone : Attempts LiveSpec ChildOutputDescription → Attempts LiveSpec ChildOutputDescription

@@ -7,7 +7,9 @@ use Rattle.reporter_state.specs.Names.{final_output, cancel, final_order, final_
 use Rattle.console_reporter.specs.Names.{event_text, listed_text, script_by, text, report_texts, record_of, records, stored_text, OutputLoadDecider}
 use Rattle.std.proofs.Common.{◌≢◌, ◌≡◌, ℕ, Bool, true, false, List, [], ◌∷◌, ◌++◌, Option, None, Some, refl, sym, ap, ◌∙◌, reverse, append_assoc, inl, inr, codes, arith, lit<, subst, ◌<◌, ◌||◌, get_or}
 use Rattle.styled_text.specs.Names.{flat_map, option_to_list, digits, Text}
-use Rattle.std.proofs.lemmas.{Str.IsUtf8-from_ascii, Grind.flat_map-append, Bool.false≢true, Bool.and_parts, Bool.not-true, Bool.or_cases, List.append_cancel_left, List.append_cancel_right, List.reverse-append, List.same_from_push}
+use Rattle.std.proofs.lemmas.Bool.{false≢true, and_parts, not-true, or_cases}
+use Rattle.std.proofs.lemmas.List.{append_cancel_left, append_cancel_right, reverse-append, same_from_push}
+use Rattle.std.proofs.lemmas.{Str.IsUtf8-from_ascii, Grind.flat_map-append}
 use Rattle.run_model.specs.Names.{Attempt, Attempts, Written, is_final, is_immediate, case_of, is_success, summary_of, unloaded_event, unloaded_kind, TestOutputDisplay, TestInstanceId, StressIndex, Nanos, final_stats_of_run}
 use Rattle.reporter_state.{proofs.lemmas.Places.entry_with, proofs.lemmas.Places.text-place, specs.declared.final_output.FinalOutputEntry.FinalOutputEntry, specs.declared.kept_test.KeptTest.KeptTest}
 use Rattle.run_model.specs.declared.event.TestEventKind.TheVariants.{SetupScriptFinished, TestAttemptFailedWillRetry, TestFinished, RunFinished}

@@ -2,8 +2,10 @@
 use Rattle.std.proofs.Common.{◌≡◌, ◌<◌, List, [], ◌∷◌, ◌++◌, Option, None, Some, refl, sym, ap, ◌∙◌, subst, reverse, Ordering, Less, Equal, Greater}
 use Rattle.styled_text.specs.Names.{nat_cmp-IsAntisymmetric, slice_cmp-IsAntisymmetric, flat_map, lists_total, nat_list_cmp_total, option_to_list, is_lt, ordering_reverse}
 use Rattle.{std.proofs.lemmas.Grind.flat_map-append, run_names.specs.declared.time.Nanos.Nanos, run_model.specs.declared.event.TestEventKind.TheVariants.TestFinished, console_reporter.proofs.lemmas.Same.IsSameEvent, console_reporter.proofs.lemmas.Same.same-but-one}
-use Rattle.reporter_state.{proofs.lemmas.Keys.is_before-ranks, proofs.lemmas.Orders.order-swap, specs.declared.final_output.FinalOutputEntry.FinalOutputEntry, specs.Names.Settings, specs.Names.cancel, specs.Names.entry_cmp, specs.Names.entry_key, specs.Names.final_order, specs.Names.is_before}
-use Rattle.{text_parts.specs.Names.TestEventKind, text_parts.specs.Names.RunStats, text_parts.specs.Names.ReportCall, run_model.specs.declared.call.ReportCall.TheVariants.Event, run_model.specs.declared.call.ReportCall.TheVariants.Header, run_model.specs.declared.call.ReportCall.TheVariants.Prefix}
+use Rattle.reporter_state.specs.Names.{Settings, cancel, entry_cmp, entry_key, final_order, is_before}
+use Rattle.reporter_state.{proofs.lemmas.Keys.is_before-ranks, proofs.lemmas.Orders.order-swap, specs.declared.final_output.FinalOutputEntry.FinalOutputEntry}
+use Rattle.text_parts.specs.Names.{TestEventKind, RunStats, ReportCall}
+use Rattle.run_model.specs.declared.call.ReportCall.TheVariants.{Event, Header, Prefix}
 use Rattle.console_reporter.specs.Names.{AreUninterrupted, Configuration, settings_of, AreOfOneKey, IsOrderIndependent, entry_after, event_text, report_texts, IsStatsIndependent, with_stats}
 use Rattle.console_reporter.proofs.lemmas.UninterruptedRuns.{uninterrupted_back, uninterrupted_both, uninterrupted_end, uninterrupted_entries, uninterrupted_entry, uninterrupted_front, uninterrupted_more, uninterrupted_past, listing}
 

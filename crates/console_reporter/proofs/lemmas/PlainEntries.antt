@@ -1,13 +1,17 @@
 -- The entries of the calls, and what is given for them (for `free-event_parts`).
 use Rattle.std.proofs.Common.{◌≡◌, ℕ, Bool, true, false, cond, refl, List, [], ◌∷◌, ◌++◌, Option, None, Some, ap₂}
-use Rattle.{styled_text.specs.Names.AllByRecursion, styled_text.specs.Names.option_to_list, reporter_state.proofs.lemmas.Keys.is_before-ranks, reporter_state.proofs.lemmas.Orders.All-ordered_by, report_words.specs.Names.Styles, report_words.specs.Names.HoldsIf, report_words.specs.Names.paint}
+use Rattle.report_words.specs.Names.{Styles, HoldsIf, paint}
+use Rattle.{styled_text.specs.Names.AllByRecursion, styled_text.specs.Names.option_to_list, reporter_state.proofs.lemmas.Keys.is_before-ranks, reporter_state.proofs.lemmas.Orders.All-ordered_by}
 use Rattle.text_parts.specs.Names.{TestEventKind, ReportCall, IsPlainResult, IsPlainWritten, unit_output, display_of, is_final_wanted, timed_at_end}
-use Rattle.run_model.specs.declared.{event.TestEventKind.TheVariants.TestFinished, event.TestEventKind.TheVariants.TestSkipped, call.ReportCall.TheVariants.Event, call.ReportCall.TheVariants.Header, call.ReportCall.TheVariants.Prefix}
+use Rattle.run_model.specs.declared.call.ReportCall.TheVariants.{Event, Header, Prefix}
+use Rattle.run_model.specs.declared.{event.TestEventKind.TheVariants.TestFinished, event.TestEventKind.TheVariants.TestSkipped}
 use Rattle.reporter_state.specs.Names.{CountedInstance, Settings, FinishReport, test_finish, final_output, finished_entry, is_kept, is_skip_kept, entry_of, cancel, prefix, kept, final_order, is_before, final_text, entries_text, borrowed_test}
-use Rattle.reporter_state.specs.declared.final_output.{FinalOutput.FinalOutput, FinalOutputEntry.FinalOutputEntry, FinalOutput.TheVariants.Executed, FinalOutput.TheVariants.ExecutedWithOutput, FinalOutput.TheVariants.Skipped}
+use Rattle.reporter_state.specs.declared.final_output.FinalOutput.TheVariants.{Executed, ExecutedWithOutput, Skipped}
+use Rattle.reporter_state.specs.declared.final_output.{FinalOutput.FinalOutput, FinalOutputEntry.FinalOutputEntry}
 use Rattle.{report_words.proofs.lemmas.PartsInColour.AreFree, text_parts.proofs.lemmas.OutputColourPairs.free-unit_output, test_text.specs.declared.status_line.StatusLineKind.TheVariants.Final, test_text.proofs.lemmas.FreeTests.free-skip_line}
 use Rattle.text_parts.proofs.lemmas.LineColourPairs.{painted, IsPlainTest, plain-finished_counter, plain-padded}
-use Rattle.{test_text.proofs.lemmas.FreeStatusLines.IsPlainFinish, test_text.proofs.lemmas.FreeStatusLines.free-status_line, console_reporter.specs.Names.IsPlainPrefix, console_reporter.specs.Names.IsPlainKind, console_reporter.specs.Names.IsPlainCall}
+use Rattle.console_reporter.specs.Names.{IsPlainPrefix, IsPlainKind, IsPlainCall}
+use Rattle.{test_text.proofs.lemmas.FreeStatusLines.IsPlainFinish, test_text.proofs.lemmas.FreeStatusLines.free-status_line}
 use Rattle.run_names.specs.declared.unit.UnitKind.TheVariants as unit
 
 -- an entry holds no escape character, except in an output that may

@@ -4,7 +4,8 @@ use Rattle.std.proofs.Common.{◌≡◌, ◌⊎◌, Bool, true, false, inl, inr,
 use Rattle.styled_text.specs.Names.{is_some, Text, Meaning, WriterLaws}
 use Rattle.console_reporter.specs.Names.{Configuration, config_of, HasFailed, MayGrowIn, StandsAfter, HasFront, AreDelivered, Breaks, IsDelivered, IsNeverRefused, IsSameReporter, Promises, Tells, refusal_for, DisplayReporter, WriteEventError}
 use Rattle.console_reporter.proofs.lemmas.{Refusals.breaks_refused, Refusals.not_refused, Refusals.told_none, Stores.same-store, Stores.store-laws, Texts.of_lines-told}
-use Rattle.{text_parts.specs.Names.ReportCall, text_parts.specs.Names.TestEvent, run_model.specs.declared.call.ReportCall.TheVariants.Event, reporter_state.specs.Refusals.decider_by, reporter_state.specs.Refusals.event_refusal, reporter_state.specs.Refusals.refusal_in}
+use Rattle.reporter_state.specs.Refusals.{decider_by, event_refusal, refusal_in}
+use Rattle.{text_parts.specs.Names.ReportCall, text_parts.specs.Names.TestEvent, run_model.specs.declared.call.ReportCall.TheVariants.Event}
 use Rattle.reporter_state.specs.declared.faults.WriteEventError.TheVariants.{Failed, Io, Memory, StoreIo}
 
 failed_not_io : Failed ≡ Io → ⊥

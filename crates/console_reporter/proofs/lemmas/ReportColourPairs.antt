@@ -2,11 +2,13 @@
 use Rattle.reporter_state.specs.Names.{Settings, line_at_once, output_at_once, test_finished_text, attempt_failed_text, failed_output, is_failed_output_shown, test_skipped_text, has_number, is_level_exceeded, slow_text, terminating_text, terminating_word, test_slow_text, command_text}
 use Rattle.console_reporter.specs.Names.{IsPlainPrefix, replay_header_text, failed_script_output, setup_script_finished_text, setup_script_slow_text, run_started_text, starting_line, info_response_text, script_answer, test_answer, unit_answer, valid_output, in_colour, ColourLaw, Configuration}
 use Rattle.std.proofs.Common.{◌≡◌, ℕ, zero, suc, Bool, true, false, refl, sym, subst, List, [], ◌∷◌, Option, None, Some, take, reverse, slice_get}
-use Rattle.{styled_text.specs.Names.AllByRecursion, styled_text.specs.Names.option_map_or, styled_text.specs.Names.HasNoEscape, styled_text.specs.Names.styles_of, report_words.specs.Names.Styles, report_words.specs.Names.HoldsIf, report_words.specs.Names.IsColourPair, report_words.specs.Names.paint}
+use Rattle.styled_text.specs.Names.{AllByRecursion, option_map_or, HasNoEscape, styles_of}
+use Rattle.report_words.specs.Names.{Styles, HoldsIf, IsColourPair, paint}
 use Rattle.{std.proofs.lemmas.List.reverse-append, text_parts.proofs.lemmas.LineColourPairs.painted, test_text.proofs.lemmas.FreeStatusLines.free-test_finished_text, info_text.proofs.lemmas.FreeResponses.free-info_response_text}
 use Rattle.text_parts.specs.Names.{TestEventKind, ReportCall, unit_output, display_of, is_line_shown, is_level_shown, shows_starts}
 use Rattle.run_model.specs.declared.event.TestEventKind.TheVariants.{RunStarted, SetupScriptStarted, SetupScriptSlow, SetupScriptFinished, TestStarted, TestSlow, TestAttemptFailedWillRetry, TestRetryStarted, TestFinished, TestSkipped, InfoResponse, RunFinished}
-use Rattle.run_model.specs.declared.{info.InfoResponse.TheVariants.SetupScript, info.InfoResponse.TheVariants.Test, call.ReportCall.TheVariants.Event, call.ReportCall.TheVariants.Header, call.ReportCall.TheVariants.Prefix}
+use Rattle.run_model.specs.declared.call.ReportCall.TheVariants.{Event, Header, Prefix}
+use Rattle.run_model.specs.declared.{info.InfoResponse.TheVariants.SetupScript, info.InfoResponse.TheVariants.Test}
 use Rattle.report_words.proofs.lemmas.{ColourPairs.colour_pair-none, ColourPairs.colour_pair-append, ColourPairs.colour_pair-whole, PartsInColour.AreFree, PartsInColour.in_colour as parts_in_colour}
 use Rattle.reporter_state.specs.Names.{retry_start_line, start_line, test_retry_started_text, test_started_text, cancel, prefix, kept, final_order}
 use Rattle.test_text.proofs.lemmas.FreeTests.{free-test_started_text, free-test_slow_text, free-attempt_failed_text, free-test_retry_started_text, free-test_skipped_text}

@@ -5,7 +5,8 @@ use Rattle.{std.proofs.lemmas.Result.on_ok_weaker, std.proofs.lemmas.Result.IfEr
 use Rattle.styled_text.specs.Names.{option_map_or, Text, Meaning, WriterLaws, successor}
 use Rattle.console_reporter.specs.Names.{MayGrowFor, Promises, Tells, TellsRun, past_with, DisplayReporter, Store, WriteEventError}
 use Rattle.reporter_state.specs.declared.faults.WriteEventError.TheVariants.{Failed, Io, Memory, OutputNotLoaded, RetriedSuccess, StoreIo}
-use Rattle.console_reporter.proofs.lemmas.{Calls.err_here, Calls.ok_here, Calls.stopped_device, Calls.stopped_known, Independence.order_independent, Independence.stats_independent, ReportColourPairs.colour_holds, ReportColourPairs.plain_holds}
+use Rattle.console_reporter.proofs.lemmas.Calls.{err_here, ok_here, stopped_device, stopped_known}
+use Rattle.console_reporter.proofs.lemmas.{Independence.order_independent, Independence.stats_independent, ReportColourPairs.colour_holds, ReportColourPairs.plain_holds}
 use Rattle.console_reporter.proofs.lemmas.Stores.{absent_stop, same-store-after, stopped_there, store-laws, store-nothing}
 
 pub same-after : {W S : Type 0} {a b c : DisplayReporter W S} → IsSameReporter a b → IsSameReporter b c → IsSameReporter a c

@@ -1,8 +1,10 @@
 -- What the end of an uninterrupted run shows (for `run_report`, `DisplayReporter::output_load_decider`).
 use Rattle.std.proofs.Common.{◌≡◌, ℕ, ◌<◌, true, List, [], ◌∷◌, ◌++◌, None, refl, sym, ap, ◌∙◌, reverse, append-nil, append_assoc, arith, subst, nat_lt}
 use Rattle.{styled_text.specs.Names.flat_map, styled_text.specs.Names.option_to_list, text_parts.proofs.lemmas.Finishes.row_below, reporter_state.specs.declared.final_output.FinalOutputEntry.FinalOutputEntry}
-use Rattle.{text_parts.specs.Names.TestEvent, text_parts.specs.Names.TestEventKind, text_parts.specs.Names.ReportCall, std.proofs.lemmas.Bool.false≢true, std.proofs.lemmas.Bool.Decides.nat_tests, std.proofs.lemmas.List.reverse-append}
-use Rattle.run_model.specs.declared.{event.TestEventKind.TheVariants.TestFinished, event.TestEventKind.TheVariants.RunFinished, call.ReportCall.TheVariants.Event, call.ReportCall.TheVariants.Header, call.ReportCall.TheVariants.Prefix}
+use Rattle.text_parts.specs.Names.{TestEvent, TestEventKind, ReportCall}
+use Rattle.{std.proofs.lemmas.Bool.false≢true, std.proofs.lemmas.Bool.Decides.nat_tests, std.proofs.lemmas.List.reverse-append}
+use Rattle.run_model.specs.declared.call.ReportCall.TheVariants.{Event, Header, Prefix}
+use Rattle.run_model.specs.declared.{event.TestEventKind.TheVariants.TestFinished, event.TestEventKind.TheVariants.RunFinished}
 use Rattle.reporter_state.specs.Names.{Settings, entry_of, cancel, final_order, kept}
 use Rattle.console_reporter.specs.Names.{AreUninterrupted, carried_reason, is_end_of_run, Configuration, settings_of, Known, event_text, listed_text, text}
 

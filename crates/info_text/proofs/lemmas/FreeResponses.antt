@@ -6,7 +6,8 @@ use Rattle.text_parts.specs.Names.{InfoResponse, UnitState, ExecutionResultDescr
 use Rattle.text_parts.{specs.declared.settings.Settings.Settings, proofs.lemmas.ResultColourPairs.free-info_text, proofs.lemmas.LineColourPairs.free-instance_end, proofs.lemmas.LineColourPairs.free-shown_script}
 use Rattle.run_model.specs.declared.info.UnitState.TheVariants.{Running, Exiting, Terminating, Exited, DelayBeforeNextAttempt}
 use Rattle.unit_report.proofs.lemmas.UnitColourPairs.{IsColourPairOfLayout, colour_pair-label, colour_pair-execution_output}
-use Rattle.info_text.specs.{PlainResponses.IsPlainResponse, PlainResponses.IsPlainState, declared.state.InfoUnit.InfoUnit, State.tentative_info, State.exited_text, State.exiting_line, State.terminating_note, State.waiting_line, State.state_line, State.state_note, State.state_text}
+use Rattle.info_text.specs.State.{tentative_info, exited_text, exiting_line, terminating_note, waiting_line, state_line, state_note, state_text}
+use Rattle.info_text.specs.{PlainResponses.IsPlainResponse, PlainResponses.IsPlainState, declared.state.InfoUnit.InfoUnit}
 use Rattle.info_text.specs.Response.{info_layout, valid_output, unit_answer, answering_script, script_unit, script_answer, test_unit, test_answer, info_response_text}
 
 free-tentative_info : (k is_slow : Bool) (result : Option ExecutionResultDescription) → HoldsIf IsPlainResult result → AreFree k (tentative_info is_slow result)

@@ -1,5 +1,7 @@
 -- A kept test is shown like the test that it copies (for `write_entry`).
-use Rattle.{std.proofs.Common.◌≡◌, std.proofs.Common.refl, std.proofs.Common.subst, report_words.specs.Names.Styles, report_words.specs.Names.paint, text_parts.specs.Names.StatusSummary, text_parts.specs.Names.instance_end, text_parts.specs.Names.untimed_end}
+use Rattle.std.proofs.Common.{◌≡◌, refl, subst}
+use Rattle.text_parts.specs.Names.{StatusSummary, instance_end, untimed_end}
+use Rattle.{report_words.specs.Names.Styles, report_words.specs.Names.paint}
 use Rattle.reporter_state.specs.Names.{skip_line, status_line, StatusLineKind, borrowed_test, kept_test, KeptTest, CountedInstance}
 
 pub line_of_kept : (s : Styles) (kind : StatusLineKind) (a : CountedInstance) (t : KeptTest) (x : StatusSummary) → kept_test a ≡ t → paint s (status_line kind a x) ≡ paint s (status_line kind (borrowed_test t) x)

@@ -1,6 +1,7 @@
 -- The decision from an event's metadata is the one from the event (for `should_load`).
 use Rattle.std.proofs.Common.{◌≡◌, Bool, true, false, ◌==◌, length, if◌then◌else◌, refl, ap, sym}
-use Rattle.run_model.specs.{Names.Attempts, Names.is_success, Names.is_success_case, Names.summary_of, Names.TestOutputDisplay, declared.status.StatusCase.TheVariants.Success, declared.status.StatusCase.TheVariants.Flaky, declared.status.StatusCase.TheVariants.Failure}
+use Rattle.run_model.specs.Names.{Attempts, is_success, is_success_case, summary_of, TestOutputDisplay}
+use Rattle.run_model.specs.{declared.status.StatusCase.TheVariants.Success, declared.status.StatusCase.TheVariants.Flaky, declared.status.StatusCase.TheVariants.Failure}
 use Rattle.text_parts.specs.Names.{OutputEventKind, FlakyResult}
 use Rattle.reporter_state.specs.Names.{loads, loads_attempt, loads_finish, loads_script, HasMetadata, loads_by_metadata, loads_last, OutputLoadDecider, OutputMetadata}
 use Rattle.reporter_state.specs.declared.decider.OutputMetadata.TheVariants.{SetupScriptFinished, TestAttemptFailedWillRetry, TestFinished}

@@ -1,7 +1,9 @@
 -- Lists in order, with ties in their order of arrival: there is exactly one (for the lemmas of Inserts, Pasts).
 use Rattle.std.proofs.Common.{suc-add, ap₂, ◌≡◌, zero, suc, Bool, true, false, not, cond, List, [], ◌∷◌, ◌++◌, filter, reverse, refl, sym, ◌∙◌, ap, arith, inl, inr, IsSortedBy}
-use Rattle.{styled_text.specs.Names.IsStrictWeakOrder, styled_text.specs.Names.AllByRecursion, styled_text.specs.Names.ties, styled_text.specs.Names.IsStableBy, reporter_state.specs.Order.put_in, reporter_state.specs.Order.ordered_by}
-use Rattle.std.proofs.lemmas.{Bool.false≢true, Bool.cases_Bool, Bool.and_parts, Bool.not-true, Grind.reverse_onto}
+use Rattle.styled_text.specs.Names.{IsStrictWeakOrder, AllByRecursion, ties, IsStableBy}
+use Rattle.{reporter_state.specs.Order.put_in, reporter_state.specs.Order.ordered_by}
+use Rattle.std.proofs.lemmas.Bool.{false≢true, cases_Bool, and_parts, not-true}
+use Rattle.std.proofs.lemmas.Grind.{reverse_onto}
 use Rattle.std.proofs.lemmas.List.{Elements.recursion_from_All, Elements.All-from_recursion, reverse-append, reverse-reverse, Sorted.sorted_far, Sorted.All-permutation, Sorted.IsPermutation-reverse}
 
 -- no element is above those after it

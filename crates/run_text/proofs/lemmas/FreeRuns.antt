@@ -1,12 +1,15 @@
 -- The texts of a run without escape characters: its id and profile, its setup scripts, and the tests that were not seen.
 use Rattle.std.proofs.Common.{ℕ, Bool, false, List, [], ◌∷◌, Option, None, Some}
-use Rattle.{styled_text.specs.Names.AllByRecursion, styled_text.specs.Names.HasNoEscape, styled_text.specs.Names.Text, run_model.specs.Names.UniquePrefix, run_model.specs.Names.NextestRunMode, run_model.specs.Names.OwnedTestInstanceId, run_model.specs.Names.NotSeen}
+use Rattle.run_model.specs.Names.{UniquePrefix, NextestRunMode, OwnedTestInstanceId, NotSeen}
+use Rattle.{styled_text.specs.Names.AllByRecursion, styled_text.specs.Names.HasNoEscape, styled_text.specs.Names.Text}
 use Rattle.text_parts.{proofs.lemmas.LineColourPairs.free-shown_script, proofs.lemmas.OutputColourPairs.free-unit_output, proofs.lemmas.ResultColourPairs.free-short_word, specs.declared.settings.Settings.Settings}
 use Rattle.{jiff_core.specs.declared.civil.datetime.DateTime.DateTime, report_words.specs.PlainTexts.HoldsIf, report_text.proofs.lemmas.InstanceColourPairs.colour_pair-test_text, unit_report.proofs.lemmas.FreeSkipCounts.free-skip_note, run_text.specs.RunId.id_text}
 use Rattle.text_parts.specs.Names.{TestCounts, ChildOutputDescription, LiveSpec, ReplayHeader, ExecutionResultDescription, SetupScriptExecuteStatus, IsPlainResult, skipped_tests_in, IsPlainScript, Script}
 use Rattle.report_words.proofs.lemmas.{ColourPairs.colour_pair-free, FreeWords.frees, FreeWords.free-last_digits, PartsInColour.AreFree, PartsInColour.AreFreeGiven}
-use Rattle.run_text.specs.{Header.date_text, Header.time_text, Header.started_text, Header.replaying_line, Header.started_line, Header.replay_header_text, PlainRuns.IsPlainHeader, PlainRuns.IsPlainNotSeen, PlainRuns.IsPlainOwned, PlainRuns.IsPlainPrefix, PlainRuns.IsPlainScriptStatus}
-use Rattle.run_text.specs.{NotSeen.not_seen_line, NotSeen.not_seen_note, NotSeen.not_seen_text, Start.profile_text, Start.run_id_line, Start.starting_line, Start.run_started_text}
+use Rattle.run_text.specs.Header.{date_text, time_text, started_text, replaying_line, started_line, replay_header_text}
+use Rattle.run_text.specs.PlainRuns.{IsPlainHeader, IsPlainNotSeen, IsPlainOwned, IsPlainPrefix, IsPlainScriptStatus}
+use Rattle.run_text.specs.Start.{profile_text, run_id_line, starting_line, run_started_text}
+use Rattle.run_text.specs.{NotSeen.not_seen_line, NotSeen.not_seen_note, NotSeen.not_seen_text}
 use Rattle.run_text.specs.SetupScript.{script_counter, setup_script_started_text, shown_slow_script, setup_script_slow_text, setup_script_line, failed_script_output, setup_script_finished_text}
 use Rattle.run_names.specs.declared.unit.UnitKind.TheVariants as unit
 

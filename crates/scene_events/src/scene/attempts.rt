@@ -1,6 +1,7 @@
 //! The attempts of a test in a short form: most are one attempt that wrote nothing, and a scene may hold a million.
 
-ghost use Rattle.std.specs.{Option.option_copied, Option.unwrap_or, Prelude.◌≡◌, Prelude.IfOk, Prelude.IsTrue, Prelude.OnErr, Prelude.OnOk, Prelude.length};
+ghost use Rattle.std.specs.Prelude.{◌≡◌, IfOk, IsTrue, OnErr, OnOk, length};
+ghost use Rattle.std.specs.{Option.option_copied, Option.unwrap_or};
 ghost use Rattle.scene_events.specs.{SceneAttempts.attempt_of, SceneAttempts.before_last, SceneAttempts.marks_of, SceneOutputs.no_output};
 
 use super::outputs::{AttemptOutput, SceneOutput};
@@ -372,7 +373,8 @@ impl Model for SceneAttempt {
 }
 
 impl SceneAttempt {
-    ghost use Rattle.{run_model.specs.Names.attempt_with_output, run_model.specs.Names.has_loaded_output, run_model.specs.Names.is_success, scene_events.specs.SceneAttempts.script_status, scene_events.specs.SceneOutputs.written, std.specs.Prelude.Some};
+    ghost use Rattle.run_model.specs.Names.{attempt_with_output, has_loaded_output, is_success};
+    ghost use Rattle.{scene_events.specs.SceneAttempts.script_status, scene_events.specs.SceneOutputs.written, std.specs.Prelude.Some};
 
     /// An attempt with this result, duration and output.
     pub fn new(

@@ -1,7 +1,8 @@
 //! The output of an attempt, as a scene holds it: how the attempt ended is beside it, and is not held twice.
 
 ghost use Rattle.scene_events.specs.SceneOutputs.{is_output_there, loaded, no_output, written};
-ghost use Rattle.std.specs.{Option.option_copied, Option.unwrap_or, Prelude.◌≡◌, Prelude.IfOk, Prelude.OnErr, Prelude.OnOk};
+ghost use Rattle.std.specs.Prelude.{◌≡◌, IfOk, OnErr, OnOk};
+ghost use Rattle.std.specs.{Option.option_copied, Option.unwrap_or};
 
 use run_model::boxed::Boxed;
 use run_model::memory::OutOfMemory;

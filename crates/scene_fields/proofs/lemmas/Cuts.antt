@@ -1,6 +1,7 @@
 -- The cut of a text at a byte (for `first_line`, `split_at_byte`, `split_fields`, `read_owned`).
 use Rattle.std.proofs.Common.{◌≡◌, ℕ, zero, suc, ◌+◌, ◌-◌, ◌<◌, ◌≤◌, List, [], ◌∷◌, ◌++◌, true, false, length, length-drop, get_or, take, drop, refl, ap, sym, ◌∙◌, ◌==◌, Option, None, Some, subst, arith, add-one, take-append-drop}
-use Rattle.{std.proofs.Math.Seq.drop-cons, std.proofs.Math.Seq.take-length, std.proofs.lemmas.Bool.false_from_ne_true, std.proofs.lemmas.Bool.Decides.nat_tests, std.specs.Option.is_some, scene_fields.specs.Split.Lacks, scene_fields.specs.Split.split_on, scene_fields.specs.Split.cut}
+use Rattle.scene_fields.specs.Split.{Lacks, split_on, cut}
+use Rattle.{std.proofs.Math.Seq.drop-cons, std.proofs.Math.Seq.take-length, std.proofs.lemmas.Bool.false_from_ne_true, std.proofs.lemmas.Bool.Decides.nat_tests, std.specs.Option.is_some}
 use Rattle.memchr.specs.Find.{IsFirstByte, is_byte, Nowhere, NoneBefore, Passes}
 
 -- the part of a list from a place to its end

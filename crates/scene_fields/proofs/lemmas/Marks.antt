@@ -1,6 +1,7 @@
 -- The positions of a byte as the bits of a mask (for `load_block`, `find_byte`, `marks_from`, `plain_len`, `split_fields`).
 use Rattle.std.proofs.Common.{◌≡◌, ◌≢◌, ℕ, zero, suc, ◌+◌, ◌-◌, ◌*◌, ◌/◌, ◌^◌, ◌<◌, ◌≤◌, ◌==◌, ◌++◌, ◌∙◌, List, [], ◌∷◌, Bool, false, not, cond, length, get_or, drop, take, min, map, replicate, refl, ap, sym, arith, inl, inr, w64, div-one, mul_comm, pow-suc, true≢false, drop-drop, length-drop}
-use Rattle.{std.proofs.Common.length-take, std.proofs.Common.take_all, std.specs.Int.trailing_zeros, std.specs.List.prefix_len, std.specs.Simd.Lanes.chunk, std.specs.Simd.Lanes.mask_l, memchr.specs.Find.is_byte, memchr.specs.Find.Nowhere, memchr.specs.Find.NoneBefore, memchr.specs.Find.Passes}
+use Rattle.memchr.specs.Find.{is_byte, Nowhere, NoneBefore, Passes}
+use Rattle.{std.proofs.Common.length-take, std.proofs.Common.take_all, std.specs.Int.trailing_zeros, std.specs.List.prefix_len, std.specs.Simd.Lanes.chunk, std.specs.Simd.Lanes.mask_l}
 use native.Mathlib.Nat.{div-div-eq-div-mul, zero-div}
 use Rattle.std.proofs.lemmas.{Bool.cases_Bool, Bool.cases_lt, Bool.not-true, Bool.Decides.nat_tests, List.drop-map, List.drop-take, List.drop_all, List.Sums.prefix_len-le-length, List.Sums.prefix_len_passes}
 use Rattle.std.proofs.lemmas.Simd.{leading_from_mask_l, length-chunk, run_in_chunk_fails, run_in_chunk_stops, trailing_mask_l}

@@ -1,6 +1,7 @@
 -- Numbers as a test reads them (for `read_code`, `read_count`, `read_small_count`, `read_wide_count`).
 use Rattle.std.proofs.Common.{◌≡◌, ℕ, ◌<◌, ◌^◌, List, [], ◌∷◌, Bool, length, drop, cond, refl, ap, sym, if◌then◌else◌, None, Some, Option, ℤ, pos, negsuc, arith, inl, inr, FitsSigned}
-use Rattle.std.specs.{Bool.Decides, Option.SomeIff, Char.digit_value, Int.w32, Str.Parse.IsNumeral, Str.Parse.AllDigits, Str.Parse.digits_value, Str.Parse.starts_with_minus, Str.Parse.signed_digits_value}
+use Rattle.std.specs.Str.Parse.{IsNumeral, AllDigits, digits_value, starts_with_minus, signed_digits_value}
+use Rattle.std.specs.{Bool.Decides, Option.SomeIff, Char.digit_value, Int.w32}
 use Rattle.std.proofs.lemmas.Bool.{cases_Bool, Decides.Decides-and, Decides.Decides-ltb, Decides.nat_tests}
 use Rattle.scene_fields.specs.Numbers.{are_digits, is_numeral, number_in, IsSigned, fits_code, code_in}
 

@@ -1,6 +1,7 @@
 -- Worked rows: what the definitions say of references that are written out.
 use Rattle.std.proofs.Common.{◌≡◌, ℕ, List, [], ◌∷◌, ◌++◌, codes, refl, None, Some}
-use Rattle.{hex.proofs.OnLiterals.hex_on_literals, scene_fields.specs.Numbers.number_in, scene_fields.specs.Split.cut, scene_fields.specs.References.after_mark, scene_fields.specs.References.reference_in, scene_fields.specs.References.sum_in}
+use Rattle.scene_fields.specs.References.{after_mark, reference_in, sum_in}
+use Rattle.{hex.proofs.OnLiterals.hex_on_literals, scene_fields.specs.Numbers.number_in, scene_fields.specs.Split.cut}
 
 -- the sum of no byte, as text and as bytes
 abbrev sum_text : List ℕ

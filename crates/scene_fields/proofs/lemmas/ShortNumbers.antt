@@ -1,8 +1,10 @@
 -- Reading a short number digit by digit, as a loop does (for `leading_number`, `short_number`).
 use Rattle.std.proofs.Common.{◌≡◌, ℕ, zero, suc, ◌+◌, ◌-◌, ◌*◌, ◌^◌, ◌<◌, ◌≤◌, List, [], ◌∷◌, ◌++◌, true, length, length-append, length-take-le, get_or, get_or-take, take, drop, take-append-drop, ap, sym, ◌∙◌, subst, add-one, arith, inl, inr}
-use Rattle.{std.specs.Char.digit_value, std.specs.Int.IsInRange, std.specs.Str.Parse.AllDigits, std.specs.Str.Parse.IsNumeral, std.specs.Str.Parse.digits_value, scene_fields.specs.Numbers.IsLeadingNumber, scene_fields.specs.Numbers.starts_with_digit}
+use Rattle.std.specs.Str.Parse.{AllDigits, IsNumeral, digits_value}
+use Rattle.{std.specs.Char.digit_value, std.specs.Int.IsInRange, scene_fields.specs.Numbers.IsLeadingNumber, scene_fields.specs.Numbers.starts_with_digit}
 use native.Mathlib.Nat.{pow-succ', pow-le-pow_right}
-use Rattle.std.proofs.lemmas.{Int.Digits.digits_value_more, Str.digit_value_digit, Bool.cases_lt, Bool.Decides.Decides-ltb, Str.Parse.IsNumeralModel, Str.Parse.digit_at, Str.Parse.numerals_by_value, Str.Parse.tells_by_index}
+use Rattle.std.proofs.lemmas.Str.Parse.{IsNumeralModel, digit_at, numerals_by_value, tells_by_index}
+use Rattle.std.proofs.lemmas.{Int.Digits.digits_value_more, Str.digit_value_digit, Bool.cases_lt, Bool.Decides.Decides-ltb}
 
 -- the first bytes are digits, and write the number
 pub record IsNumberSoFar (t : List ℕ) (i n : ℕ) : Type 0 where

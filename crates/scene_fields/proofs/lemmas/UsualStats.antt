@@ -2,8 +2,11 @@
 use Rattle.std.proofs.Common.{◌≡◌, ℕ, zero, suc, ◌+◌, ◌^◌, ◌<◌, ◌≤◌, ◌≢◌, List, [], ◌∷◌, ◌++◌, Bool, true, false, not, ◌==◌, length, take, take-append-drop, take_all, drop, get_or, set, get_or-set_other, rules, replicate, codes, Option, Some, refl, ap, sym, ◌∙◌, append_assoc, arith, inl, inr}
 use Rattle.std.{proofs.Common.append-nil, proofs.lemmas.Int.Digits.digits_value-lt, proofs.lemmas.Bool.Decides.nat_tests, proofs.lemmas.List.take-append-le, specs.Bool.Decides, specs.Char.digit_value, specs.Option.option_map, specs.Str.Parse.AllDigits, specs.Str.Parse.digits_value}
 use native.Mathlib.Nat.{pow-le-pow_right}
-use Rattle.{run_model.specs.Stats.planned_stats, run_model.specs.declared.stats.RunStats.RunStats, scene_fields.proofs.lemmas.Cuts.cut-parts, scene_fields.proofs.lemmas.Cuts.split_on-lacks, scene_fields.proofs.lemmas.Cuts.split_on-parts, scene_fields.proofs.lemmas.Numbers.number_by}
-use Rattle.scene_fields.specs.{Counts.in_turn, Counts.pair_in, Counts.row_in, Counts.stats_in, Counts.stats_rows, Numbers.IsLeadingNumber, Numbers.IsNumberAfter, Numbers.IsNumberOrZero, Numbers.number_in, Split.Lacks, Split.split_on}
+use Rattle.scene_fields.proofs.lemmas.Cuts.{cut-parts, split_on-lacks, split_on-parts}
+use Rattle.{run_model.specs.Stats.planned_stats, run_model.specs.declared.stats.RunStats.RunStats, scene_fields.proofs.lemmas.Numbers.number_by}
+use Rattle.scene_fields.specs.Counts.{in_turn, pair_in, row_in, stats_in, stats_rows}
+use Rattle.scene_fields.specs.Numbers.{IsLeadingNumber, IsNumberAfter, IsNumberOrZero, number_in}
+use Rattle.scene_fields.specs.{Split.Lacks, Split.split_on}
 
 -- the text after a key of n bytes
 pub behind_key : (key t front behind : List ℕ) (n : ℕ) → front ≡ take n t → behind ≡ drop n t → front ≡ key → t ≡ key ++ behind

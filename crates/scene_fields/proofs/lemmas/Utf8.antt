@@ -1,6 +1,8 @@
 -- The test for UTF-8, and what it means (for `OwnedText`, `read_line`).
-use Rattle.std.{proofs.Common.◌≡◌, proofs.Common.ℕ, proofs.Common.◌+◌, proofs.Common.◌<◌, proofs.Common.List, proofs.Common.true, proofs.Common.false, proofs.Common.get_or, proofs.Common.length, proofs.Common.take, proofs.Common.drop, specs.Str.IsUtf8, specs.Str.is_utf8}
-use Rattle.std.proofs.lemmas.{Bool.false_from_ne_true, Str.IsCharBoundary-after_ascii, Str.IsCharBoundary-before_ascii, Str.IsUtf8-drop, Str.IsUtf8-from_is_utf8, Str.IsUtf8-take, Str.is_utf8-from_IsUtf8}
+use Rattle.std.proofs.Common.{◌≡◌, ℕ, ◌+◌, ◌<◌, List, true, false, get_or, length, take, drop}
+use Rattle.std.{specs.Str.IsUtf8, specs.Str.is_utf8}
+use Rattle.std.proofs.lemmas.Str.{IsCharBoundary-after_ascii, IsCharBoundary-before_ascii, IsUtf8-drop, IsUtf8-from_is_utf8, IsUtf8-take, is_utf8-from_IsUtf8}
+use Rattle.std.proofs.lemmas.Bool.{false_from_ne_true}
 
 pub utf8_passes : (t : List ℕ) → IsUtf8 t → is_utf8 t ≡ true
 utf8_passes t h = is_utf8-from_IsUtf8 t h

@@ -1,5 +1,6 @@
 -- The output of an attempt or of a setup script, without escape characters (for the lines that it follows).
-use Rattle.{std.proofs.Common.◌≡◌, std.proofs.Common.Bool, std.proofs.Common.true, std.proofs.Common.false, std.proofs.Common.refl, styled_text.specs.Names.without_end_spaces, styled_text.specs.Names.styles_of, styled_text.specs.declared.style.Style.Style}
+use Rattle.std.proofs.Common.{◌≡◌, Bool, true, false, refl}
+use Rattle.{styled_text.specs.Names.without_end_spaces, styled_text.specs.Names.styles_of, styled_text.specs.declared.style.Style.Style}
 use Rattle.{run_model.specs.Names.UnitKind, run_model.specs.Names.Written, report_words.proofs.lemmas.PartsInColour.AreFree, text_parts.proofs.lemmas.ResultColourPairs.free-info_text}
 use Rattle.text_parts.specs.Names.{IsPlainResult, IsPlainWritten, header_style, layout_in, shown_info_line, info_line, unit_output, Settings, ThemeCharacters, ExecutionResultDescription}
 use Rattle.unit_report.proofs.lemmas.UnitColourPairs.{IsColourPairOfLayout, colour_pair-bars, colour_pair-execution_output}

@@ -1,11 +1,13 @@
 -- Captured output with its highlight, in colour and plain (for `colour_pair-shown_stream`).
 use Rattle.std.proofs.Common.{◌≡◌, ℕ, ◌<◌, Bool, true, false, List, [], ◌∷◌, ◌++◌, refl, sym, ◌∙◌, ap, ap₂, arith, inl, inr, append_assoc, append-nil, Option, None, Some, length, take, drop, take-append-drop, drop-drop, length-drop, ◌==◌, eqb-true}
 use Rattle.styled_text.specs.Names.{AllByRecursion, flat_map, without_trailing_newline, ends_in_line_feed, visible_after, visible, HasNoEscape, highlight_end, indent, plain, styles_of, reset_color, style_suffix, Text, onto_first_line, whole_lines, without_end_spaces}
-use Rattle.{report_words.specs.Names.Style, report_words.specs.Names.IsColourPair, report_words.specs.Names.HoldsIf, std.proofs.lemmas.Bool.cases_Bool, run_model.specs.Names.Part, run_model.specs.Names.decoded_text}
+use Rattle.report_words.specs.Names.{Style, IsColourPair, HoldsIf}
+use Rattle.{std.proofs.lemmas.Bool.cases_Bool, run_model.specs.Names.Part, run_model.specs.Names.decoded_text}
 use Rattle.unit_report.specs.Captured.{plain_output, reset_output, highlighted_output, is_valid, highlight_stop, highlighted_by, coloured_output, captured}
 use Rattle.unit_report.specs.{HighlightedLines.body_len, HighlightedLines.highlighted_line, HighlightedLines.highlighted_lines, PlainOutputs.IsInside, PlainOutputs.IsPlainStream}
 use Rattle.styled_text.proofs.lemmas.{Pieces.free_parts, Pieces.visible-free, IndentedEndSpaces.IsBlank, Widths.free_both, Widths.visible-free_append}
-use Rattle.report_words.proofs.lemmas.{FreeWords.free-take, FreeWords.free-drop, FreeWords.free-indent, FreeWords.free-visible, ColourPairs.prefix-append, ColourPairs.suffix-append, ColourPairs.reset-append, ColourPairs.colour_pair-indent}
+use Rattle.report_words.proofs.lemmas.FreeWords.{free-take, free-drop, free-indent, free-visible}
+use Rattle.report_words.proofs.lemmas.ColourPairs.{prefix-append, suffix-append, reset-append, colour_pair-indent}
 
 -- both texts close with a line feed, and before it the visible part of the first is the second
 pub record IsEndedColour (c u : Text) : Type 0 where

@@ -1,5 +1,6 @@
 -- What a run skips, for a profile name without escape characters (for the line of its start).
-use Rattle.{std.proofs.Common.ℕ, std.proofs.Common.Bool, std.proofs.Common.codes, std.proofs.Common.refl, styled_text.specs.Names.Text, styled_text.specs.Names.HasNoEscape, styled_text.proofs.lemmas.Widths.free_both, report_words.proofs.lemmas.PartsInColour.AreFree}
+use Rattle.std.proofs.Common.{ℕ, Bool, codes, refl}
+use Rattle.{styled_text.specs.Names.Text, styled_text.specs.Names.HasNoEscape, styled_text.proofs.lemmas.Widths.free_both, report_words.proofs.lemmas.PartsInColour.AreFree}
 use Rattle.run_model.specs.{Names.CompiledDefaultFilter, Names.CompiledDefaultFilterSection, Names.NextestRunMode, declared.event.SkipCounts.SkipCounts}
 use Rattle.run_names.specs.declared.config.CompiledDefaultFilterSection.TheVariants.{Profile, Override}
 use Rattle.unit_report.specs.SkipCounts.{override_name, filter_name, via_filter, filtered_text, included_text, skip_reason, skip_note}

@@ -1,6 +1,7 @@
 -- Highlights that are valid (for `split_highlight`).
 use Rattle.std.proofs.Common.{◌≡◌, ℕ, true, false, ◌==◌, ◌&&◌, Bool, refl, ◌∙◌, arith, drop, drop-drop}
-use Rattle.{std.proofs.lemmas.Bool.Decides.nat_tests, std.proofs.lemmas.Str.IsCharBoundary-from_rest, run_model.specs.Outputs.Part, unit_report.specs.Captured.ends_character, unit_report.specs.Captured.highlight_stop, unit_report.specs.Captured.is_valid}
+use Rattle.unit_report.specs.Captured.{ends_character, highlight_stop, is_valid}
+use Rattle.{std.proofs.lemmas.Bool.Decides.nat_tests, std.proofs.lemmas.Str.IsCharBoundary-from_rest, run_model.specs.Outputs.Part}
 use Rattle.styled_text.specs.Names.{starts_with, IsCharBoundary, highlight_end, Text}
 
 boundary-ends : (n : ℕ) (t : Text) → IsCharBoundary t n → ends_character n t ≡ true

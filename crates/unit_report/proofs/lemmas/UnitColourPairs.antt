@@ -2,14 +2,18 @@
 use Rattle.std.proofs.Common.{◌≡◌, ℕ, Bool, true, false, refl, List, [], ◌∷◌, Option, None, Some, codes}
 use Rattle.styled_text.specs.Names.{AllByRecursion, flat_map, option_and_then, Text, HasNoEscape, styles_of}
 use Rattle.report_words.specs.Names.{Style, Styles, IsColourPair, EndsLine, drawn_given, words, ◌⧺◌, HoldsIf, IsPlainChain}
-use Rattle.run_model.specs.{Names.MessageAndCauses, Names.Part, Names.stdout_part, Names.stderr_part, declared.output.ChildOutputDescription.ChildOutputDescription, declared.output.Highlight.Highlight, declared.output.LiveSpec.LiveSpec}
+use Rattle.run_model.specs.Names.{MessageAndCauses, Part, stdout_part, stderr_part}
+use Rattle.run_model.specs.{declared.output.ChildOutputDescription.ChildOutputDescription, declared.output.Highlight.Highlight, declared.output.LiveSpec.LiveSpec}
 use Rattle.run_model.specs.declared.output.ChildExecutionOutputDescription.{ChildExecutionOutputDescription, TheVariants.Output, TheVariants.StartError}
 use Rattle.run_model.specs.declared.output.ChildOutputDescription.TheVariants.{Split, Combined, NotLoaded}
 use Rattle.{report_words.specs.declared.theme.ThemeCharacters.ThemeCharacters, styled_text.proofs.lemmas.IndentedEndSpaces.IsBlank, unit_report.proofs.lemmas.CapturedColourPairs.colour_pair-indent_ended, unit_report.proofs.lemmas.CapturedColourPairs.ended-captured}
-use Rattle.unit_report.specs.{ErrorChain.cause_text, ErrorChain.causes_text, ErrorChain.error_chain_text, Header.output_name_text, Header.bar_text, Header.header_text, PlainOutputs.IsPlainStream, PlainOutputs.IsPlainOutput, PlainOutputs.IsPlainWritten}
+use Rattle.unit_report.specs.ErrorChain.{cause_text, causes_text, error_chain_text}
+use Rattle.unit_report.specs.Header.{output_name_text, bar_text, header_text}
+use Rattle.unit_report.specs.PlainOutputs.{IsPlainStream, IsPlainOutput, IsPlainWritten}
 use Rattle.unit_report.specs.UnitOutput.{OutputLayout, not_captured_text, shown_stream, present_stream, stream_text, both_streams, split_text, child_output, errors_block, errors_text, execution_output}
 use Rattle.unit_report.specs.declared.unit_output.{header.OutputHeader.OutputHeader, header.OutputHeader.TheVariants.Bars, header.OutputHeader.TheVariants.Label, header.OutputName.OutputName, reporter.UnitOutputReporter.UnitOutputReporter}
-use Rattle.report_words.proofs.lemmas.{FreeWords.frees, PartsInColour.ends, ColourPairs.colour_pair-none, ColourPairs.colour_pair-append, ColourPairs.colour_pair-free, ColourPairs.colour_pair-if, ColourPairs.colour_pairs}
+use Rattle.report_words.proofs.lemmas.ColourPairs.{colour_pair-none, colour_pair-append, colour_pair-free, colour_pair-if, colour_pairs}
+use Rattle.report_words.proofs.lemmas.{FreeWords.frees, PartsInColour.ends}
 use Rattle.styled_text.specs.declared.style.Style.TheVariants as style
 use Rattle.unit_report.specs.declared.unit_output.header.OutputName.TheVariants as name
 

@@ -1,6 +1,7 @@
 //! Durations as the lines of a report show them.
 
-ghost use Rattle.{std.specs.Prelude.Some, styled_text.specs.Names.seconds, styled_text.specs.Names.Puts, unit_report.specs.Durations.bracketed_clock, unit_report.specs.Durations.bracketed_duration, unit_report.specs.Durations.duration_by, unit_report.specs.Durations.slow_duration};
+ghost use Rattle.unit_report.specs.Durations.{bracketed_clock, bracketed_duration, duration_by, slow_duration};
+ghost use Rattle.{std.specs.Prelude.Some, styled_text.specs.Names.seconds, styled_text.specs.Names.Puts};
 
 use report_words::durations::write_clock_between;
 use run_model::time::Nanos;

@@ -1,7 +1,8 @@
 //! The lines of a highlight. Each is styled separately, since some viewers end a style with the line.
 
 ghost use Rattle.std.specs.Prelude.{◌≡◌, take, drop};
-ghost use Rattle.{writers.specs.Writer.Puts, unit_report.specs.HighlightedLines.body_len, unit_report.specs.HighlightedLines.closes_line, unit_report.specs.HighlightedLines.highlighted_line, unit_report.specs.HighlightedLines.highlighted_lines};
+ghost use Rattle.unit_report.specs.HighlightedLines.{body_len, closes_line, highlighted_line, highlighted_lines};
+ghost use Rattle.writers.specs.Writer.{Puts};
 
 use styled_text::escapes::write_stripped;
 use styled_text::lines::split_line;

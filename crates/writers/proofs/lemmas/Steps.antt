@@ -1,6 +1,7 @@
 -- Writes in sequence (for `ColumnCounterWriteStr::write_str`, `TrailingNewline::write`, `FittedWriteStr::write_str`, `Indented::write_line` and others).
 use Rattle.std.proofs.Common.{◌≡◌, ℕ, List, [], ◌∷◌, ◌++◌, true, length, arith, ◌≤◌, take, drop, take-append-drop, ◌==◌, Result, Ok, Err, subst, sym, eqb-true}
-use Rattle.{std.proofs.lemmas.List.drop_all, writers.specs.declared.write_str.WriteFault.WriteFault, std.specs.List.flat_map, std.specs.Result.IsErrAnd, writers.specs.Writer.Meaning, writers.specs.Writer.WriterLaws, writers.specs.Writer.Puts, writers.specs.Writer.Owes}
+use Rattle.writers.specs.Writer.{Meaning, WriterLaws, Puts, Owes}
+use Rattle.{std.proofs.lemmas.List.drop_all, writers.specs.declared.write_str.WriteFault.WriteFault, std.specs.List.flat_map, std.specs.Result.IsErrAnd}
 
 module _ {S : Type 0} {m : Meaning S} (laws : WriterLaws m) where
   -- a text, and then what a call wrote

@@ -1,7 +1,8 @@
 //! What a device holds of the text that a `TextBuffer` accepted.
 
 ghost use Rattle.std.specs.Prelude.{◌≡◌, ℕ, [], List, Some};
-ghost use Rattle.writers.specs.{TextBuffer.buffer_meaning, TextBuffer.Delivers, TextBuffer.DeliversWithin, TextBuffer.GrowsWithin, declared.write_str.WriteFault.WriteFault, declared.write_str.text_buffer.TextBuffer.TextBuffer};
+ghost use Rattle.writers.specs.TextBuffer.{buffer_meaning, Delivers, DeliversWithin, GrowsWithin};
+ghost use Rattle.writers.specs.{declared.write_str.WriteFault.WriteFault, declared.write_str.text_buffer.TextBuffer.TextBuffer};
 
 use std::io::Write;
 

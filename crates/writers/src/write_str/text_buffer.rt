@@ -3,7 +3,8 @@
 //! Reports consist of short texts, and a system call for each would cost more than the texts do. The memory is reserved once,
 //! and no later call allocates.
 
-ghost use Rattle.std.specs.{Prelude.◌≡◌, Prelude.◌≤◌, Prelude.length, Prelude.take, Bool.OnTrue, Io.KnownBytes.Appends};
+ghost use Rattle.std.specs.Prelude.{◌≡◌, ◌≤◌, length, take};
+ghost use Rattle.std.specs.{Bool.OnTrue, Io.KnownBytes.Appends};
 
 use super::pending_bytes::{CAPACITY, PendingBytes};
 use super::{WriteFault, WriteStr};

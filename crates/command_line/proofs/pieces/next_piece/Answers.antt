@@ -1,5 +1,6 @@
 use Rattle.std.proofs.Common.{◌≡◌, ◌∙◌, ◌++◌, ◌==◌, [], Some, sym, ap, append-nil, arith, length}
-use Rattle.{std.specs.Io.Buffered.reader_buffer, command_line.proofs.lemmas.Pieces.at_end, command_line.proofs.lemmas.Pieces.kept_known, command_line.proofs.lemmas.Pieces.lines_behind, command_line.proofs.lemmas.Pieces.part_behind}
+use Rattle.command_line.proofs.lemmas.Pieces.{at_end, kept_known, lines_behind, part_behind}
+use Rattle.std.specs.Io.Buffered.{reader_buffer}
 use Rattle.command_line.proofs.pieces.next_piece.Goals as goal
 
 pub returns-in-Lines-clause-piece : goal.returns-in-Lines-clause-piece

@@ -1,4 +1,5 @@
-use Rattle.std.{proofs.Common.◌≡◌, proofs.Common.◌++◌, proofs.Common.ℕ, proofs.Common.List, proofs.Common.Some, specs.Io.Buffered.reader_remaining}
+use Rattle.std.proofs.Common.{◌≡◌, ◌++◌, ℕ, List, Some}
+use Rattle.std.specs.Io.Buffered.{reader_remaining}
 
 -- what was taken, and what is left, are the text
 abbrev pub invariant-loop-turn : Rattle.command_line.proofs.pieces.next_piece.Given.invariant-loop-turn

@@ -1,4 +1,5 @@
-use Rattle.{std.proofs.Common.◌+◌, std.proofs.Common.◌==◌, std.proofs.Common.drop, std.proofs.Common.arith, std.specs.Io.Buffered.reader_buffer, std.specs.Io.Buffered.reader_capacity, command_line.proofs.lemmas.Pieces.at_hand_first, command_line.proofs.lemmas.Pieces.lines_taken}
+use Rattle.std.proofs.Common.{◌+◌, ◌==◌, drop, arith}
+use Rattle.{std.specs.Io.Buffered.reader_buffer, std.specs.Io.Buffered.reader_capacity, command_line.proofs.lemmas.Pieces.at_hand_first, command_line.proofs.lemmas.Pieces.lines_taken}
 
 pub returns-in_ok-extend_from_slice-in-Some : Rattle.command_line.proofs.pieces.take_at_hand.Goals.returns-in_ok-extend_from_slice-in-Some
 returns-in_ok-extend_from_slice-in-Some g c = λ text known.

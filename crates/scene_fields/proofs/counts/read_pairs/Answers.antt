@@ -1,4 +1,5 @@
-use Rattle.scene_fields.{specs.Counts.in_turn, specs.Counts.pair_in, specs.Counts.CountedRows, specs.Counts.Row, specs.Counts.has_space, specs.Counts.new_pair, specs.Counts.row_in, specs.Split.Lacks, specs.Split.split_on, proofs.lemmas.Cuts.cut-lacks, proofs.lemmas.Cuts.cut-parts}
+use Rattle.scene_fields.specs.Counts.{in_turn, pair_in, CountedRows, Row, has_space, new_pair, row_in}
+use Rattle.scene_fields.{specs.Split.Lacks, specs.Split.split_on, proofs.lemmas.Cuts.cut-lacks, proofs.lemmas.Cuts.cut-parts}
 use Rattle.std.proofs.Common.{◌≡◌, List, [], ◌∷◌, ◌++◌, ◌+◌, ℕ, true, false, ◌==◌, Option, None, Some, ap, inl, inr, refl, sym, subst, ◌∙◌, append-nil}
 use Rattle.std.{proofs.lemmas.Bool.cases_Bool, proofs.lemmas.Bool.or_parts, proofs.lemmas.Slice.Eq.bytes_eq-Decides, specs.List.list_any, specs.Option.option_map, specs.Str.bytes_eq}
 use Rattle.scene_fields.proofs.counts.read_pairs.Goals as goal

@@ -1,4 +1,5 @@
-use Rattle.{std.proofs.Common.◌≡◌, std.specs.Option.option_map, scene_fields.specs.Counts.counts_in, scene_fields.specs.Counts.in_turn, scene_fields.specs.Counts.pair_in, scene_fields.specs.Split.pieces_left, scene_fields.specs.Split.size_left}
+use Rattle.scene_fields.specs.Counts.{counts_in, in_turn, pair_in}
+use Rattle.{std.proofs.Common.◌≡◌, std.specs.Option.option_map, scene_fields.specs.Split.pieces_left, scene_fields.specs.Split.size_left}
 use Rattle.scene_fields.proofs.counts.read_pairs.Given as goal
 
 -- the pairs that are left say, after those so far, what all say

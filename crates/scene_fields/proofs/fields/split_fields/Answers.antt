@@ -1,6 +1,8 @@
 use Rattle.std.proofs.Common.{◌<◌, ◌≤◌, [], ◌∷◌, ◌∙◌, length, ap, sym, refl, arith, ◌≡◌, ℕ, ◌+◌, ◌-◌, List, ◌++◌, true, ◌==◌, take, drop, subst, length-drop, append_assoc, get_or-drop, drop-drop}
-use Rattle.{std.proofs.lemmas.Str.IsCharBoundary-start, std.proofs.lemmas.Str.IsCharBoundary-after_ascii, std.proofs.lemmas.List.map-append, std.specs.Borrow.Bor, scene_fields.specs.Split.split_on, scene_fields.specs.Split.Lacks, scene_fields.specs.Split.field_texts}
-use Rattle.scene_fields.proofs.lemmas.{Cuts.byte_at, Cuts.split_on-lacks, Cuts.split_on-parts, Cuts.Lacks-from_each, Cuts.cut_at, Marks.fewer_left, Marks.inside, Marks.next_left}
+use Rattle.scene_fields.specs.Split.{split_on, Lacks, field_texts}
+use Rattle.{std.proofs.lemmas.Str.IsCharBoundary-start, std.proofs.lemmas.Str.IsCharBoundary-after_ascii, std.proofs.lemmas.List.map-append, std.specs.Borrow.Bor}
+use Rattle.scene_fields.proofs.lemmas.Cuts.{byte_at, split_on-lacks, split_on-parts, Lacks-from_each, cut_at}
+use Rattle.scene_fields.proofs.lemmas.{Marks.fewer_left, Marks.inside, Marks.next_left}
 use Rattle.memchr.specs.Find.{is_byte, Nowhere, NoneBefore, Passes}
 use Rattle.scene_fields.proofs.fields.split_fields.Goals as goal
 

@@ -1,5 +1,6 @@
 use Rattle.std.proofs.Common.{◌≡◌, ◌++◌, ◌+◌, ◌-◌, ◌≤◌, drop, length, min}
-use Rattle.{std.specs.Str.IsCharBoundary, scene_fields.specs.Split.split_on, scene_fields.specs.Split.field_texts, scene_fields.proofs.lemmas.Marks.AreLeft, memchr.specs.Find.is_byte, memchr.specs.Find.Nowhere, memchr.specs.Find.Passes}
+use Rattle.memchr.specs.Find.{is_byte, Nowhere, Passes}
+use Rattle.{std.specs.Str.IsCharBoundary, scene_fields.specs.Split.split_on, scene_fields.specs.Split.field_texts, scene_fields.proofs.lemmas.Marks.AreLeft}
 use Rattle.scene_fields.proofs.fields.split_fields.Given as goal
 
 -- the fields so far, and those from the start on, are all

@@ -1,6 +1,7 @@
 use Rattle.std.proofs.Common.{◌≡◌, ◌∷◌, ◌∙◌, [], None, Some, ap, arith, bytes_eq, codes, false, map, rules, string_bytes, sym, ◌≢◌, ℕ, List, ◌++◌, ◌==◌, String, Global, refl, append_assoc, append-nil, Option}
 use Rattle.std.{proofs.lemmas.Str.Pattern.strip_prefix_char, proofs.lemmas.List.map-append, proofs.lemmas.Bool.false_from_ne_true, proofs.lemmas.Bool.Decides.nat_tests, specs.Borrow.Bor, specs.Option.option_map}
-use Rattle.scene_fields.specs.{Lists.Words, Lists.begins_with_comma, Lists.in_first_word, Lists.list_words, Texts.LacksEscapes, Texts.escape_byte, Texts.AddsStretch}
+use Rattle.scene_fields.specs.Lists.{Words, begins_with_comma, in_first_word, list_words}
+use Rattle.scene_fields.specs.{Texts.LacksEscapes, Texts.escape_byte, Texts.AddsStretch}
 use Rattle.scene_fields.proofs.lemmas.Unescaped.{alike, all_read, bad_escape, escape_read}
 use Rattle.scene_fields.proofs.lists.read_words.Goals as goal
 

@@ -1,4 +1,5 @@
-use Rattle.{std.proofs.Common.◌≡◌, std.proofs.Common.◌++◌, std.proofs.Common.◌∷◌, std.proofs.Common.length, std.proofs.Common.map, std.proofs.Common.string_bytes, std.specs.Option.option_map, scene_fields.specs.Lists.list_words}
+use Rattle.std.proofs.Common.{◌≡◌, ◌++◌, ◌∷◌, length, map, string_bytes}
+use Rattle.{std.specs.Option.option_map, scene_fields.specs.Lists.list_words}
 use denote.{Text.Utf8, Shadow.shadow}
 use Rattle.scene_fields.proofs.lists.read_words.Given as goal
 

@@ -1,4 +1,5 @@
-use Rattle.std.proofs.{Common.◌≡◌, Common.ℕ, Common.◌+◌, Common.◌/◌, Common.◌^◌, Common.ap, Common.sym, Common.◌∙◌, Common.arith, Common.pow-add, Math.Pow.pow_mono}
+use Rattle.std.proofs.Common.{◌≡◌, ℕ, ◌+◌, ◌/◌, ◌^◌, ap, sym, ◌∙◌, arith, pow-add}
+use Rattle.std.proofs.Math.Pow.{pow_mono}
 use native.Mathlib.Nat.{div-div-eq-div-mul, div-lt_self}
 use Rattle.scene_fields.proofs.marks.shift_past.Goals as goal
 

@@ -1,4 +1,5 @@
-use Rattle.std.{proofs.Common.◌≡◌, proofs.Common.◌+◌, proofs.Common.◌-◌, proofs.Common.subst, proofs.Common.arith, specs.Str.IsCharBoundary, proofs.lemmas.Str.IsCharBoundary-after_ascii}
+use Rattle.std.proofs.Common.{◌≡◌, ◌+◌, ◌-◌, subst, arith}
+use Rattle.std.{specs.Str.IsCharBoundary, proofs.lemmas.Str.IsCharBoundary-after_ascii}
 
 pub range_from-requires : Rattle.scene_fields.proofs.texts.push_stretch.Goals.range_from-requires
 range_from-requires c above =

@@ -1,5 +1,6 @@
 use Rattle.std.proofs.Common.{sym, rules, ◌∙◌, ap, Some}
-use Rattle.scene_fields.proofs.lemmas.{Unescaped.plain_alone, Unescaped.read_stretch, Unescaped.read_bad_escape, Unescaped.read_to_end, Cuts.Lacks-from_each}
+use Rattle.scene_fields.proofs.lemmas.Unescaped.{plain_alone, read_stretch, read_bad_escape, read_to_end}
+use Rattle.scene_fields.proofs.lemmas.Cuts.{Lacks-from_each}
 use Rattle.scene_fields.proofs.texts.read_text.Goals as goal
 
 pub returns-in_default : goal.returns-in_default

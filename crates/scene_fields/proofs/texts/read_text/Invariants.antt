@@ -1,4 +1,5 @@
-use Rattle.{std.proofs.Common.◌≡◌, std.proofs.Common.◌++◌, std.proofs.Common.length, std.proofs.Common.string_bytes, std.specs.Option.option_map, scene_fields.specs.Texts.unescaped}
+use Rattle.std.proofs.Common.{◌≡◌, ◌++◌, length, string_bytes}
+use Rattle.{std.specs.Option.option_map, scene_fields.specs.Texts.unescaped}
 use denote.{Text.Utf8, Shadow.shadow}
 use Rattle.scene_fields.proofs.texts.read_text.Given as goal
 

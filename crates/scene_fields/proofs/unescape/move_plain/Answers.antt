@@ -1,5 +1,6 @@
 use Rattle.std.proofs.Common.{◌≡◌, ◌+◌, ◌++◌, ◌∙◌, ap, arith, drop, length, length-drop, refl, rules, subst, sym, take, ℕ, zero, suc, ◌-◌, ◌≤◌, List, [], ◌∷◌, replicate, drop-drop, length-take, length-take-le}
-use Rattle.{std.proofs.lemmas.List.take-append-le, std.proofs.lemmas.Simd.put_chunk_is, std.proofs.lemmas.List.Edits.paste_all, std.proofs.lemmas.List.Edits.drop-paste, std.proofs.lemmas.List.Edits.length-paste, scene_fields.specs.Texts.LacksEscapes, scene_fields.specs.Texts.MovesPlain}
+use Rattle.std.proofs.lemmas.List.Edits.{paste_all, drop-paste, length-paste}
+use Rattle.{std.proofs.lemmas.List.take-append-le, std.proofs.lemmas.Simd.put_chunk_is, scene_fields.specs.Texts.LacksEscapes, scene_fields.specs.Texts.MovesPlain}
 use lib.Seq.{paste, length_paste_head, take-append-add}
 use Rattle.scene_fields.proofs.unescape.move_plain.Goals as goal
 

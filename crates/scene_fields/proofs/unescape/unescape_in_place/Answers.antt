@@ -1,6 +1,7 @@
 use Rattle.std.proofs.Common.{◌≡◌, ◌<◌, ◌+◌, ◌++◌, ◌∷◌, ℕ, List, [], None, Some, slice_set, drop, length, get_or, take, ap, sym, ◌∙◌, length-drop, length-set, arith, append-nil, drop-drop, drop-set-lt, take-append-drop}
 use Rattle.{std.specs.Option.option_map, scene_fields.proofs.lemmas.Cuts.rest_is, std.proofs.lemmas.List.at_drop_more, std.proofs.lemmas.List.drop_all, std.proofs.lemmas.List.take_more_set}
-use Rattle.scene_fields.{specs.Texts.bytes_in, specs.Texts.escape_byte, specs.Texts.escape_len, specs.Texts.unescaped, proofs.lemmas.Unescaped.read_bad_escape, proofs.lemmas.Unescaped.read_escape_next, proofs.lemmas.Unescaped.read_plain_next, proofs.lemmas.Unescaped.read_to_end}
+use Rattle.scene_fields.specs.Texts.{bytes_in, escape_byte, escape_len, unescaped}
+use Rattle.scene_fields.proofs.lemmas.Unescaped.{read_bad_escape, read_escape_next, read_plain_next, read_to_end}
 use Rattle.scene_fields.proofs.unescape.unescape_in_place.Goals as goal
 
 -- an escape begins here

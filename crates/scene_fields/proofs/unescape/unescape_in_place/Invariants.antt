@@ -1,4 +1,5 @@
-use Rattle.{std.proofs.Common.◌≡◌, std.proofs.Common.◌++◌, std.proofs.Common.◌-◌, std.proofs.Common.◌≤◌, std.proofs.Common.drop, std.proofs.Common.length, std.proofs.Common.take, std.specs.Option.option_map, scene_fields.specs.Texts.unescaped}
+use Rattle.std.proofs.Common.{◌≡◌, ◌++◌, ◌-◌, ◌≤◌, drop, length, take}
+use Rattle.{std.specs.Option.option_map, scene_fields.specs.Texts.unescaped}
 use Rattle.scene_fields.proofs.unescape.unescape_in_place.Given as goal
 
 -- what was decoded, and then what is left, is what the text spells

@@ -1,4 +1,5 @@
-use Rattle.{std.proofs.Common.◌≡◌, std.proofs.Common.refl, std.proofs.Common.rules, std.proofs.lemmas.Bool.Decides.Decides-eqb, std.proofs.lemmas.Slice.Eq.slice_eq-Decides, scene_fields.proofs.lemmas.UsualStats.behind_key, scene_fields.proofs.lemmas.UsualStats.has_no_key}
+use Rattle.std.proofs.Common.{◌≡◌, refl, rules}
+use Rattle.{std.proofs.lemmas.Bool.Decides.Decides-eqb, std.proofs.lemmas.Slice.Eq.slice_eq-Decides, scene_fields.proofs.lemmas.UsualStats.behind_key, scene_fields.proofs.lemmas.UsualStats.has_no_key}
 use Rattle.scene_fields.proofs.usual_stats.number_after.Goals as goal
 
 pub returns-then-ne : goal.returns-then-ne

@@ -1,4 +1,5 @@
-use Rattle.{std.proofs.Common.◌≡◌, std.proofs.Common.Option, std.proofs.Common.None, std.proofs.Common.Some, std.proofs.Common.refl, uuid.specs.Text.parsed}
+use Rattle.std.proofs.Common.{◌≡◌, Option, None, Some, refl}
+use Rattle.uuid.specs.Text.{parsed}
 
 -- what is no value is none
 no_value : {V : Type 0} (o : Option V) → ((v : V) → ¬ (o ≡ Some v)) → None ≡ o

@@ -1,4 +1,5 @@
-use Rattle.{std.proofs.Common.◌≡◌, std.proofs.Common.◌++◌, std.proofs.Common.map, std.proofs.Common.take, std.proofs.Common.drop, reporter_state.specs.Unread.unread_call}
+use Rattle.std.proofs.Common.{◌≡◌, ◌++◌, map, take, drop}
+use Rattle.reporter_state.specs.Unread.{unread_call}
 
 -- the calls so far are without their skipped outputs
 abbrev pub invariant-loop-call : Rattle.console_reporter.proofs.imp.unload.unload_skipped.Given.invariant-loop-call

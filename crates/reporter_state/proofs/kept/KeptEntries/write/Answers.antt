@@ -1,4 +1,5 @@
-use Rattle.{std.proofs.Common.◌≡◌, std.proofs.Common.[], std.proofs.Common.ap, std.proofs.Common.rules, std.specs.Iterator.Adapters.rev_source, reporter_state.specs.Names.shown_entries, reporter_state.specs.Names.shown_of, reporter_state.proofs.lemmas.Inserts.text-left}
+use Rattle.std.proofs.Common.{◌≡◌, [], ap, rules}
+use Rattle.{std.specs.Iterator.Adapters.rev_source, reporter_state.specs.Names.shown_entries, reporter_state.specs.Names.shown_of, reporter_state.proofs.lemmas.Inserts.text-left}
 use Rattle.writers.proofs.lemmas.Steps.{owes_accepted, owes_nothing, owes_stopped}
 use Rattle.reporter_state.proofs.kept.KeptEntries.write.Goals as goal
 

@@ -1,5 +1,6 @@
 use Rattle.std.proofs.Common.{◌≡◌, ◌∷◌, [], ◌++◌, ◌∙◌, ap, append_assoc, length, subst, sym}
-use Rattle.{memchr.specs.Find.is_byte, memchr.specs.Find.Nowhere, memchr.specs.Find.NoneBefore, memchr.specs.Find.Passes, scene_fields.specs.Split.split_on, scene_fields.proofs.lemmas.Cuts.split_on-first, scene_fields.proofs.lemmas.Cuts.split_on-none}
+use Rattle.memchr.specs.Find.{is_byte, Nowhere, NoneBefore, Passes}
+use Rattle.{scene_fields.specs.Split.split_on, scene_fields.proofs.lemmas.Cuts.split_on-first, scene_fields.proofs.lemmas.Cuts.split_on-none}
 use Rattle.scene_fields.proofs.owned_text.OwnedText.split_fields.Goals as goal
 
 pub loop-tab-preserved : goal.loop-tab-preserved

@@ -1,5 +1,6 @@
 use Rattle.std.proofs.Common.{◌≡◌, true, ◌==◌, ap, ◌∙◌, refl, sym, drop}
-use Rattle.{std.specs.List.starts_with, unit_report.specs.Captured.part_value, unit_report.proofs.lemmas.Highlights.part_absent, unit_report.proofs.lemmas.Highlights.part_valid, unit_report.proofs.lemmas.Highlights.part_rest}
+use Rattle.unit_report.proofs.lemmas.Highlights.{part_absent, part_valid, part_rest}
+use Rattle.{std.specs.List.starts_with, unit_report.specs.Captured.part_value}
 use Rattle.unit_report.proofs.unit_output.captured.split_highlight.Goals as goal
 
 pub returns-then-not-starts_with : goal.returns-then-not-starts_with

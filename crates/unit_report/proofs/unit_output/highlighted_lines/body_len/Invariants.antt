@@ -1,4 +1,5 @@
-use Rattle.{std.proofs.Common.◌≡◌, std.proofs.Common.◌≤◌, std.proofs.Common.true, std.proofs.Common.length, std.proofs.Common.drop, unit_report.specs.HighlightedLines.is_line_end}
+use Rattle.std.proofs.Common.{◌≡◌, ◌≤◌, true, length, drop}
+use Rattle.unit_report.specs.HighlightedLines.{is_line_end}
 use Rattle.unit_report.proofs.unit_output.highlighted_lines.body_len.Given as goal
 
 -- what is left out closes the line

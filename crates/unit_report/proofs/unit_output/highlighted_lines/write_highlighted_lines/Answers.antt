@@ -1,4 +1,5 @@
-use Rattle.{std.proofs.Common.rules, unit_report.proofs.lemmas.HighlightedLines.lines-first, unit_report.proofs.lemmas.HighlightedLines.lines-ended, writers.proofs.lemmas.Steps.owes_accepted, writers.proofs.lemmas.Steps.owes_stopped, writers.proofs.lemmas.Steps.owes_nothing}
+use Rattle.writers.proofs.lemmas.Steps.{owes_accepted, owes_stopped, owes_nothing}
+use Rattle.{std.proofs.Common.rules, unit_report.proofs.lemmas.HighlightedLines.lines-first, unit_report.proofs.lemmas.HighlightedLines.lines-ended}
 use Rattle.unit_report.proofs.unit_output.highlighted_lines.write_highlighted_lines.Goals as goal
 
 pub returns-in_err-write_highlighted_line : goal.returns-in_err-write_highlighted_line

@@ -1,4 +1,5 @@
-use Rattle.std.{proofs.Common.◌-◌, proofs.Common.◌≤◌, proofs.Common.length, proofs.Common.take, specs.Io.KnownBytes.Appends}
+use Rattle.std.proofs.Common.{◌-◌, ◌≤◌, length, take}
+use Rattle.std.specs.Io.KnownBytes.{Appends}
 use Rattle.writers.proofs.write_str.text_buffer.send.Given as goal
 
 abbrev pub invariant-loop-sent : goal.invariant-loop-sent

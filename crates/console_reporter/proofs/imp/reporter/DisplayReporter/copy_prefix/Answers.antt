@@ -1,4 +1,5 @@
-use Rattle.{std.proofs.Common.rules, std.proofs.Common.refl, std.proofs.Common.Some, std.proofs.Common.inl, std.proofs.Common.inr, run_model.specs.declared.call.ReportCall.TheVariants.Prefix, reporter_state.specs.declared.faults.WriteEventError.TheVariants.Memory}
+use Rattle.std.proofs.Common.{rules, refl, Some, inl, inr}
+use Rattle.{run_model.specs.declared.call.ReportCall.TheVariants.Prefix, reporter_state.specs.declared.faults.WriteEventError.TheVariants.Memory}
 use Rattle.console_reporter.proofs.lemmas.Promises.{memory_broken, promise_broken, promise_failed, promise_told, same-reporter}
 use Rattle.console_reporter.proofs.imp.reporter.DisplayReporter.copy_prefix.Goals as goal
 

@@ -1,4 +1,5 @@
-use Rattle.{std.proofs.Common.rules, std.proofs.Common.refl, std.proofs.Common.None, console_reporter.proofs.lemmas.Promises.promise_broken, console_reporter.proofs.lemmas.Promises.promise_failed, console_reporter.proofs.lemmas.Promises.promise_told}
+use Rattle.std.proofs.Common.{rules, refl, None}
+use Rattle.console_reporter.proofs.lemmas.Promises.{promise_broken, promise_failed, promise_told}
 use Rattle.console_reporter.proofs.imp.reporter.DisplayReporter.finish.Goals as goal
 
 pub returns-then-self-clause-call : goal.returns-then-self-clause-call

@@ -1,6 +1,8 @@
-use Rattle.std.proofs.{Common.rules, Common.arith, Common.length, Common.refl, Common.sym, Common.subst, Common.ap, Common.◌∙◌, Common.Err, Common.Some, Common.inr, lemmas.Option.slice_get-get_or, lemmas.Option.slice_get_past}
+use Rattle.std.proofs.Common.{rules, arith, length, refl, sym, subst, ap, ◌∙◌, Err, Some, inr}
+use Rattle.std.proofs.{lemmas.Option.slice_get-get_or, lemmas.Option.slice_get_past}
 use Rattle.console_reporter.specs.Names.{Promises, TellsRun, past_at}
-use Rattle.console_reporter.proofs.lemmas.{Calls.accepted_read, Calls.accepted_to_end, Calls.past_all, Calls.past_read, Runs.run_begun, Runs.run_more, Runs.same-after, Stores.same-store}
+use Rattle.console_reporter.proofs.lemmas.Calls.{accepted_read, accepted_to_end, past_all, past_read}
+use Rattle.console_reporter.proofs.lemmas.{Runs.run_begun, Runs.run_more, Runs.same-after, Stores.same-store}
 use Rattle.console_reporter.proofs.imp.reporter.DisplayReporter.make_calls.Goals as goal
 
 pub loop-position-init : goal.loop-position-init

@@ -1,5 +1,6 @@
 use Rattle.std.proofs.Common.{rules, [], ap, sym, append-nil, inr, max, ◌∙◌}
-use Rattle.{reporter_state.specs.Names.effect_of, reporter_state.specs.Names.cancel, reporter_state.specs.Names.prefix, console_reporter.specs.Report.text, run_model.specs.declared.call.ReportCall.TheVariants.Event}
+use Rattle.reporter_state.specs.Names.{effect_of, cancel, prefix}
+use Rattle.{console_reporter.specs.Report.text, run_model.specs.declared.call.ReportCall.TheVariants.Event}
 use Rattle.console_reporter.proofs.lemmas.{Calls.stops_error, Pasts.kept-more, Pasts.text-held}
 use Rattle.console_reporter.proofs.imp.reporter.DisplayReporter.report_event.Goals as goal
 

@@ -1,4 +1,5 @@
-use Rattle.{std.proofs.Common.refl, std.proofs.Common.rules, console_reporter.proofs.lemmas.Promises.failed_stands, console_reporter.proofs.lemmas.Stores.store-nothing, reporter_state.specs.Entries.cancel, reporter_state.specs.Entries.kept, reporter_state.specs.Entries.prefix}
+use Rattle.reporter_state.specs.Entries.{cancel, kept, prefix}
+use Rattle.{std.proofs.Common.refl, std.proofs.Common.rules, console_reporter.proofs.lemmas.Promises.failed_stands, console_reporter.proofs.lemmas.Stores.store-nothing}
 use Rattle.console_reporter.proofs.imp.reporter.DisplayReporter.set_run_id_unique_prefix.Goals as goal
 
 pub returns-then-self-clause-ok : goal.returns-then-self-clause-ok

@@ -1,5 +1,6 @@
 use Rattle.std.proofs.Common.{rules, refl, ap, subst, sym, ◌∙◌, inr, List, Some}
-use Rattle.{run_names.specs.Levels.reason_rank, run_model.specs.declared.call.ReportCall.ReportCall, run_model.specs.declared.call.ReportCall.TheVariants.Header, console_reporter.specs.Names.Configuration, console_reporter.specs.Names.StandsAfter, console_reporter.specs.Names.text}
+use Rattle.console_reporter.specs.Names.{Configuration, StandsAfter, text}
+use Rattle.{run_names.specs.Levels.reason_rank, run_model.specs.declared.call.ReportCall.ReportCall, run_model.specs.declared.call.ReportCall.TheVariants.Header}
 use Rattle.reporter_state.specs.{declared.state.ReporterState.ReporterState, Entries.cancel, Entries.kept, Entries.prefix}
 use Rattle.console_reporter.proofs.lemmas.{Stores.config-same, Calls.stops_after, Calls.stops_error, Promises.promise_broken, Promises.promise_failed, Promises.promise_told}
 use Rattle.console_reporter.proofs.imp.reporter.DisplayReporter.write_replay_header.Goals as goal
