@@ -151,6 +151,11 @@ impl ChildSingleOutput {
     }
 
     /// The same, of bytes that nothing else shares. It takes less memory for text.
+    ///
+    /// ```
+    /// let output = ChildSingleOutput::from_vec(alloc, Vec::from_slice(alloc, b"a\xffb")?)?;
+    /// assert_eq!(output.as_str(), "a\u{fffd}b");
+    /// ```
     pub fn from_vec(alloc: Global, bytes: Vec<u8>) -> Result<Self, OutOfMemory>
         ensures { IfOk result (λ output. output ≡ bytes.items) }
     {
