@@ -2,7 +2,7 @@
 
 ghost use Rattle.{styled_text.specs.Names.is_some, styled_text.specs.Names.Puts, report_words.specs.Parts.paint, report_words.specs.Parts.style_of};
 ghost use Rattle.std.specs.Prelude.{◌≡◌, ◌++◌};
-ghost use Rattle.info_text.specs.State.{attempt_text, marked_slow_end, nanos_of, running_tone, state_text, status_start, taken_end, tentative_info, terminating_line, terminating_note, signal_of};
+ghost use Rattle.info_text.specs.State.{attempt_text, delay_note, exited_text, exiting_line, exiting_note, marked_slow_end, nanos_of, running_line, running_tone, signal_of, state_text, status_start, taken_end, tentative_info, terminating_line, terminating_note, unit_start, waiting_line};
 
 use run_model::info::{UnitState, UnitTerminateMethod, UnitTerminatingState};
 use run_model::status::{ExecutionResultDescription, RetryData};
@@ -28,7 +28,7 @@ pub struct InfoUnit {
 }
 
 /// Writes the state of a unit: a line, and a note below it if something is waited for.
-#[tactic(auto, unfolding(crate::specs::State::state_text, crate::specs::State::state_line, crate::specs::State::state_note, crate::specs::State::unit_start, crate::specs::State::running_line, crate::specs::State::exiting_line, crate::specs::State::exiting_note, crate::specs::State::leak_note, crate::specs::State::exited_text, crate::specs::State::waiting_line, crate::specs::State::delay_note, crate::specs::State::note_start, crate::specs::State::process_of))]
+#[tactic(auto, unfolding(crate::specs::State::state_text, crate::specs::State::state_line, crate::specs::State::state_note))]
 pub fn write_state<W: WriteStr>(
     w: &mut W,
     settings: &Settings,
@@ -37,25 +37,13 @@ pub fn write_state<W: WriteStr>(
 ) -> Result<(), WriteFault>
     ensures { Puts W.meaning w.old (paint settings.now.styles (state_text settings.now.mode unit state.now)) result w.new }
 {
-    let styles = &settings.styles;
-    let word = DisplayUnitKind::new(settings.mode, unit.kind);
-    let status = StatusStart { styles, unit };
+    let start = UnitStart { settings, unit };
     match state {
         UnitState::Running {
             pid,
             time_taken,
             slow_after,
-        } => {
-            let running = running_style(styles, unit.has_errors, slow_after.is_some());
-            let line = (
-                (status, word, " "),
-                Toned(running, "running"),
-                (" for ", Seconds(time_taken.0), "s as PID "),
-                Number(styles.count, *pid as u128),
-                MarkedSlowEnd(*slow_after),
-            );
-            (line, ()).write_to(w)
-        }
+        } => start.write_running(w, *pid, *time_taken, *slow_after),
         UnitState::Exiting {
             pid,
             time_taken,
@@ -64,115 +52,207 @@ pub fn write_state<W: WriteStr>(
             waiting_duration,
             remaining,
         } => {
-            let info = TentativeInfo {
-                styles,
-                is_slow: slow_after.is_some(),
-                outcome: tentative_result,
-            };
-            let line = (
-                (status, word, " "),
-                info,
-                TakenEnd(*time_taken, *slow_after),
-            );
-            let note = (
-                Toned(styles.count, "note"),
-                (":   spent ", Seconds(waiting_duration.0), "s waiting for "),
-                (word, " PID ", Number(styles.count, *pid as u128)),
-                " to shut down, will mark as leaky after another ",
-                Seconds(remaining.0),
-                "s\n",
-            );
-            (line, Unless(waiting_duration.0 < 1_000_000_000, note)).write_to(w)
+            start.write_exiting(w, tentative_result, *time_taken, *slow_after)?;
+            start.write_exiting_note(w, *pid, *waiting_duration, *remaining)
         }
-        UnitState::Terminating(state) => write_terminating(w, settings, unit, state),
+        UnitState::Terminating(state) => start.write_terminating(w, state),
         UnitState::Exited {
             result,
             time_taken,
             slow_after,
-        } => {
-            let info = InfoResult(styles, slow_after.is_some(), result);
-            let line = (
-                (status, word, " "),
-                info,
-                TakenEnd(*time_taken, *slow_after),
-            );
-            (line, ()).write_to(w)
-        }
+        } => start.write_exited(w, result, *time_taken, *slow_after),
         UnitState::DelayBeforeNextAttempt {
             previous_result,
             previous_slow,
             waiting_duration,
             remaining,
         } => {
-            let info = InfoResult(styles, *previous_slow, previous_result);
-            let waits = Toned(styles.count, "waiting");
-            let line = (
-                (status, word, " "),
-                info,
-                ", currently ",
-                waits,
-                " before next attempt\n",
-            );
-            let note = (
-                Toned(styles.count, "note"),
-                (":   waited ", Seconds(waiting_duration.0), "s so far"),
-                (
-                    ", will wait another ",
-                    Seconds(remaining.0),
-                    "s before retrying ",
-                ),
-                word,
-                "\n",
-            );
-            (line, note).write_to(w)
+            start.write_waiting(w, previous_result, *previous_slow)?;
+            start.write_delay_note(w, *waiting_duration, *remaining)
         }
     }
 }
 
-// Why a process is terminated, and how.
-#[tactic(auto, unfolding(crate::specs::State::terminating_line, crate::specs::State::terminating_note, crate::specs::State::process_of, crate::specs::State::note_start))]
-fn write_terminating<W: WriteStr>(
-    w: &mut W,
-    settings: &Settings,
+// How the line of a state begins, with the word for the unit. The functions write the lines that begin so, and their notes.
+#[derive(Clone, Copy)]
+struct UnitStart<'a> {
+    settings: &'a Settings,
     unit: InfoUnit,
-    state: &UnitTerminatingState,
-) -> Result<(), WriteFault>
-    ensures { Puts W.meaning w.old (paint settings.now.styles (terminating_line settings.now.mode unit state.now) ++ paint settings.now.styles (terminating_note settings.now.mode unit state.now)) result w.new }
-{
-    let styles = &settings.styles;
-    let word = DisplayUnitKind::new(settings.mode, unit.kind);
-    let line = (
-        StatusStart { styles, unit },
-        Toned(styles.fail, "terminating"),
-        " ",
-        (word, " PID ", Number(styles.count, state.pid as u128)),
-        " due to ",
+}
+
+impl WriteText for UnitStart<'_> {
+    ghost text = { λ s. paint s.settings.now.styles (unit_start s.settings.now.mode s.unit) };
+
+    #[tactic(auto, unfolding(crate::specs::State::unit_start))]
+    fn write_to<W: WriteStr>(&self, w: &mut W) -> Result<(), WriteFault> {
+        let status = StatusStart {
+            styles: &self.settings.styles,
+            unit: self.unit,
+        };
+        (status, self.word(), " ").write_to(w)
+    }
+}
+
+impl UnitStart<'_> {
+    fn word(&self) -> DisplayUnitKind
+        ensures { result ≡ record { mode = self.now.settings.now.mode; kind = self.now.unit.kind } }
+    {
+        DisplayUnitKind::new(self.settings.mode, self.unit.kind)
+    }
+
+    #[tactic(auto, unfolding(crate::specs::State::running_line))]
+    fn write_running<W: WriteStr>(
+        &self,
+        w: &mut W,
+        pid: u32,
+        time_taken: Nanos,
+        slow_after: Option<Nanos>,
+    ) -> Result<(), WriteFault>
+        ensures { Puts W.meaning w.old (paint self.now.settings.now.styles (running_line self.now.settings.now.mode self.now.unit pid time_taken.0 slow_after)) result w.new }
+    {
+        let styles = &self.settings.styles;
+        let running = running_style(styles, self.unit.has_errors, slow_after.is_some());
         (
-            Toned(styles.count, state.reason.as_str()),
-            " (",
-            word,
-            " ran for ",
-            Seconds(state.time_taken.0),
-            "s)\n",
-        ),
-    );
-    let note = (
-        Toned(styles.count, "note"),
-        ":   sent ",
-        signal_of(&state.method),
-        (
-            " to process group; spent ",
-            Seconds(state.waiting_duration.0),
-            "s waiting for ",
-        ),
-        word,
-        (
-            " to exit, will SIGKILL after another ",
-            Seconds(state.remaining.0),
+            *self,
+            Toned(running, "running"),
+            (" for ", Seconds(time_taken.0), "s as PID "),
+            Number(styles.count, pid as u128),
+            MarkedSlowEnd(slow_after),
+        )
+            .write_to(w)
+    }
+
+    #[tactic(auto, unfolding(crate::specs::State::exiting_line))]
+    fn write_exiting<W: WriteStr>(
+        &self,
+        w: &mut W,
+        outcome: &Option<ExecutionResultDescription>,
+        time_taken: Nanos,
+        slow_after: Option<Nanos>,
+    ) -> Result<(), WriteFault>
+        ensures { Puts W.meaning w.old (paint self.now.settings.now.styles (exiting_line self.now.settings.now.mode self.now.unit outcome.now time_taken.0 slow_after)) result w.new }
+    {
+        let info = TentativeInfo {
+            styles: &self.settings.styles,
+            is_slow: slow_after.is_some(),
+            outcome,
+        };
+        (*self, info, TakenEnd(time_taken, slow_after)).write_to(w)
+    }
+
+    #[tactic(auto, unfolding(crate::specs::State::exiting_note, crate::specs::State::leak_note, crate::specs::State::note_start, crate::specs::State::process_of))]
+    fn write_exiting_note<W: WriteStr>(
+        &self,
+        w: &mut W,
+        pid: u32,
+        waited: Nanos,
+        remaining: Nanos,
+    ) -> Result<(), WriteFault>
+        ensures { Puts W.meaning w.old (paint self.now.settings.now.styles (exiting_note self.now.settings.now.mode self.now.unit pid waited.0 remaining.0)) result w.new }
+    {
+        let count = self.settings.styles.count;
+        let note = (
+            Toned(count, "note"),
+            (":   spent ", Seconds(waited.0), "s waiting for "),
+            (self.word(), " PID ", Number(count, pid as u128)),
+            " to shut down, will mark as leaky after another ",
+            Seconds(remaining.0),
             "s\n",
-        ),
-    );
-    (line, note).write_to(w)
+        );
+        Unless(waited.0 < 1_000_000_000, note).write_to(w)
+    }
+
+    // Why a process is terminated, and how.
+    #[tactic(auto, unfolding(crate::specs::State::terminating_line, crate::specs::State::terminating_note, crate::specs::State::process_of, crate::specs::State::note_start))]
+    fn write_terminating<W: WriteStr>(
+        &self,
+        w: &mut W,
+        state: &UnitTerminatingState,
+    ) -> Result<(), WriteFault>
+        ensures { Puts W.meaning w.old (paint self.now.settings.now.styles (terminating_line self.now.settings.now.mode self.now.unit state.now) ++ paint self.now.settings.now.styles (terminating_note self.now.settings.now.mode self.now.unit state.now)) result w.new }
+    {
+        let UnitStart { settings, unit } = *self;
+        let styles = &settings.styles;
+        let word = self.word();
+        let line = (
+            StatusStart { styles, unit },
+            Toned(styles.fail, "terminating"),
+            " ",
+            (word, " PID ", Number(styles.count, state.pid as u128)),
+            " due to ",
+            (
+                Toned(styles.count, state.reason.as_str()),
+                " (",
+                word,
+                " ran for ",
+                Seconds(state.time_taken.0),
+                "s)\n",
+            ),
+        );
+        let spent = Seconds(state.waiting_duration.0);
+        let note = (
+            Toned(styles.count, "note"),
+            ":   sent ",
+            signal_of(&state.method),
+            (" to process group; spent ", spent, "s waiting for "),
+            word,
+            (
+                " to exit, will SIGKILL after another ",
+                Seconds(state.remaining.0),
+                "s\n",
+            ),
+        );
+        (line, note).write_to(w)
+    }
+
+    #[tactic(auto, unfolding(crate::specs::State::exited_text))]
+    fn write_exited<W: WriteStr>(
+        &self,
+        w: &mut W,
+        outcome: &ExecutionResultDescription,
+        time_taken: Nanos,
+        slow_after: Option<Nanos>,
+    ) -> Result<(), WriteFault>
+        ensures { Puts W.meaning w.old (paint self.now.settings.now.styles (exited_text self.now.settings.now.mode self.now.unit outcome.now time_taken.0 slow_after)) result w.new }
+    {
+        let info = InfoResult(&self.settings.styles, slow_after.is_some(), outcome);
+        (*self, info, TakenEnd(time_taken, slow_after)).write_to(w)
+    }
+
+    #[tactic(auto, unfolding(crate::specs::State::waiting_line))]
+    fn write_waiting<W: WriteStr>(
+        &self,
+        w: &mut W,
+        previous: &ExecutionResultDescription,
+        was_slow: bool,
+    ) -> Result<(), WriteFault>
+        ensures { Puts W.meaning w.old (paint self.now.settings.now.styles (waiting_line self.now.settings.now.mode self.now.unit previous.now was_slow)) result w.new }
+    {
+        let styles = &self.settings.styles;
+        let info = InfoResult(styles, was_slow, previous);
+        let waits = Toned(styles.count, "waiting");
+        (*self, info, ", currently ", waits, " before next attempt\n").write_to(w)
+    }
+
+    #[tactic(auto, unfolding(crate::specs::State::delay_note, crate::specs::State::note_start))]
+    fn write_delay_note<W: WriteStr>(
+        &self,
+        w: &mut W,
+        waited: Nanos,
+        remaining: Nanos,
+    ) -> Result<(), WriteFault>
+        ensures { Puts W.meaning w.old (paint self.now.settings.now.styles (delay_note self.now.settings.now.mode self.now.unit waited.0 remaining.0)) result w.new }
+    {
+        let left = Seconds(remaining.0);
+        (
+            Toned(self.settings.styles.count, "note"),
+            (":   waited ", Seconds(waited.0), "s so far"),
+            (", will wait another ", left, "s before retrying "),
+            self.word(),
+            "\n",
+        )
+            .write_to(w)
+    }
 }
 
 // The name of the signal that was sent.

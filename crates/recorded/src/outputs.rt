@@ -11,7 +11,7 @@ use run_model::memory::OutOfMemory;
 use run_model::output::{ChildOutputDescription, ChildSingleOutput};
 use scene_fields::reference::Reference;
 use scene_fields::stored::{StoredOutput, StoredStream, StreamField};
-use std::alloc::{AllocError, AllocFailed, Global};
+use std::alloc::Global;
 use std::io;
 use std::io::ErrorKind;
 use thiserror::Error;
@@ -41,28 +41,6 @@ impl From<io::Error> for LoadFault {
 
     fn from(error: io::Error) -> LoadFault {
         LoadFault::CannotRead(error.kind())
-    }
-}
-
-impl From<AllocError> for LoadFault {
-    ghost use Rattle.std.specs.Prelude.{◌≡◌};
-    ghost use Rattle.recorded.specs.declared.outputs.LoadFault.{LoadFault};
-
-    ghost from_gives = { λ _ fault. fault ≡ LoadFault.OutOfMemory };
-
-    fn from(_refused: AllocError) -> LoadFault {
-        LoadFault::OutOfMemory
-    }
-}
-
-impl<T: Drop> From<AllocFailed<T>> for LoadFault {
-    ghost use Rattle.std.specs.Prelude.{◌≡◌};
-    ghost use Rattle.recorded.specs.declared.outputs.LoadFault.{LoadFault};
-
-    ghost from_gives = { λ _ fault. fault ≡ LoadFault.OutOfMemory };
-
-    fn from(_refused: AllocFailed<T>) -> LoadFault {
-        LoadFault::OutOfMemory
     }
 }
 
@@ -148,12 +126,14 @@ impl<O: ReadAt + Drop> RecordedOutputs<O> {
         if !self.holds(reference)? {
             return Err(LoadFault::PastEnd);
         }
-        let mut bytes = vec![in alloc; 0u8; reference.len]?;
+        let mut bytes = vec![in alloc; 0u8; reference.len].map_err(
+            |_refused| LoadFault::OutOfMemory,
+        )?;
         self.fill(reference.offset, &mut bytes)?;
         if !reference.has_sum_of(bytes.as_slice()) {
             return Err(LoadFault::WrongSum);
         }
-        Ok(Bytes::from_vec(bytes)?)
+        Bytes::from_vec(bytes).map_err(|_refused| LoadFault::OutOfMemory)
     }
 
     // Fills a vector with the bytes from this place on.

@@ -9,7 +9,7 @@ mod growths;
 
 use crate::testing::{ended, line_builder};
 use console_reporter::prelude::*;
-use run_model::boxed::Boxed;
+use run_model::boxed::{Boxed, Shared};
 use run_model::info::{InfoResponse, TestInfoResponse, UnitState};
 use run_model::output::ChildExecutionOutputDescription;
 use std::alloc::Global;
@@ -230,7 +230,7 @@ fn answer<'a>(
                 stress_index: None,
                 test_instance: test,
                 retry_data: RetryData::only(),
-                state: Boxed::new(alloc, state)?,
+                state: Shared::new(alloc, state)?,
                 output,
             }),
         },

@@ -1,24 +1,22 @@
 //! What each unit responds when it is asked for its state.
 
-ghost use Rattle.std.specs.Prelude.{◌≡◌, IfOk, Some};
+ghost use Rattle.std.specs.Prelude.{◌≡◌, Some};
 ghost use Rattle.run_model.specs.Infos.{has_valid_output, terminate_reason_text};
 
-use crate::output::{ChildExecutionOutputDescription, LiveSpec, copy_result};
+use crate::output::{ChildExecutionOutputDescription, LiveSpec};
 use crate::status::{ExecutionResultDescription, RetryData};
 use run_names::abort::DescriptionText;
-use run_names::boxed::Boxed;
+use run_names::boxed::{Boxed, Shared};
 use run_names::command::CommandLine;
-use run_names::memory::OutOfMemory;
 use run_names::name::{ProgramName, ScriptId, TestInstanceId};
 use run_names::stress::StressIndex;
 use run_names::time::Nanos;
-use std::alloc::Global;
 use std::fmt;
 use std::fmt::Formatter;
 
 /// The response of a unit.
 ///
-/// Its state and output are boxed, since responses are rare and events should stay small.
+/// Its state and output have memory of their own, since responses are rare and events should stay small.
 #[derive(Debug, Drop)]
 pub enum InfoResponse<'a> {
     /// The response of a setup script.
@@ -39,7 +37,7 @@ pub struct SetupScriptInfoResponse {
     /// The program's arguments.
     pub args: CommandLine,
     /// What it is doing.
-    pub state: Boxed<UnitState>,
+    pub state: Shared<UnitState>,
     /// What it has written so far.
     pub output: Boxed<ChildExecutionOutputDescription<LiveSpec>>,
 }
@@ -47,8 +45,8 @@ pub struct SetupScriptInfoResponse {
 /// The response of a test.
 ///
 /// ```
-/// use run_model::{boxed::Boxed, output::ChildExecutionOutputDescription};
-/// let state = Boxed::new(alloc, UnitState::Running { pid: 42, time_taken: time, slow_after: None })?;
+/// use run_model::{boxed::{Boxed, Shared}, output::ChildExecutionOutputDescription};
+/// let state = Shared::new(alloc, UnitState::Running { pid: 42, time_taken: time, slow_after: None })?;
 /// let output = Boxed::new(alloc, ChildExecutionOutputDescription::silent(ExecutionResultDescription::Pass))?;
 /// let (test_instance, retry_data) = (test.as_ref(), RetryData::only());
 /// let response = TestInfoResponse { stress_index: None, test_instance, retry_data, state, output };
@@ -63,7 +61,7 @@ pub struct TestInfoResponse<'a> {
     /// Which attempt it is.
     pub retry_data: RetryData,
     /// What it is doing.
-    pub state: Boxed<UnitState>,
+    pub state: Shared<UnitState>,
     /// What the attempt has written so far.
     pub output: Boxed<ChildExecutionOutputDescription<LiveSpec>>,
 }
@@ -125,63 +123,6 @@ pub enum UnitState {
 }
 
 impl UnitState {
-    /// Copies its texts, which allocates.
-    pub fn copy(&self, alloc: Global) -> Result<Self, OutOfMemory>
-        ensures { IfOk result (λ state. state ≡ self.now) }
-    {
-        Ok(match self {
-            &UnitState::Running {
-                pid,
-                time_taken,
-                slow_after,
-            } => {
-                UnitState::Running {
-                    pid,
-                    time_taken,
-                    slow_after,
-                }
-            }
-            UnitState::Exiting {
-                pid,
-                time_taken,
-                slow_after,
-                tentative_result,
-                waiting_duration,
-                remaining,
-            } => UnitState::Exiting {
-                pid: *pid,
-                time_taken: *time_taken,
-                slow_after: *slow_after,
-                tentative_result: copy_result(alloc, tentative_result)?,
-                waiting_duration: *waiting_duration,
-                remaining: *remaining,
-            },
-            UnitState::Terminating(terminating) => {
-                UnitState::Terminating(terminating.copy(alloc)?)
-            }
-            UnitState::Exited {
-                result,
-                time_taken,
-                slow_after,
-            } => UnitState::Exited {
-                result: result.copy(alloc)?,
-                time_taken: *time_taken,
-                slow_after: *slow_after,
-            },
-            UnitState::DelayBeforeNextAttempt {
-                previous_result,
-                previous_slow,
-                waiting_duration,
-                remaining,
-            } => UnitState::DelayBeforeNextAttempt {
-                previous_result: previous_result.copy(alloc)?,
-                previous_slow: *previous_slow,
-                waiting_duration: *waiting_duration,
-                remaining: *remaining,
-            },
-        })
-    }
-
     /// Whether the response's output is the unit's own: between two attempts it is not.
     pub fn has_valid_output(&self) -> bool
         ensures { result ≡ has_valid_output self.now }
@@ -211,19 +152,6 @@ pub struct UnitTerminatingState {
     pub waiting_duration: Nanos,
     /// How much longer it is waited for before it is killed.
     pub remaining: Nanos,
-}
-
-impl UnitTerminatingState {
-    /// Copies the name of the signal, which allocates.
-    pub fn copy(&self, alloc: Global) -> Result<Self, OutOfMemory>
-        ensures { IfOk result (λ state. state ≡ self.now) }
-    {
-        let UnitTerminateMethod::Signal(signal) = &self.method;
-        Ok(UnitTerminatingState {
-            method: UnitTerminateMethod::Signal(signal.copy(alloc)?),
-            ..*self
-        })
-    }
 }
 
 /// Why a process is ended. It prints its name in lower case.

@@ -522,11 +522,11 @@ impl ChildExecutionOutputDescription<LiveSpec> {
             } => ChildExecutionOutputDescription::Output {
                 result: copy_result(alloc, result)?,
                 output: output.copy()?,
-                errors: copy_errors(alloc, errors)?,
+                errors: copy_errors(errors)?,
                 highlight: copy_highlight(alloc, highlight)?,
             },
             ChildExecutionOutputDescription::StartError(errors) =>
-                ChildExecutionOutputDescription::StartError(errors.copy(alloc)?),
+                ChildExecutionOutputDescription::StartError(errors.copy()?),
         })
     }
 
@@ -568,17 +568,17 @@ impl ChildExecutionOutputDescription<LiveSpec> {
             } => ChildExecutionOutputDescription::Output {
                 result: copy_result(alloc, result)?,
                 output: output.recorded(alloc)?,
-                errors: copy_errors(alloc, errors)?,
+                errors: copy_errors(errors)?,
                 highlight: copy_highlight(alloc, highlight)?,
             },
             ChildExecutionOutputDescription::StartError(errors) =>
-                ChildExecutionOutputDescription::StartError(errors.copy(alloc)?),
+                ChildExecutionOutputDescription::StartError(errors.copy()?),
         })
     }
 }
 
 // Copies the result, if there is one; allocates only if it holds text.
-pub(crate) fn copy_result(
+fn copy_result(
     alloc: Global,
     outcome: &Option<ExecutionResultDescription>,
 ) -> Result<Option<ExecutionResultDescription>, OutOfMemory>
@@ -590,15 +590,12 @@ pub(crate) fn copy_result(
     }
 }
 
-// Copies the error, if there is one, which allocates.
-fn copy_errors(
-    alloc: Global,
-    errors: &Option<ErrorChain>,
-) -> Result<Option<ErrorChain>, OutOfMemory>
+// Another error with the same parts, if there is one.
+fn copy_errors(errors: &Option<ErrorChain>) -> Result<Option<ErrorChain>, TooManyOwners>
     ensures { IfOk result (λ e. e ≡ errors.now) }
 {
     match errors {
-        Some(errors) => Ok(Some(errors.copy(alloc)?)),
+        Some(errors) => Ok(Some(errors.copy()?)),
         None => Ok(None),
     }
 }
@@ -616,7 +613,7 @@ fn copy_highlight(
     }
 }
 
-/// An error, and its causes from the nearest to the farthest.
+/// An error, and its causes from the nearest to the farthest, which copies share.
 ///
 /// ```
 /// let causes = vec![in alloc; DescriptionText::new(alloc, "no such file")?]?;
@@ -625,7 +622,7 @@ fn copy_highlight(
 /// ```
 #[derive(Debug, Drop)]
 pub struct ErrorChain {
-    parts: Box<ErrorParts>,
+    parts: Arc<ErrorParts>,
 }
 
 // What an error chain is made of.
@@ -659,7 +656,7 @@ impl ErrorChain {
         ensures causes { IfOk result (λ chain. chain.causes ≡ causes.items) }
     {
         Ok(ErrorChain {
-            parts: Box::new(alloc, ErrorParts { message, causes })?,
+            parts: Arc::new(alloc, ErrorParts { message, causes })?,
         })
     }
 
@@ -677,30 +674,14 @@ impl ErrorChain {
         self.parts.causes.as_slice()
     }
 
-    /// Copies it; the copy allocates.
-    pub fn copy(&self, alloc: Global) -> Result<Self, OutOfMemory>
+    /// A copy that shares the same error. It allocates nothing.
+    pub fn copy(&self) -> Result<Self, TooManyOwners>
         ensures { IfOk result (λ chain. chain ≡ self.now) }
     {
-        ErrorChain::new(
-            alloc,
-            self.parts.message.copy(alloc)?,
-            copy_causes(alloc, self.causes())?,
-        )
+        Ok(ErrorChain {
+            parts: Arc::try_clone(&self.parts)?,
+        })
     }
-}
-
-// Copies the causes, which allocates.
-fn copy_causes(
-    alloc: Global,
-    causes: &[DescriptionText],
-) -> Result<Vec<DescriptionText>, OutOfMemory>
-    ensures { IfOk result (λ copies. copies.items ≡ causes.now) }
-{
-    let mut copies = Vec::with_capacity(alloc, causes.len())?;
-    for cause in causes {
-        copies.push(cause.copy(alloc)?)?;
-    }
-    Ok(copies)
 }
 
 /// The stream of a highlight.

@@ -2,9 +2,10 @@
 
 ghost use Rattle.std.specs.{Prelude.◌≡◌, Prelude.IfOk, Borrow.sem};
 
-use crate::memory::OutOfMemory;
+use crate::memory::{OutOfMemory, TooManyOwners};
 use std::alloc::Global;
 use std::marker::Model;
+use std::sync::Arc;
 
 /// A value with memory of its own. Contracts see the value.
 ///
@@ -66,4 +67,48 @@ impl<T: PartialEq + Drop> PartialEq for Boxed<T> {
 
 impl<T: Eq + Drop> Eq for Boxed<T> {
     ghost laws = { T.Eq.laws };
+}
+
+/// A value with memory of its own, which copies share. Contracts see the value.
+///
+/// ```
+/// let shared = Shared::new(alloc, Nanos::from_secs(1))?;
+/// assert_eq!(*shared.copy()?.get(), Nanos::from_secs(1));
+/// ```
+#[derive(Debug, Drop)]
+pub struct Shared<T> {
+    value: Arc<T>,
+}
+
+impl<T> Model for Shared<T> {
+    ghost Value = { T };
+
+    ghost view = { λ s. s.value.value };
+}
+
+impl<T: Drop> Shared<T> {
+    /// Puts a value on the heap.
+    pub fn new(alloc: Global, value: T) -> Result<Self, OutOfMemory>
+        ensures { IfOk result (λ s. s ≡ value) }
+    {
+        Ok(Shared {
+            value: Arc::new(alloc, value)?,
+        })
+    }
+
+    /// The value.
+    pub fn get(&self) -> &T
+        ensures { result.now ≡ self.now }
+    {
+        &*self.value
+    }
+
+    /// A copy that shares the value. It allocates nothing.
+    pub fn copy(&self) -> Result<Self, TooManyOwners>
+        ensures { IfOk result (λ s. s ≡ self.now) }
+    {
+        Ok(Shared {
+            value: Arc::try_clone(&self.value)?,
+        })
+    }
 }

@@ -1,14 +1,17 @@
 //! Tests that a rerun was expected to run and has not.
 
-ghost use Rattle.std.specs.Prelude.{◌≡◌};
+ghost use Rattle.std.specs.Prelude.{◌≡◌, IfOk};
 
+use crate::memory::{OutOfMemory, TooManyOwners};
 use crate::name::OwnedTestInstanceId;
+use std::alloc::Global;
 use std::marker::Model;
+use std::sync::Arc;
 
 /// The outstanding tests of the previous run that a rerun has not seen.
 ///
 /// ```
-/// let list = TestInstanceList::new(vec![in alloc; test]?);
+/// let list = TestInstanceList::new(alloc, vec![in alloc; test]?)?;
 /// let not_seen = NotSeen { not_seen: list, total_not_seen: 1 };
 /// ```
 #[derive(Debug, Drop)]
@@ -19,15 +22,27 @@ pub struct NotSeen {
     pub total_not_seen: usize,
 }
 
-/// Tests in order. Contracts see them as a list.
+impl NotSeen {
+    /// A copy that shares the same list. It allocates nothing.
+    pub fn copy(&self) -> Result<Self, TooManyOwners>
+        ensures { IfOk result (λ copy. copy ≡ self.now) }
+    {
+        Ok(NotSeen {
+            not_seen: self.not_seen.copy()?,
+            total_not_seen: self.total_not_seen,
+        })
+    }
+}
+
+/// Tests in order, which copies share. Contracts see them as a list.
 ///
 /// ```
-/// let list = TestInstanceList::new(vec![in alloc; test]?);
+/// let list = TestInstanceList::new(alloc, vec![in alloc; test]?)?;
 /// assert_eq!(list.as_slice()[0].binary_id.as_str(), "alpha");
 /// ```
 #[derive(Debug, Drop)]
 pub struct TestInstanceList {
-    instances: Vec<OwnedTestInstanceId>,
+    instances: Arc<Vec<OwnedTestInstanceId>>,
 }
 
 impl Model for TestInstanceList {
@@ -35,15 +50,17 @@ impl Model for TestInstanceList {
 
     ghost Value = { List OwnedTestInstanceId };
 
-    ghost view = { λ list. list.instances.items };
+    ghost view = { λ list. list.instances.value.items };
 }
 
 impl TestInstanceList {
-    /// These tests.
-    pub fn new(instances: Vec<OwnedTestInstanceId>) -> Self
-        ensures { result ≡ instances.items }
+    /// These tests. It allocates.
+    pub fn new(alloc: Global, instances: Vec<OwnedTestInstanceId>) -> Result<Self, OutOfMemory>
+        ensures { IfOk result (λ list. list ≡ instances.items) }
     {
-        TestInstanceList { instances }
+        Ok(TestInstanceList {
+            instances: Arc::new(alloc, instances)?,
+        })
     }
 
     /// The tests.
@@ -51,5 +68,14 @@ impl TestInstanceList {
         ensures { result.now ≡ self.now }
     {
         self.instances.as_slice()
+    }
+
+    /// A copy that shares the same tests. It allocates nothing.
+    pub fn copy(&self) -> Result<Self, TooManyOwners>
+        ensures { IfOk result (λ list. list ≡ self.now) }
+    {
+        Ok(TestInstanceList {
+            instances: Arc::try_clone(&self.instances)?,
+        })
     }
 }

@@ -80,7 +80,7 @@ pub fn read_instances(alloc: Global, field: &str) -> Result<Option<TestInstanceL
             test_name: TestCaseName::new(alloc, test_name.as_str())?,
         })?;
     }
-    Ok(Some(TestInstanceList::new(instances)))
+    Ok(Some(TestInstanceList::new(alloc, instances)?))
 }
 
 // Reads the words of a list, where `-` is the list of no word. None is a bad word.

@@ -32,6 +32,9 @@ impl<T: WriteText> WriteText for Painted<T> {
     #[inline(always)]
     #[tactic(auto, unfolding(crate::specs::Style::styled))]
     fn write_to<W: WriteStr>(&self, w: &mut W) -> Result<(), WriteFault> {
+        if self.0 == Style::Plain {
+            return self.1.write_to(w);
+        }
         w.write_str(self.0.prefix())?;
         self.1.write_to(w)?;
         w.write_str(self.0.suffix())

@@ -244,7 +244,7 @@ impl SceneEvent {
             }
             SceneEvent::InputEnter(request) => request.get().push_input_call(calls),
             SceneEvent::StressSubRunFinished(finish) => finish.get().push_call(calls),
-            SceneEvent::RunFinished(finish) => finish.get().push_call(alloc, calls),
+            SceneEvent::RunFinished(finish) => finish.get().push_call(calls),
         }
     }
 }

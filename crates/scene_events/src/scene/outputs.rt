@@ -78,7 +78,7 @@ impl SceneOutput {
                 result: outcome,
                 output: output.copy()?,
                 errors: match errors {
-                    Some(errors) => Some(errors.copy(alloc)?),
+                    Some(errors) => Some(errors.copy()?),
                     None => None,
                 },
                 highlight: match highlight {
@@ -87,7 +87,7 @@ impl SceneOutput {
                 },
             },
             SceneOutput::StartError(error) => {
-                ChildExecutionOutputDescription::StartError(error.copy(alloc)?)
+                ChildExecutionOutputDescription::StartError(error.copy()?)
             }
         })
     }

@@ -10,8 +10,8 @@ use run_model::call::ReportCall;
 use run_model::event::{TestCounts, TestEvent, TestEventKind};
 use run_model::level::CancelReason;
 use run_model::memory::OutOfMemory;
-use run_model::name::{OwnedTestInstanceId, ProfileName, RustBinaryId, TestCaseName};
-use run_model::not_seen::{NotSeen, TestInstanceList};
+use run_model::name::ProfileName;
+use run_model::not_seen::NotSeen;
 use run_model::replay::ReplayHeader;
 use run_model::run_id::ShortestRunIdPrefix;
 use run_model::stats::{RunFinishedStats, RunStats};
@@ -191,35 +191,19 @@ impl SubRunFinish {
 
 impl RunFinish {
     /// Pushes this event as a `ReportCall`.
-    pub fn push_call(&self, alloc: Global, calls: &mut Calls<'_>) -> Result<(), OutOfMemory>
+    pub fn push_call(&self, calls: &mut Calls<'_>) -> Result<(), OutOfMemory>
         ensures { PushesCallOf (SceneEvent.RunFinished self.now) calls.old.items result calls.new.items }
     {
-        let outstanding = self.outstanding_not_seen.as_ref();
         let kind = TestEventKind::RunFinished {
             elapsed: self.elapsed,
             run_stats: self.run_stats,
-            outstanding_not_seen: outstanding.map(|it| copy_not_seen(alloc, it)).transpose()?,
+            outstanding_not_seen: match &self.outstanding_not_seen {
+                Some(outstanding) => Some(outstanding.copy()?),
+                None => None,
+            },
         };
         push_event(calls, kind)
     }
-}
-
-// Allocates the names of these tests.
-fn copy_not_seen(alloc: Global, outstanding: &NotSeen) -> Result<NotSeen, OutOfMemory>
-    ensures { IfOk result (λ copy. copy ≡ outstanding.now) }
-{
-    let listed = outstanding.not_seen.as_slice();
-    let mut copies = Vec::with_capacity(alloc, listed.len())?;
-    for test in listed {
-        copies.push(OwnedTestInstanceId {
-            binary_id: RustBinaryId::new(alloc, test.binary_id.as_str())?,
-            test_name: TestCaseName::new(alloc, test.test_name.as_str())?,
-        })?;
-    }
-    Ok(NotSeen {
-        not_seen: TestInstanceList::new(copies),
-        total_not_seen: outstanding.total_not_seen,
-    })
 }
 
 // Statistics that count nothing, with this reason.

@@ -6,7 +6,7 @@ ghost use Rattle.std.specs.Prelude.{◌≡◌, IfOk, IsTrue};
 use super::attempts::{SceneAttempt, SceneAttempts};
 use super::event::{Calls, push_event};
 use super::packed_stats::PackedStats;
-use run_model::boxed::Boxed;
+use run_model::boxed::{Boxed, Shared};
 use run_model::call::ReportCall;
 use run_model::command::CommandLine;
 use run_model::config::TestOutputDisplay;
@@ -441,7 +441,7 @@ pub struct TestAnswer {
 #[derive(Drop)]
 pub struct UnitAnswer {
     /// What it is doing.
-    pub state: Boxed<UnitState>,
+    pub state: Shared<UnitState>,
     /// What it has written so far.
     pub output: Boxed<ChildExecutionOutputDescription<LiveSpec>>,
 }
@@ -503,12 +503,12 @@ impl UnitAnswer {
         }
     }
 
-    // Copies the texts, which allocates, and shares the bytes.
+    // Copies the texts of the output, which allocates, and shares the state and the bytes.
     fn copy(&self, alloc: Global) -> Result<UnitAnswer, OutOfMemory>
         ensures { IfOk result (λ copy. copy ≡ self.now) }
     {
         Ok(UnitAnswer {
-            state: Boxed::new(alloc, self.state.get().copy(alloc)?)?,
+            state: self.state.copy()?,
             output: Boxed::new(alloc, self.output.get().copy(alloc)?)?,
         })
     }

@@ -17,7 +17,7 @@ use super::parts::{
 use super::{EventResult, Field, Line};
 use bytes::BytesMut;
 use run_model::abort::DescriptionText;
-use run_model::boxed::Boxed;
+use run_model::boxed::{Boxed, Shared};
 use run_model::event::TestCounts;
 use run_model::info::UnitState;
 use run_model::memory::OutOfMemory;
@@ -341,7 +341,7 @@ fn read_answer(alloc: Global, fields: &mut Fields<'_>) -> Line<UnitAnswer>
     let (state, outcome) = read_unit_state(alloc, fields)?;
     let output = read_output(alloc, fields)?.description(alloc, outcome)?;
     Ok(UnitAnswer {
-        state: Boxed::new(alloc, state)?,
+        state: Shared::new(alloc, state)?,
         output: Boxed::new(alloc, output)?,
     })
 }
