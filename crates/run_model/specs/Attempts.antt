@@ -1,17 +1,10 @@
 -- The attempts of a test as a value, and the simplest of them.
 use Rattle.std.specs.Prelude.{List, [], ℤ, false, None, Some}
-use Rattle.run_model.specs.declared.output.ChildExecutionOutputDescription.{ChildExecutionOutputDescription}
-use Rattle.run_model.specs.declared.output.ChildExecutionOutputDescription.TheVariants.{Output, StartError}
-use Rattle.run_model.specs.declared.output.ChildOutputDescription.{ChildOutputDescription}
-use Rattle.run_model.specs.declared.output.ChildOutputDescription.TheVariants.{Split}
-use Rattle.run_model.specs.declared.output.LiveSpec.{LiveSpec}
-use Rattle.run_model.specs.declared.status.ExecutionResultDescription.{ExecutionResultDescription}
-use Rattle.run_model.specs.declared.status.ExecutionResultDescription.TheVariants.{Fail}
-use Rattle.run_model.specs.declared.status.FailureDescription.TheVariants.{ExitCode}
-use Rattle.run_model.specs.declared.status.RetryData.{RetryData}
+use Rattle.run_model.specs.declared.output.ChildExecutionOutputDescription.{ChildExecutionOutputDescription, TheVariants.Output, TheVariants.StartError}
+use Rattle.run_model.specs.declared.output.{ChildOutputDescription.ChildOutputDescription, ChildOutputDescription.TheVariants.Split, LiveSpec.LiveSpec}
+use Rattle.run_model.specs.declared.status.ExecutionResultDescription.{ExecutionResultDescription, TheVariants.Fail}
+use Rattle.run_model.specs.declared.status.{FailureDescription.TheVariants.ExitCode, RetryData.RetryData, ExecuteStatus.ExecuteStatus, FlakyResult.FlakyResult}
 use Rattle.run_names.specs.declared.time.Nanos.{Nanos}
-use Rattle.run_model.specs.declared.status.ExecuteStatus.{ExecuteStatus}
-use Rattle.run_model.specs.declared.status.FlakyResult.{FlakyResult}
 
 -- an attempt of a test
 abbrev pub Attempt : Type 0

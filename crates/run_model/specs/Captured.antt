@@ -1,7 +1,6 @@
 -- What a stream holds.
 use Rattle.std.specs.Prelude.{ℕ, List, []}
-use Rattle.std.specs.String.{string_bytes}
-use Rattle.run_model.specs.declared.output.Captured.{Captured}
+use Rattle.{std.specs.String.string_bytes, run_model.specs.declared.output.Captured.Captured}
 use Rattle.run_model.specs.declared.output.Captured.TheVariants.{Nothing, Text, Shared}
 
 -- its bytes

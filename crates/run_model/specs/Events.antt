@@ -1,17 +1,10 @@
 -- The events that most runs are made of. None is of a stress run.
 use Rattle.std.specs.Prelude.{List, None, ℕ}
-use Rattle.run_model.specs.Attempts.{Attempts}
+use Rattle.{run_names.specs.declared.name.TestInstanceId.TestInstanceId, run_names.specs.declared.time.Nanos.Nanos, run_model.specs.Attempts.Attempts}
 use Rattle.run_names.specs.declared.config.TestOutputDisplay.TheVariants.{Never, Immediate}
-use Rattle.run_model.specs.declared.event.TestCounts.{TestCounts}
-use Rattle.run_model.specs.declared.event.TestEvent.{TestEvent}
+use Rattle.run_model.specs.declared.{event.TestCounts.TestCounts, event.TestEvent.TestEvent, output.ChildOutputDescription.ChildOutputDescription}
 use Rattle.run_model.specs.declared.event.TestEventKind.TheVariants.{RunFinished, RunStarted, TestAttemptFailedWillRetry, TestFinished, TestSkipped}
-use Rattle.run_names.specs.declared.name.TestInstanceId.{TestInstanceId}
-use Rattle.run_model.specs.declared.output.ChildOutputDescription.{ChildOutputDescription}
-use Rattle.run_model.specs.declared.output.LiveSpec.{LiveSpec}
-use Rattle.run_model.specs.declared.stats.RunStats.{RunStats}
-use Rattle.run_model.specs.declared.status.ExecuteStatus.{ExecuteStatus}
-use Rattle.run_model.specs.declared.stats.RunFinishedStats.TheVariants.{Single}
-use Rattle.run_names.specs.declared.time.Nanos.{Nanos}
+use Rattle.run_model.specs.declared.{output.LiveSpec.LiveSpec, stats.RunStats.RunStats, status.ExecuteStatus.ExecuteStatus, stats.RunFinishedStats.TheVariants.Single}
 
 abbrev pub run_started : Nanos → TestCounts → List ℕ → List ℕ → TestEvent
 run_started elapsed counts id profile = record { elapsed = elapsed; kind = RunStarted counts id profile }

@@ -1,8 +1,7 @@
 -- What is known of units that are asked what they are doing.
 use Rattle.std.specs.Prelude.{ℕ, Bool, true, false, List, codes}
-use Rattle.run_model.specs.declared.info.UnitState.{UnitState}
+use Rattle.run_model.specs.declared.info.{UnitState.UnitState, UnitTerminateReason.UnitTerminateReason}
 use Rattle.run_model.specs.declared.info.UnitState.TheVariants.{Running, Exiting, Terminating, Exited, DelayBeforeNextAttempt}
-use Rattle.run_model.specs.declared.info.UnitTerminateReason.{UnitTerminateReason}
 use Rattle.run_model.specs.declared.info.UnitTerminateReason.TheVariants.{Timeout, Signal, Interrupt}
 
 -- between two attempts there is no output of the unit

@@ -1,21 +1,13 @@
 -- Decided events as a record has them: the same metadata, and the names of archive members in place of output.
 use Rattle.std.specs.Prelude.{ℕ, List, [], map, Option, None, Some}
-use Rattle.std.specs.Option.{option_map}
-use Rattle.run_model.specs.Attempts.{Attempts}
-use Rattle.run_model.specs.declared.event.TestEventKind.{TestEventKind}
+use Rattle.{std.specs.Option.option_map, run_model.specs.Attempts.Attempts, run_model.specs.declared.event.TestEventKind.TestEventKind}
 use Rattle.run_model.specs.declared.event.TestEventKind.TheVariants.{SetupScriptFinished, TestAttemptFailedWillRetry, TestFinished}
-use Rattle.run_model.specs.declared.output.ChildExecutionOutputDescription.{ChildExecutionOutputDescription}
-use Rattle.run_model.specs.declared.output.ChildExecutionOutputDescription.TheVariants.{Output, StartError}
-use Rattle.run_model.specs.declared.output.ChildOutputDescription.{ChildOutputDescription}
+use Rattle.run_model.specs.declared.output.ChildExecutionOutputDescription.{ChildExecutionOutputDescription, TheVariants.Output, TheVariants.StartError}
+use Rattle.run_model.specs.declared.output.{ChildOutputDescription.ChildOutputDescription, LiveSpec.LiveSpec, RecordedOutput.RecordedOutput, RecordingSpec.RecordingSpec}
 use Rattle.run_model.specs.declared.output.ChildOutputDescription.TheVariants.{Split, Combined, NotLoaded}
-use Rattle.run_model.specs.declared.output.LiveSpec.{LiveSpec}
-use Rattle.run_model.specs.declared.output.RecordedOutput.{RecordedOutput}
 use Rattle.run_model.specs.declared.output.RecordedOutput.TheVariants as recorded
-use Rattle.run_model.specs.declared.output.RecordingSpec.{RecordingSpec}
-use Rattle.run_model.specs.declared.output_event.OutputEventKind.{OutputEventKind}
+use Rattle.run_model.specs.declared.{output_event.OutputEventKind.OutputEventKind, status.ExecuteStatus.ExecuteStatus, status.SetupScriptExecuteStatus.SetupScriptExecuteStatus}
 use Rattle.run_model.specs.declared.output_event.OutputEventKind.TheVariants as decided
-use Rattle.run_model.specs.declared.status.ExecuteStatus.{ExecuteStatus}
-use Rattle.run_model.specs.declared.status.SetupScriptExecuteStatus.{SetupScriptExecuteStatus}
 
 -- the member name of a stream that was captured: it is empty
 abbrev pub recorded_member : Option (List ℕ) → Option (List ℕ)

@@ -1,16 +1,11 @@
 -- The outcome that statistics lead to.
 use Rattle.std.specs.Prelude.{ℕ, ◌-◌, Bool, Option, None, Some, ◌||◌, ◌==◌, nat_lt, if◌then◌else◌}
-use Rattle.run_names.specs.declared.level.CancelReason.{CancelReason}
-use Rattle.run_model.specs.declared.stats.RunStats.{RunStats}
-use Rattle.run_model.specs.declared.stats.RunStatsFailureKind.{RunStatsFailureKind}
-use Rattle.run_model.specs.declared.stats.RunStatsFailureKind.TheVariants.{SetupScript, Test}
-use Rattle.run_model.specs.declared.stats.FinalRunStats.{FinalRunStats}
+use Rattle.{run_names.specs.declared.level.CancelReason.CancelReason, run_model.specs.declared.stats.RunStats.RunStats}
+use Rattle.run_model.specs.declared.stats.RunStatsFailureKind.{RunStatsFailureKind, TheVariants.SetupScript, TheVariants.Test}
+use Rattle.run_model.specs.declared.stats.{FinalRunStats.FinalRunStats, RunFinishedStats.RunFinishedStats, RunFinishedStats.TheVariants.Single, RunFinishedStats.TheVariants.Stress}
 use Rattle.run_model.specs.declared.stats.FinalRunStats.TheVariants.{Success, NoTestsRun, Cancelled, Failed}
-use Rattle.run_model.specs.declared.stats.RunFinishedStats.{RunFinishedStats}
-use Rattle.run_model.specs.declared.stats.RunFinishedStats.TheVariants.{Single, Stress}
-use Rattle.run_model.specs.declared.stats.StressFinalRunStats.{StressFinalRunStats}
+use Rattle.run_model.specs.declared.stats.{StressFinalRunStats.StressFinalRunStats, StressRunStats.StressRunStats}
 use Rattle.run_model.specs.declared.stats.StressFinalRunStats.TheVariants as stress
-use Rattle.run_model.specs.declared.stats.StressRunStats.{StressRunStats}
 
 -- this many tests are planned, and nothing has happened
 abbrev pub planned_stats : ℕ → RunStats

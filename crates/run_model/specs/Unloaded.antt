@@ -1,15 +1,9 @@
 -- Events whose captured output is left unread: that of every attempt. All else stays.
-use Rattle.std.specs.Prelude.{map}
-use Rattle.run_model.specs.Attempts.{Attempts}
-use Rattle.run_model.specs.declared.event.TestEvent.{TestEvent}
-use Rattle.run_model.specs.declared.event.TestEventKind.{TestEventKind}
+use Rattle.{run_model.specs.declared.status.ExecuteStatus.ExecuteStatus, run_model.specs.declared.status.SetupScriptExecuteStatus.SetupScriptExecuteStatus, std.specs.Prelude.map}
+use Rattle.run_model.specs.{Attempts.Attempts, declared.event.TestEvent.TestEvent, declared.event.TestEventKind.TestEventKind}
 use Rattle.run_model.specs.declared.event.TestEventKind.TheVariants.{SetupScriptFinished, TestAttemptFailedWillRetry, TestFinished}
-use Rattle.run_model.specs.declared.output.ChildExecutionOutputDescription.{ChildExecutionOutputDescription}
-use Rattle.run_model.specs.declared.output.ChildExecutionOutputDescription.TheVariants.{Output, StartError}
-use Rattle.run_model.specs.declared.output.ChildOutputDescription.{ChildOutputDescription}
-use Rattle.run_model.specs.declared.output.ChildOutputDescription.TheVariants.{NotLoaded}
-use Rattle.run_model.specs.declared.status.ExecuteStatus.{ExecuteStatus}
-use Rattle.run_model.specs.declared.status.SetupScriptExecuteStatus.{SetupScriptExecuteStatus}
+use Rattle.run_model.specs.declared.output.ChildExecutionOutputDescription.{ChildExecutionOutputDescription, TheVariants.Output, TheVariants.StartError}
+use Rattle.run_model.specs.declared.output.ChildOutputDescription.{ChildOutputDescription, TheVariants.NotLoaded}
 
 -- a start error holds no captured output
 abbrev pub unloaded_output : {S : Type 0} → ChildExecutionOutputDescription S ChildOutputDescription → ChildExecutionOutputDescription S ChildOutputDescription

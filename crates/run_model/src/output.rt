@@ -1,10 +1,7 @@
 //! What a test or a setup script wrote, as it was captured, and what went wrong with it.
 
 ghost use Rattle.std.specs.Prelude.{◌≡◌, [], length, ◌==◌, is_ok, true, IfOk, IsOk, IsTrue};
-ghost use Rattle.std.specs.Option.{unwrap_or};
-ghost use Rattle.std.specs.Cow.{cow_str_bytes, IsOwnedStr};
-ghost use Rattle.std.specs.Str.{encode_utf8_all};
-ghost use Rattle.bstr.specs.Utf8.{lossy_chars};
+ghost use Rattle.{std.specs.Option.unwrap_or, std.specs.Cow.cow_str_bytes, std.specs.Cow.IsOwnedStr, std.specs.Str.encode_utf8_all, bstr.specs.Utf8.lossy_chars};
 ghost use Rattle.run_model.specs.Names.{execution_with_output, silent_execution, silent_output, decoded_text, subslice_value, stdout_part, stderr_part, combined_part, has_errors, has_loaded_output};
 ghost use Rattle.run_model.specs.Names.{is_loaded, recorded_execution, recorded_member, recorded_output, unloaded_output};
 
@@ -73,8 +70,7 @@ struct CapturedText {
 
 impl Model for CapturedText {
     ghost use Rattle.std.specs.Prelude.{List, ℕ, ◌≡◌};
-    ghost use Rattle.std.specs.Option.{option_map_or};
-    ghost use Rattle.run_model.specs.Decoded.{decoded_text};
+    ghost use Rattle.{std.specs.Option.option_map_or, run_model.specs.Decoded.decoded_text};
 
     ghost Value = { List ℕ };
 
@@ -127,8 +123,7 @@ impl CapturedText {
 }
 
 impl Model for ChildSingleOutput {
-    ghost use Rattle.std.specs.Prelude.{List, ℕ};
-    ghost use Rattle.run_model.specs.Captured.{captured_bytes};
+    ghost use Rattle.{std.specs.Prelude.List, std.specs.Prelude.ℕ, run_model.specs.Captured.captured_bytes};
 
     ghost Value = { List ℕ };
 

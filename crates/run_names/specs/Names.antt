@@ -1,7 +1,6 @@
 -- The parts of a test's name.
 use Rattle.std.specs.Prelude.{ℕ, ◌+◌, List, [], ◌∷◌, ◌&&◌, ◌==◌, Bool, true, false, Option, None, Some, take, drop, suc}
-use Rattle.std.specs.Option.{option_map, option_map_or}
-use Rattle.std.specs.Borrow.{Bor}
+use Rattle.std.specs.{Option.option_map, Option.option_map_or, Borrow.Bor}
 
 -- the text begins with `::`
 abbrev pub begins_with_colons : List ℕ → Bool

@@ -28,10 +28,7 @@ lacks_colons : (u : List ℕ) → ((rest : List ℕ) → u ≢ 58 ∷ 58 ∷ res
 lacks_colons [] lacks = refl
 lacks_colons (c ∷ []) lacks = refl
 lacks_colons (c ∷ d ∷ t) lacks = elim (eqb_tells c 58) [
-  | inl p ↦ elim (eqb_tells d 58) [
-    | inl q ↦ absurd (lacks t (rw (p.1, q.1) refl))
-    | inr q ↦ rw (p.0, q.0) refl
-  ]
+  | inl p ↦ elim (eqb_tells d 58) [ inl q ↦ absurd (lacks t (rw (p.1, q.1) refl)) | inr q ↦ rw (p.0, q.0) refl ]
   | inr p ↦ rw p.0 refl
 ]
 
@@ -40,10 +37,7 @@ has_colons u rest h = rw h refl
 
 -- places past the end have none
 lacks_at : (t : List ℕ) (k : ℕ) → (k ≤ length t → LacksTextAt (58 ∷ 58 ∷ []) t k) → begins_with_colons (drop k t) ≡ false
-lacks_at t k lacks = elim (cases_lt (length t) k) [
-  | inl past ↦ rw (drop_all k t (omega arith)) refl
-  | inr within ↦ lacks_colons (drop k t) (lacks within)
-]
+lacks_at t k lacks = elim (cases_lt (length t) k) [ inl past ↦ rw (drop_all k t (omega arith)) refl | inr within ↦ lacks_colons (drop k t) (lacks within) ]
 
 -- the parts that `rsplit_once` gives
 pub split_found : (t front back : List ℕ) → SplitsAroundMatch (RFindsText (58 ∷ 58 ∷ [])) t front back → (Some front ≡ module_path_of t) × (back ≡ last_name_of t)
