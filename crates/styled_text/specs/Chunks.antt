@@ -1,9 +1,6 @@
 -- A text in chunks of whole lines.
 use Rattle.std.specs.Prelude.{◌≡◌, ℕ, ◌<◌, ◌≤◌, ◌⊎◌, List, [], ◌∷◌, ◌++◌, length, map}
-use Rattle.std.specs.Borrow.{Bor}
-use Rattle.std.specs.List.{FoldsTo}
-use Rattle.styled_text.specs.Texts.{Text}
-use Rattle.styled_text.specs.Lines.{HasNoLineFeed}
+use Rattle.{std.specs.Borrow.Bor, std.specs.List.FoldsTo, styled_text.specs.Texts.Text, styled_text.specs.Lines.HasNoLineFeed}
 
 -- a last line without a line feed
 pub record IsLastLine (chunk rest : Text) : Type 0 where

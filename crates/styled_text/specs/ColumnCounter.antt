@@ -1,14 +1,9 @@
 -- The columns of a text, counted while it is written.
-use Rattle.std.specs.Prelude.{◌≡◌, ℕ, ◌+◌, ◌-◌, ◌^◌, List, [], ◌∷◌, ◌++◌, Option, None, Some, min, chars, refl}
-use Rattle.std.specs.Str.{IsUtf8}
-use Rattle.std.proofs.Common.{sym, ap, ◌∙◌, arith, subst}
+use Rattle.{std.specs.Prelude.chars, std.specs.Str.IsUtf8, styled_text.specs.Texts.Text, styled_text.specs.Fitting.char_columns, styled_text.specs.declared.escapes.Mode.Mode}
+use Rattle.std.proofs.Common.{◌≡◌, ℕ, ◌+◌, ◌-◌, ◌^◌, List, [], ◌∷◌, ◌++◌, Option, None, Some, min, refl, sym, ap, ◌∙◌, arith, subst}
 use Rattle.std.proofs.lemmas.Str.{chars-append, chars-nil, IsUtf8-append, IsUtf8-nil}
-use Rattle.styled_text.specs.Texts.{Text}
 use Rattle.styled_text.specs.Scanner.{advanced, mode_after, modes_after}
-use Rattle.styled_text.specs.Fitting.{char_columns}
-use Rattle.writers.specs.Writer.{Meaning, WriterLaws}
-use Rattle.styled_text.specs.declared.escapes.Mode.{Mode}
-use Rattle.styled_text.specs.declared.fitting.column_counter.ColumnCounter.{ColumnCounter}
+use Rattle.{styled_text.specs.declared.fitting.column_counter.ColumnCounter.ColumnCounter, writers.specs.Writer.Meaning, writers.specs.Writer.WriterLaws}
 
 -- the columns of a character in a sequence or in none
 abbrev pub columns_counted : ℕ → Option Mode → ℕ

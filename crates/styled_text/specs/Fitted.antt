@@ -1,17 +1,11 @@
 -- A text that is cut while it is written, character by character.
 use Rattle.std.specs.Prelude.{◌≡◌, ℕ, ◌+◌, Bool, true, false, ◌&&◌, ◌||◌, List, [], ◌∷◌, ◌++◌, Option, None, Some, Result, nat_le, nat_lt, chars, encode_utf8, if◌then◌else◌, refl}
-use Rattle.std.specs.Str.{IsUtf8}
+use Rattle.{styled_text.specs.declared.fitting.fitted.Fitted.Fitted, std.specs.Str.IsUtf8, writers.specs.declared.write_str.WriteFault.WriteFault}
 use Rattle.std.proofs.Common.{sym, ap, ◌∙◌, append_assoc, subst}
 use Rattle.std.proofs.lemmas.Str.{chars-append, chars-nil, IsUtf8-append, IsUtf8-nil}
-use Rattle.styled_text.specs.Texts.{Text}
-use Rattle.styled_text.specs.Scanner.{advanced}
-use Rattle.styled_text.specs.Fitting.{char_columns}
+use Rattle.styled_text.specs.{Texts.Text, Scanner.advanced, Fitting.char_columns, declared.escapes.Mode.Mode, declared.fitting.scan_state.ScanState.ScanState}
 use Rattle.writers.specs.Writer.{Meaning, WriterLaws, Puts}
-use Rattle.styled_text.specs.declared.escapes.Mode.{Mode}
 use Rattle.styled_text.specs.declared.escapes.Mode.TheVariants as mode
-use Rattle.styled_text.specs.declared.fitting.scan_state.ScanState.{ScanState}
-use Rattle.styled_text.specs.declared.fitting.fitted.Fitted.{Fitted}
-use Rattle.writers.specs.declared.write_str.WriteFault.{WriteFault}
 
 -- the position after a character of w columns; past the end it does not change
 abbrev pub next_place : ℕ → ℕ → ℕ → ℕ

@@ -1,10 +1,8 @@
 -- Columns, and a text cut to some of them.
 use Rattle.std.specs.Prelude.{◌≡◌, ℕ, ◌+◌, ◌-◌, ◌≤◌, Bool, true, false, ◌&&◌, List, [], ◌∷◌, ◌++◌, nat_le, nat_lt, chars, encode_utf8_all, unwrap_or, sum_by, if◌then◌else◌}
-use Rattle.std.specs.Str.{IsUtf8}
-use Rattle.unicode_width.specs.Width.{char_width}
-use Rattle.styled_text.specs.Texts.{Text}
+use Rattle.{std.specs.Str.IsUtf8, unicode_width.specs.Width.char_width}
+use Rattle.styled_text.specs.{Texts.Text, Escapes.PieceText.SequenceText, Escapes.PieceText.StretchText}
 use Rattle.styled_text.specs.Escapes.{PieceText, pieces, visible}
-use Rattle.styled_text.specs.Escapes.PieceText.{SequenceText, StretchText}
 
 -- the columns of a character; a control character has none
 unfoldable pub char_columns : ℕ → ℕ

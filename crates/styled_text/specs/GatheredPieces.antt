@@ -1,10 +1,7 @@
 -- Pieces of a text that are gathered before they are written.
 use Rattle.std.specs.Prelude.{◌++◌, Result, MatchResult}
-use Rattle.styled_text.specs.TrailingNewline.{without_trailing_newline, held}
-use Rattle.styled_text.specs.Texts.{Text}
-use Rattle.writers.specs.Writer.{Meaning, Owes}
-use Rattle.styled_text.specs.declared.stripped.gathered_pieces.GatheredPieces.{GatheredPieces}
-use Rattle.writers.specs.declared.write_str.WriteFault.{WriteFault}
+use Rattle.styled_text.specs.{TrailingNewline.without_trailing_newline, TrailingNewline.held, Texts.Text, declared.stripped.gathered_pieces.GatheredPieces.GatheredPieces}
+use Rattle.writers.specs.{Writer.Meaning, Writer.Owes, declared.write_str.WriteFault.WriteFault}
 
 -- what will be written before a following text: a line feed that is held back, what is gathered, and the text, without the
 -- line feed that closes it

@@ -1,8 +1,6 @@
 -- The part of a text that is highlighted.
 use Rattle.std.specs.Prelude.{ℕ, length, take}
-use Rattle.std.specs.List.{join_with_byte}
-use Rattle.styled_text.specs.Texts.{Text}
-use Rattle.styled_text.specs.Lines.{lines}
+use Rattle.{std.specs.List.join_with_byte, styled_text.specs.Texts.Text, styled_text.specs.Lines.lines}
 
 -- the end of the first two lines: before the second line feed, or with the text
 unfoldable pub highlight_end : Text → ℕ

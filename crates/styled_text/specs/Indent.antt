@@ -1,8 +1,6 @@
 -- Indentation of a text.
 use Rattle.std.specs.Prelude.{◌≡◌, Bool, true, false, not, ◌&&◌, ◌==◌, List, [], ◌∷◌, ◌++◌, if◌then◌else◌}
-use Rattle.std.specs.List.{join_with_byte}
-use Rattle.styled_text.specs.Texts.{Text}
-use Rattle.styled_text.specs.Lines.{lines}
+use Rattle.{std.specs.List.join_with_byte, styled_text.specs.Texts.Text, styled_text.specs.Lines.lines}
 
 -- the text is empty
 abbrev pub is_empty : Text → Bool

@@ -1,15 +1,9 @@
 -- What an `Indented` accepts.
-use Rattle.std.specs.Prelude.{◌≡◌, ◌≢◌, List, [], ◌∷◌, ◌++◌, Bool, true, false, cond, ◌==◌, Result, refl}
-use Rattle.std.specs.Fmt.{WritesInCalls}
-use Rattle.std.specs.List.{onto_first, join_with_byte}
-use Rattle.std.proofs.Common.{sym, ap, ◌∙◌, append_assoc, subst, inl, inr}
-use Rattle.std.proofs.lemmas.Bool.{cases_Bool}
-use Rattle.styled_text.specs.Texts.{Text}
-use Rattle.styled_text.specs.Lines.{lines}
+use Rattle.{std.specs.Fmt.WritesInCalls, std.specs.List.onto_first, std.specs.List.join_with_byte, std.proofs.lemmas.Bool.cases_Bool, styled_text.specs.Texts.Text}
+use Rattle.std.proofs.Common.{◌≡◌, ◌≢◌, List, [], ◌∷◌, ◌++◌, Bool, true, false, cond, ◌==◌, Result, refl, sym, ap, ◌∙◌, append_assoc, subst, inl, inr}
+use Rattle.{styled_text.specs.Lines.lines, styled_text.specs.declared.indenter.indentation.Indented.Indented, writers.specs.declared.write_str.WriteFault.WriteFault}
 use Rattle.styled_text.specs.Indent.{indented_line, indented_lines, indent, margin, begins_line, after}
 use Rattle.writers.specs.Writer.{Meaning, WriterLaws, Puts}
-use Rattle.styled_text.specs.declared.indenter.indentation.Indented.{Indented}
-use Rattle.writers.specs.declared.write_str.WriteFault.{WriteFault}
 
 -- the indented text byte by byte; the flag says that a line begins
 abbrev pub indent_onward : Text → Bool → Text → Text

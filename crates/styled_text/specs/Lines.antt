@@ -1,7 +1,6 @@
 -- Lines of a text.
 use Rattle.std.specs.Prelude.{ℕ, ◌-◌, ◌<◌, ◌≢◌, ◌==◌, List, [], ◌∷◌, length, take, if◌then◌else◌}
-use Rattle.std.specs.List.{All, slice_split}
-use Rattle.styled_text.specs.Texts.{Text}
+use Rattle.{std.specs.List.All, std.specs.List.slice_split, styled_text.specs.Texts.Text}
 
 -- the parts of a text between its line feeds: a text with n line feeds has n + 1 lines
 abbrev pub lines : Text → List Text

@@ -1,7 +1,6 @@
 -- Numbers and durations as text.
 use Rattle.std.specs.Prelude.{ℕ, zero, suc, ◌+◌, ◌-◌, ◌/◌, ◌%◌, ◌^◌, [], ◌∷◌, ◌++◌, codes, nat_lt, if◌then◌else◌}
-use Rattle.std.specs.Fmt.{decimal}
-use Rattle.styled_text.specs.Texts.{Text}
+use Rattle.{std.specs.Fmt.decimal, styled_text.specs.Texts.Text}
 
 -- the nearest whole number of units, ties up
 abbrev pub rounded : ℕ → ℕ → ℕ

@@ -1,8 +1,6 @@
 -- What a piece holds.
-use Rattle.styled_text.specs.Escapes.{PieceText}
-use Rattle.styled_text.specs.Escapes.PieceText.{SequenceText, StretchText}
-use Rattle.styled_text.specs.declared.escapes.Piece.{Piece}
-use Rattle.styled_text.specs.declared.escapes.Piece.TheVariants.{Sequence, Stretch}
+use Rattle.styled_text.specs.{Escapes.PieceText, Escapes.PieceText.SequenceText, Escapes.PieceText.StretchText}
+use Rattle.styled_text.specs.declared.escapes.Piece.{Piece, TheVariants.Sequence, TheVariants.Stretch}
 
 -- its bytes, without their address
 abbrev pub piece_text : Piece → PieceText

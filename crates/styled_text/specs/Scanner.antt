@@ -2,12 +2,9 @@
 use Rattle.std.specs.Prelude.{◌≡◌, ℕ, suc, Bool, false, ◌==◌, ◌&&◌, List, [], ◌∷◌, Option, None, Some, unwrap_or, if◌then◌else◌}
 use Rattle.styled_text.specs.Texts.{Text}
 use Rattle.styled_text.specs.Escapes.{csi_len, osc_len, short_len, sequence_len, then_len, front_len, one_len, is_within, is_parameter, is_intermediate, is_control}
-use Rattle.styled_text.specs.declared.escapes.Mode.{Mode}
+use Rattle.styled_text.specs.declared.escapes.{Mode.Mode, State.State, Step.Step, Step.TheVariants.Inside, Step.TheVariants.Ends}
 use Rattle.styled_text.specs.declared.escapes.Mode.TheVariants as mode
-use Rattle.styled_text.specs.declared.escapes.State.{State}
 use Rattle.styled_text.specs.declared.escapes.State.TheVariants.{Start, Parameters, Intermediates, Command, Short}
-use Rattle.styled_text.specs.declared.escapes.Step.{Step}
-use Rattle.styled_text.specs.declared.escapes.Step.TheVariants.{Inside, Ends}
 
 -- how many of the following bytes still belong to the sequence
 abbrev pub rest_len : State → Text → ℕ

@@ -2,10 +2,8 @@
 use Rattle.std.specs.Prelude.{Bool, true, false, [], ◌∷◌, ◌++◌, codes}
 use Rattle.styled_text.specs.Texts.{Text}
 unfoldable pub use Rattle.writers.specs.Texts.{plain}
-use Rattle.styled_text.specs.declared.style.Style.{Style}
+use Rattle.styled_text.specs.declared.style.{Style.Style, Styles.Styles, ListStyles.ListStyles}
 use Rattle.styled_text.specs.declared.style.Style.TheVariants as style
-use Rattle.styled_text.specs.declared.style.Styles.{Styles}
-use Rattle.styled_text.specs.declared.style.ListStyles.{ListStyles}
 
 -- the parameters of the sequence that begins a style
 abbrev pub style_code : Style → Text

@@ -41,8 +41,7 @@ pub struct Scanner<'a> {
 }
 
 impl<'a> Model for Scanner<'a> {
-    ghost use Rattle.std.specs.Prelude.{List};
-    ghost use Rattle.styled_text.specs.Escapes.{PieceText, pieces};
+    ghost use Rattle.{std.specs.Prelude.List, styled_text.specs.Escapes.PieceText, styled_text.specs.Escapes.pieces};
 
     ghost Value = { List PieceText };
 

@@ -1,8 +1,7 @@
 //! Numbers and spaces as text.
 
 ghost use Rattle.std.specs.Prelude.{◌≡◌, ◌+◌, ◌/◌, ◌%◌, ◌<◌, ◌≤◌, ◌∷◌, [], ◌++◌, ◌-◌, length, chars, codes};
-ghost use Rattle.styled_text.specs.Names.{spaces, right_in, digit_column, last_digits, rounded, seconds, Puts};
-ghost use Rattle.writers.specs.Texts.{plain};
+ghost use Rattle.styled_text.specs.Names.{spaces, right_in, digit_column, last_digits, rounded, seconds, Puts, plain};
 
 use itoa::Buffer;
 use std::str;

@@ -1,7 +1,6 @@
 //! A repeated character, as in a bar.
 
-ghost use Rattle.std.specs.Prelude.{encode_utf8};
-ghost use Rattle.styled_text.specs.Names.{repeat, Puts};
+ghost use Rattle.{std.specs.Prelude.encode_utf8, styled_text.specs.Names.repeat, styled_text.specs.Names.Puts};
 
 use writers::write_str::{WriteFault, WriteStr};
 

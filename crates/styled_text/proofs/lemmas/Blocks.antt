@@ -1,14 +1,11 @@
 -- Runs of bytes that are found by the mask of a block (for `escape_marks`, `other_marks`, `parameters_in_block`, `stretch_in_block`).
 use Rattle.std.proofs.Common.{◌≡◌, ℕ, zero, suc, ◌+◌, ◌-◌, ◌++◌, drop, ◌%◌, ◌^◌, ◌<◌, ◌≤◌, Bool, true, not, List, [], ◌∷◌, map, length, take, replicate, refl, sym, ap, ap₂, ◌∙◌, arith, w8, Fits}
-use Rattle.std.proofs.lemmas.Bool.{agree_below, agree_below_at}
+use Rattle.std.proofs.{lemmas.Bool.agree_below, lemmas.Bool.agree_below_at, Math.Seq.take-append-add}
 use Rattle.std.proofs.lemmas.List.{length-map, length-take-le, length-drop, take-take, take-append-le}
-use Rattle.std.proofs.Math.Seq.{take-append-add}
 use Rattle.std.proofs.lemmas.Simd.{map-map, mask_l-mod, trailing_mask_l, take_more_put_chunk, length-put_chunk}
-use Rattle.styled_text.specs.Names.{prefix_len, Each1, mask_l, top, zip2}
-use lib.Count.{count_trailing_zeros}
-use lib.Lanes.{chunk, put_chunk}
+use Rattle.styled_text.specs.Names.{prefix_len, Each1, mask_l, top, zip2, Text, front_len}
+use lib.{Count.count_trailing_zeros, Lanes.chunk, Lanes.put_chunk}
 use borrow.Rule.Slice.PartMut.{mid_of, put_mid, post_of}
-use Rattle.styled_text.specs.Names.{Text, front_len}
 
 -- what a block holds is known for each of the 256 bytes
 each_byte : (f : ℕ → ℕ) (p : ℕ → Bool) → agree_below (λ x. top 7 (f x)) p 256 ≡ true → (v : List ℕ) → Each1 (Fits w8) v → map (top 7) (map f v) ≡ map p v

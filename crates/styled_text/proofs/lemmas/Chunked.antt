@@ -1,12 +1,9 @@
 -- Chunks, from the positions of line feeds (for `chunk_len`, `split_chunk`, `visit_chunks`).
 use Rattle.std.proofs.Common.{◌≡◌, ◌≢◌, ℕ, ◌+◌, ◌-◌, ◌<◌, ◌==◌, inl, inr, [], ◌∷◌, ◌++◌, refl, sym, ap, ◌∙◌, arith, length, get_or, take, drop, min, length-append, length-take, length-drop, add-one, get_or-take, get_or-drop}
-use Rattle.std.proofs.Math.Seq.{take-suc, get_or-append_seam}
-use Rattle.std.proofs.lemmas.Bool.{cases_lt, eqb-true}
-use Rattle.std.proofs.lemmas.List.{nil_from_length, drop_all}
-use Rattle.std.proofs.lemmas.Str.{IsCharBoundary-end}
+use Rattle.std.proofs.{Math.Seq.take-suc, Math.Seq.get_or-append_seam, lemmas.Bool.cases_lt, lemmas.Bool.eqb-true, lemmas.List.nil_from_length, lemmas.List.drop_all}
+use Rattle.{std.proofs.lemmas.Str.IsCharBoundary-end, styled_text.proofs.lemmas.Feeds.to_zero, styled_text.proofs.lemmas.Feeds.boundary_after_feed}
 use Rattle.styled_text.specs.Names.{IsUtf8, IsCharBoundary, Text, IsChunk, VisitsChunks, Bor, EndsFar, EndsText, IsChunkEnd}
 use Rattle.memchr.specs.Find.{Nowhere, NoneBefore, Passes, is_byte}
-use Rattle.styled_text.proofs.lemmas.Feeds.{to_zero, boundary_after_feed}
 
 -- a text up to a line feed, and the line feed
 to_feed : (t : Text) (i : ℕ) → i < length t → get_or t i 0 ≡ 10 → take (i + 1) t ≡ take i t ++ 10 ∷ []
@@ -81,11 +78,7 @@ ends_text near t h b = record {
 
 pub visits_more : {F : Type 0} (step : F → Bor Text → F → Type 0) (limit : ℕ) (t : Text) (chunk : Bor Text) (rest : Text) (f g last : F) → t ≡ chunk.now ++ rest → IsChunk limit chunk.now rest → step f chunk g
     → VisitsChunks step limit rest g last → VisitsChunks step limit t f last
-visits_more step limit t chunk rest f g last e h s v = record {
-  chunks = chunk ∷ v.chunks;
-  are_chunks = (rest, e, h, v.are_chunks);
-  calls = (g, s, v.calls);
-}
+visits_more step limit t chunk rest f g last e h s v = record { chunks = chunk ∷ v.chunks; are_chunks = (rest, e, h, v.are_chunks); calls = (g, s, v.calls) }
 
 pub visits_none : {F : Type 0} (step : F → Bor Text → F → Type 0) (limit : ℕ) (t : Text) (f : F) → length t ≡ 0 → VisitsChunks step limit t f f
 visits_none step limit t f h = record { chunks = []; are_chunks = nil_from_length t h; calls = refl }

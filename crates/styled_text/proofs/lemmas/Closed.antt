@@ -1,12 +1,9 @@
 -- Texts each of whose sequences ends by itself, made of styles and of words without escape characters (for the lemmas of InstanceWidths).
 use Rattle.std.proofs.Common.{◌≡◌, ◌≢◌, ℕ, zero, suc, ◌-◌, false, inl, inr, [], ◌∷◌, ◌++◌, refl, sym, ap, ◌∙◌, arith, length, encode_utf8, chars, ◌/◌, ◌%◌}
-use Rattle.std.proofs.lemmas.Bool.{cases_lt}
-use Rattle.std.proofs.lemmas.Bool.Decides.{nat_tests, eqb_tells}
-use Rattle.std.proofs.lemmas.Str.{encode_ascii}
+use Rattle.std.proofs.lemmas.{Bool.cases_lt, Bool.Decides.nat_tests, Bool.Decides.eqb_tells, Str.encode_ascii}
 use Rattle.styled_text.specs.Names.{decimal, digits, digits_onto, digit_glyph, repeat, Text, spaces, right_in, pieces, pieces_after, sequence_len, HasNoEscape, sequences, AreClosed, plain, styled, style_prefix, style_suffix, reset_color, Style}
-use Rattle.styled_text.proofs.lemmas.Marks.{AreHigh, encode-high}
+use Rattle.styled_text.proofs.lemmas.{Marks.AreHigh, Marks.encode-high, Pieces.joined-pieces}
 use Rattle.styled_text.proofs.lemmas.Widths.{free_both, sequences-joined, free_after, sequences-free, closed_both}
-use Rattle.styled_text.proofs.lemmas.Pieces.{joined-pieces}
 use Rattle.styled_text.specs.declared.style.Style.TheVariants as style
 
 -- a text whose sequences end by themselves

@@ -1,11 +1,9 @@
 -- Where a sequence ends, and one more character of one (for `control_len`, `sequence_len`, `stepwise_len`, `next_step` and others).
 use Rattle.std.proofs.Common.{◌≡◌, ℕ, zero, suc, ◌+◌, ◌<◌, ◌≤◌, Bool, true, false, ◌&&◌, ◌==◌, ◌⊎◌, inl, inr, [], ◌∷◌, refl, ap, arith, length, get_or, drop, lit<, length-drop, add-zero, add-suc, get_or-drop, cond}
 use Rattle.std.proofs.lemmas.Bool.{cases_Bool, and_parts, and_right}
-use Rattle.std.proofs.lemmas.Bool.Decides.{nat_tests}
+use Rattle.{std.proofs.lemmas.Bool.Decides.nat_tests, std.proofs.lemmas.List.nil_from_length, styled_text.specs.declared.escapes.State.TheVariants.Start}
 use Rattle.styled_text.specs.Names.{Text, is_before_backslash, rest_len, is_within, is_parameter, is_intermediate, is_control, front_len, one_len, then_len, csi_end_len, csi_len, osc_len, short_len}
 use Rattle.styled_text.specs.Names.{sequence_len, State}
-use Rattle.std.proofs.lemmas.List.{nil_from_length}
-use Rattle.styled_text.specs.declared.escapes.State.TheVariants.{Start}
 
 pub then_len-inside : (p : ℕ → Bool) (g : Text → ℕ) (c : ℕ) (t : Text) → p c ≡ true → then_len (front_len p) g (c ∷ t) ≡ suc (then_len (front_len p) g t)
 then_len-inside p g c t h = rw h (omega arith)

@@ -2,10 +2,8 @@
 use Rattle.std.proofs.Common.{◌≡◌, ◌≤◌, inl, inr, sym, ℕ, zero, suc, ◌+◌, ◌-◌, ◌/◌, ◌%◌, ◌^◌, ◌<◌, [], ◌∷◌, ◌++◌, length, ap, ◌∙◌, arith, length-append, append_assoc, codes, lit<, refl, IsUtf8}
 use Rattle.styled_text.specs.Names.{decimal, AllByRecursion, IsAscii, IsUtf8, chars, Text, spaces, right_in, digit_column, rounded, last_digits, with_point, seconds}
 use Rattle.std.proofs.lemmas.Str.{chars-IsAscii, IsAscii-append, IsUtf8-from_ascii, chars-append}
-use Rattle.std.proofs.lemmas.Bool.{cases_lt}
-use Rattle.std.proofs.lemmas.Bool.Decides.{nat_tests}
+use Rattle.std.proofs.lemmas.{Bool.cases_lt, Bool.Decides.nat_tests, List.replicate-append-replicate}
 use Rattle.std.proofs.lemmas.Fmt.{IsAscii-decimal_wide, decimal_digit, decimal_step}
-use Rattle.std.proofs.lemmas.List.{replicate-append-replicate}
 
 -- one byte, and a list with one more in front
 pub IsAscii-cons : (c : ℕ) (t : Text) → c < 128 → IsAscii t → IsAscii (c ∷ t)
@@ -82,8 +80,7 @@ in-columns n h = elim (cases_lt n 10) [
 
 -- the bytes of a short duration between brackets
 abbrev pub row_of : ℕ → ℕ → ℕ → ℕ → ℕ → Text
-row_of whole r a b c =
-    91 ∷ a ∷ b ∷ c ∷ (48 + whole % 10) ∷ 46 ∷ (48 + r / 100 % 10) ∷ (48 + r / 10 % 10) ∷ (48 + r % 10) ∷ 115 ∷ 93 ∷ 32 ∷ []
+row_of whole r a b c = 91 ∷ a ∷ b ∷ c ∷ (48 + whole % 10) ∷ 46 ∷ (48 + r / 100 % 10) ∷ (48 + r / 10 % 10) ∷ (48 + r % 10) ∷ 115 ∷ 93 ∷ 32 ∷ []
 
 pub IsUtf8-row : (whole r a b c : ℕ) → a ≡ digit_column whole 1000 → b ≡ digit_column whole 100 → c ≡ digit_column whole 10 → IsUtf8 (row_of whole r a b c)
 IsUtf8-row whole r a b c p q s =
@@ -113,6 +110,4 @@ spaces_first n k t is within = spaces-split n k within ∙ ap (λ u. u ++ spaces
 
 -- the characters of four texts
 pub joined_columns : (a b c d : Text) → IsUtf8 a → IsUtf8 b → IsUtf8 c → length (chars (a ++ (b ++ (c ++ d)))) ≡ length (chars a) + (length (chars b) + (length (chars c) + length (chars d)))
-joined_columns a b c d p q r =
-    rw (chars-append a (b ++ (c ++ d)) p, chars-append b (c ++ d) q, chars-append c d r)
-    (simp length-append)
+joined_columns a b c d p q r = rw (chars-append a (b ++ (c ++ d)) p, chars-append b (c ++ d) q, chars-append c d r) (simp length-append)

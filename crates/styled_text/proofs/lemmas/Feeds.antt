@@ -1,15 +1,11 @@
 -- The positions of line feeds, and the ends of the first lines of a text (for `split_line`, `highlight_end`).
 use Rattle.std.proofs.Common.{◌≡◌, ℕ, ◌+◌, ◌-◌, ◌<◌, false, ◌==◌, sym, ap, ◌∙◌, arith, length, get_or, take, length-take-le, get_or-take, suc, [], ◌∷◌, ◌++◌, cond, refl, drop, count_by, length-append, get_or-drop, add-one, take-append-drop}
-use Rattle.std.proofs.lemmas.List.{get_or_default, nil_from_length}
-use Rattle.std.proofs.lemmas.Str.{IsCharBoundary-after_ascii}
-use Rattle.styled_text.specs.Names.{IsUtf8, IsCharBoundary, Text, IsOneLine, lines, whole_lines}
+use Rattle.std.proofs.lemmas.{List.get_or_default, List.nil_from_length, Str.IsCharBoundary-after_ascii, Bool.false_from_ne_true, Bool.eqb-true}
+use Rattle.styled_text.specs.Names.{IsUtf8, IsCharBoundary, Text, IsOneLine, lines, whole_lines, All, highlight_end}
 use Rattle.memchr.specs.Find.{NoneBefore, Passes, is_byte, Nowhere}
 use lib.Seq.{take-add}
 use Rattle.std.proofs.Math.Seq.{drop-cons, take-suc, take-length}
-use Rattle.std.proofs.lemmas.Bool.{false_from_ne_true, eqb-true}
-use Rattle.std.proofs.lemmas.List.Sums.{sum_by-cons, sum_by-append}
-use Rattle.std.proofs.lemmas.List.Splits.{slice_split_none, slice_split_at}
-use Rattle.styled_text.specs.Names.{All, highlight_end}
+use Rattle.std.proofs.lemmas.List.{Sums.sum_by-cons, Sums.sum_by-append, Splits.slice_split_none, Splits.slice_split_at}
 
 -- the default does not matter inside
 pub to_zero : (t : Text) (k d : ℕ) {n : ℕ} → k < length t → get_or t k d ≡ n → get_or t k 0 ≡ n

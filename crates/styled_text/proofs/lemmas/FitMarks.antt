@@ -1,8 +1,7 @@
 -- What is kept while a text is written is what fitting keeps of the whole (for `write_fitted`, `count_columns`, `ColumnCounterWriteStr::write_str`).
 use Rattle.std.proofs.Common.{ap₂, ◌≡◌, ℕ, zero, suc, ◌+◌, ◌<◌, ◌≤◌, Bool, true, false, cond, ◌&&◌, ◌||◌, ◌==◌, ◌⊎◌, inl, inr, List, [], ◌∷◌, ◌++◌, refl, sym, ap, ◌∙◌, arith, take, append_assoc, subst, Option, Some, None, is_some, unwrap_or, nat_le, nat_lt, chars, encode_utf8, encode_utf8_all, lit<, Result, Ok, Err}
 use Rattle.std.proofs.lemmas.Bool.{cases_Bool, cases_lt, eqb-true}
-use Rattle.std.proofs.lemmas.Bool.Decides.{nat_tests}
-use Rattle.std.proofs.lemmas.Str.{encodes-chars, encode_ascii}
+use Rattle.std.proofs.lemmas.{Bool.Decides.nat_tests, Str.encodes-chars, Str.encode_ascii}
 use Rattle.styled_text.specs.Names.{IsUtf8, Text, is_visible, front_len, sequence_len, PieceText, pieces, pieces_after, SequenceText, StretchText, columns_counted, columns_from, saturated}
 use Rattle.styled_text.specs.Names.{CounterAccepts, advanced, mode_after, modes_after, char_columns, columns_of, columns, kept_chars, kept_stretch, fit_pieces, fit, stretch_columns, next_place}
 use Rattle.styled_text.specs.Names.{is_char_kept_by, moved_by, kept_from, fitted_text, fitted_meaning, stops_kept, Mode, ScanState, Meaning, WriterLaws, Puts, Fitted, WriteFault, ColumnCounter}
@@ -70,11 +69,7 @@ module _ (start end : ℕ) where
   closed_stretch place pos (c ∷ cs) ms h k =
       let more = closed_stretch (next_place end place (char_columns c)) (pos + char_columns c) cs ms (next_is place pos (char_columns c) h) (omega arith) in
       let late : nat_lt place end ≡ false = elim h [ inl e ↦ grind (arith, nat_tests) | inr b ↦ grind (arith, nat_tests) ] in
-      record {
-        next = more.next;
-        is_place = subst (IsPlace more.next) (omega (arith, columns_of-cons c cs)) more.is_place;
-        kept = rw late more.kept;
-      }
+      record { next = more.next; is_place = subst (IsPlace more.next) (omega (arith, columns_of-cons c cs)) more.is_place; kept = rw late more.kept }
 
   -- a sequence
   kept_sequence : (place : ℕ) (cs : List ℕ) (ms : List Mark) → kept_marks place false (tagged true cs ++ ms) ≡ encode_utf8_all cs ++ kept_marks place false ms
@@ -95,10 +90,7 @@ AreApart (StretchText s ∷ ps) = IsShut ps × AreApart ps
 shut_after : (t : Text) → IsShut (pieces_after (front_len is_visible t) t)
 unfolding pieces_after
 shut_after [] = tt
-shut_after (c ∷ t) = let more = shut_after t in elim (cases_Bool (c == 27)) [
-  | inl y ↦ rw y (rw y (first c t y))
-  | inr n ↦ rw n more
-]
+shut_after (c ∷ t) = let more = shut_after t in elim (cases_Bool (c == 27)) [ inl y ↦ rw y (rw y (first c t y)) | inr n ↦ rw n more ]
   where
     first : (c : ℕ) (t : Text) → (c == 27) ≡ true → (d : ℕ) × (ds : List ℕ) × (chars (c ∷ take (sequence_len t) t) ≡ d ∷ ds)
     first c t y = (27, chars (take (sequence_len t) t), ap (λ b. chars (b ∷ take (sequence_len t) t)) (eqb-true c 27 y) ∙ (rw (encode_ascii 27 (lit< tt)) at (chars_past 27 (take (sequence_len t) t) refl)))
@@ -208,11 +200,7 @@ pub next_counted : (a b : ColumnCounter) (t rest : Text) (c : ℕ) → IsUtf8 t 
 unfolding columns_from modes_after
 next_counted a b t rest c u e m k =
     let s = first_scalar t rest c u e in
-    record {
-      utf8 = one_utf8 c s;
-      mode = rw (one_char c s) m;
-      columns = rw (one_char c s) (omega (arith, k));
-    }
+    record { utf8 = one_utf8 c s; mode = rw (one_char c s) m; columns = rw (one_char c s) (omega (arith, k)) }
 
 -- a text from the first count on
 pub all_counted : (a b : ColumnCounter) (t : Text) → a.mode ≡ mode.Text → a.columns ≡ 0 → CounterAccepts a t b → b.columns ≡ saturated (columns t)

@@ -1,12 +1,10 @@
 -- What is kept of a text that is cut (for `ColumnCounterWriteStr::write_str`, `FittedWriteStr::write_str`).
 use Rattle.std.proofs.Common.{◌≡◌, ℕ, zero, suc, ◌+◌, ◌*◌, ◌<◌, ◌≤◌, false, inl, inr, List, [], ◌∷◌, ◌++◌, refl, ap, ◌∙◌, arith, length, chars, encode_utf8_all, drop, add-one, lit<}
-use Rattle.std.proofs.lemmas.Bool.Decides.{nat_tests, eqb_tells}
-use Rattle.std.proofs.lemmas.List.Sums.{sum_by-cons, sum_by-append}
+use Rattle.std.proofs.lemmas.{Bool.Decides.nat_tests, Bool.Decides.eqb_tells, List.Sums.sum_by-cons, List.Sums.sum_by-append}
 use Rattle.std.proofs.lemmas.Str.{chars-append, IsUtf8-take, IsUtf8-drop, IsUtf8-append, IsUtf8-nil, chars-nil}
 use Rattle.styled_text.specs.Names.{IsUtf8, Text, PieceText, pieces, pieces_after, stretches, sequence_len, front_len, is_visible, SequenceText, StretchText, char_columns, columns_of, columns}
 use Rattle.styled_text.specs.Names.{kept_chars, kept_stretch, stretch_columns}
-use Rattle.unicode_width.proofs.Rules.{width_or_zero-le}
-use Rattle.styled_text.proofs.lemmas.Cuts.{sequence_len-cut}
+use Rattle.{styled_text.proofs.lemmas.Cuts.sequence_len-cut, unicode_width.proofs.Rules.width_or_zero-le}
 use Rattle.styled_text.proofs.lemmas.Pieces.{boundary, stretch_len-cut, stretches-pieces}
 
 pub char_columns-le : (c : ℕ) → char_columns c ≤ 3

@@ -1,8 +1,7 @@
 -- A text that is cut while it is written (for `FittedWriteStr::write_str`, `FittedWriteStr::write_str_flush`).
 use Rattle.std.proofs.Common.{◌≡◌, ℕ, [], ◌∷◌, ◌++◌, true, refl, sym, ap, ◌∙◌, append-nil, chars, encode_utf8, Result, Ok, Err}
-use Rattle.std.proofs.lemmas.Bool.{and_parts}
+use Rattle.std.{proofs.lemmas.Bool.and_parts, specs.Str.IsUtf8, specs.Str.all_scalars}
 use Rattle.std.proofs.lemmas.Str.{chars-encodes, chars-nil, IsUtf8-nil, cons_from_encodes}
-use Rattle.std.specs.Str.{IsUtf8, all_scalars}
 use lib.Utf8.{scalar}
 use Rattle.styled_text.specs.Names.{Text, kept_char, kept_from, fitted_text, fitted_text-nil, scan_after, PutsChar, fitted_meaning, Meaning, Puts, Fitted, WriteFault}
 

@@ -1,10 +1,8 @@
 -- Indentation over a destination of `fmt` (for `DisplayIndentedDisplay::fmt`, `Indented::fmt_line`, `Indented::fmt_margin`, `IndentedWrite::write_str`).
 use Rattle.std.proofs.Common.{◌≡◌, List, [], ◌∷◌, ◌++◌, true, refl, sym, ap, ◌∙◌, subst, append-nil, Result, Ok, Err, Option, Some, None, length, ◌==◌}
-use Rattle.std.proofs.lemmas.Bool.{eqb-true}
-use Rattle.std.proofs.lemmas.List.{nil_from_length}
+use Rattle.{std.proofs.lemmas.Bool.eqb-true, std.proofs.lemmas.List.nil_from_length, styled_text.proofs.lemmas.Indents.indent-line, styled_text.proofs.lemmas.Indents.margin-first}
 use Rattle.styled_text.specs.Names.{IsOk, OnOk, WritesInCalls, WritesText, IsPlainFormatter, HasWritten, DisplaysOnOk, FoldsTo, concat, option_map, Formatter, Error, Text, IsOneLine, margin, indent}
 use Rattle.styled_text.specs.Names.{after, IndentedTakes, TakesMargin, indent-append, after-append, indent-none, after-none, folds_append, concat_append, written_twice, Indented}
-use Rattle.styled_text.proofs.lemmas.Indents.{indent-line, margin-first}
 
 module _ {W : Type 0} (took : W → Text → W → Type 0) where
   no_calls : (a : W) → WritesInCalls took a [] a

@@ -2,10 +2,8 @@
 use Rattle.std.proofs.Common.{length, arith, append_assoc, ap₂, ◌≢◌, ◌≡◌, ℕ, zero, suc, Bool, true, false, cond, ◌&&◌, ◌==◌, List, [], ◌∷◌, ◌++◌, map, refl, sym, ◌∙◌, ap, inl, inr, append-nil}
 use Rattle.styled_text.specs.Names.{AllByRecursion, onto_first, join_with_byte, Text, sequence_len, visible_after, visible, HasNoEscape, lines, indented_line, indented_lines, indent, ends_line}
 use Rattle.styled_text.specs.Names.{without_end_spaces, IsEqualButEndSpaces}
-use Rattle.std.proofs.lemmas.Bool.{cases_Bool}
-use Rattle.std.proofs.lemmas.List.Splits.{join_with_byte-slice_split, length-slice_split}
-use Rattle.styled_text.proofs.lemmas.LineSequences.{visible-line}
-use Rattle.styled_text.proofs.lemmas.Widths.{visible-free_append}
+use Rattle.std.proofs.lemmas.{Bool.cases_Bool, List.Splits.join_with_byte-slice_split, List.Splits.length-slice_split}
+use Rattle.styled_text.proofs.lemmas.{LineSequences.visible-line, Widths.visible-free_append}
 
 pub alike-front : (t u v : Text) → IsEqualButEndSpaces u v → IsEqualButEndSpaces (t ++ u) (t ++ v)
 unfolding without_end_spaces
@@ -53,10 +51,7 @@ lines-append (c ∷ t) u = grind (arith, lines-append t u, onto_first-append c (
 
 lines-are : (t : Text) → AllByRecursion IsLine (lines t)
 lines-are [] = (tt, tt)
-lines-are (c ∷ t) = elim (cases_Bool (c == 10)) [
-  | inl e ↦ rw e (tt, lines-are t)
-  | inr n ↦ rw n (go n (lines t) (lines-are t))
-]
+lines-are (c ∷ t) = elim (cases_Bool (c == 10)) [ inl e ↦ rw e (tt, lines-are t) | inr n ↦ rw n (go n (lines t) (lines-are t)) ]
   where
     go : (c == 10) ≡ false → (ls : List Text) → AllByRecursion IsLine ls → AllByRecursion IsLine (onto_first c ls)
     go n [] h = ((n, tt), tt)

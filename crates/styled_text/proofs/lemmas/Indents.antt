@@ -1,7 +1,6 @@
 -- Lines that are indented (for `Indented::fmt_line`, `Indented::fmt_margin`, `Indented::write_line`, `Indented::write_margin` and others).
 use Rattle.std.proofs.Common.{◌≡◌, ◌≢◌, ℕ, suc, ◌+◌, ◌-◌, ◌<◌, [], ◌∷◌, ◌++◌, Bool, true, false, ◌==◌, nat_eq, length, take, get_or, get_or-take, length-take-le, refl, ap, sym, ◌∙◌, arith, inl, inr, Result, Ok, Err}
-use Rattle.std.proofs.lemmas.Bool.{ne_eqb}
-use Rattle.std.proofs.lemmas.Bool.Decides.{eqb_tells, nat_tests}
+use Rattle.std.proofs.lemmas.{Bool.ne_eqb, Bool.Decides.eqb_tells, Bool.Decides.nat_tests}
 use lib.Pointwise.{pointwise}
 use Rattle.styled_text.specs.Names.{Text, IsOneLine, margin, indent, after, indent-append, indent_onward, indent-onward, after_onward, after-onward, indented_meaning, IndentedStops, IndentedAccepts}
 use Rattle.styled_text.specs.Names.{PutsMargin, Meaning, WriterLaws, Puts, Indented, WriteFault}
@@ -75,10 +74,7 @@ after-ends b t r line h =
 module _ {W : Type 0} {m : Meaning W} (laws : WriterLaws m) (t : Text) (line : IsOneLine t) where
   -- the margin is stopped
   pub margin_stopped : (a b : Indented W) (e : WriteFault) → PutsMargin m a t (Err e) b → IndentedStops m a t e b
-  margin_stopped a b e p = record {
-    below = rw (indent-line a.indentation.now a.needs_indent t line) (laws.stops_within _ _ _ t e p.below);
-    same = p.same;
-  }
+  margin_stopped a b e p = record { below = rw (indent-line a.indentation.now a.needs_indent t line) (laws.stops_within _ _ _ t e p.below); same = p.same }
 
   -- the line is stopped
   pub line_stopped : (a b c : Indented W) (e : WriteFault) → PutsMargin m a t (Ok tt) b → m.stops b.inner.now t e c.inner.now → c.inner.ghost_name ≡ b.inner.ghost_name → IndentedStops m a t e c

@@ -3,8 +3,7 @@ use Rattle.std.proofs.Common.{◌≡◌, ℕ, zero, suc, ◌≤◌, Bool, false,
 use Rattle.std.proofs.lemmas.List.{drop-append-le}
 use Rattle.styled_text.specs.Names.{Text, is_before_backslash, is_within, is_parameter, is_intermediate, front_len, one_len, then_len, csi_len, osc_len, short_len, sequence_len, visible_after}
 use Rattle.styled_text.specs.Names.{visible}
-use Rattle.styled_text.proofs.lemmas.Cuts.{sequence_len-le, osc_len-cons}
-use Rattle.styled_text.proofs.lemmas.Pieces.{front_len-le}
+use Rattle.styled_text.proofs.lemmas.{Cuts.sequence_len-le, Cuts.osc_len-cons, Pieces.front_len-le}
 
 -- a length that a line feed after the text does not change
 abbrev IsWithinLine : (Text → ℕ) → Type 0

@@ -1,16 +1,13 @@
 -- The characters of a text, each marked by whether a sequence holds it (for the lemmas of Closed, FitMarks).
 use Rattle.std.proofs.Common.{◌≡◌, ℕ, zero, suc, ◌+◌, ◌≤◌, Bool, true, false, cond, ◌==◌, inl, inr, List, [], ◌∷◌, ◌++◌, refl, sym, ap, ◌∙◌, arith, length, take, drop, Some, is_some, unwrap_or, chars, encode_utf8, encode_utf8_all, lit<, nat_lt, subst, ◌/◌}
-use Rattle.std.proofs.Math.Seq.{take-append-add, drop-append-add}
+use Rattle.std.{proofs.Math.Seq.take-append-add, proofs.Math.Seq.drop-append-add, proofs.lemmas.Bool.Decides.nat_tests, proofs.lemmas.Bool.Decides.eqb_tells, specs.Str.all_scalars}
 use Rattle.std.proofs.lemmas.Bool.{cases_Bool, and_parts, cases_lt}
-use Rattle.std.proofs.lemmas.Bool.Decides.{nat_tests, eqb_tells}
 use Rattle.std.proofs.lemmas.Str.{chars-append, chars-nil, encode_ascii, scalars-chars, encodes-chars}
-use Rattle.std.specs.Str.{IsUtf8, all_scalars}
 use lib.Utf8.{scalar, encode, next}
 use Rattle.styled_text.specs.Names.{Text, is_within, is_parameter, is_intermediate, is_control, is_visible, front_len, then_len, one_len, csi_len, osc_len, sequence_len, PieceText, pieces}
+use Rattle.styled_text.specs.Names.{State, Step, IsUtf8}
 use Rattle.styled_text.specs.Names.{pieces_after, SequenceText, StretchText, rest_len, is_before_backslash, StepCounts, step_of, final_step_of, begun, mode_after_step, advanced, mode_after, Mode}
-use Rattle.styled_text.specs.Names.{State, Step}
-use Rattle.styled_text.proofs.lemmas.FittedPuts.{one_utf8, one_char}
-use Rattle.styled_text.proofs.lemmas.Pieces.{pieces-sequence, pieces-stretch}
+use Rattle.styled_text.proofs.lemmas.{FittedPuts.one_utf8, FittedPuts.one_char, Pieces.pieces-sequence, Pieces.pieces-stretch}
 use Rattle.styled_text.proofs.lemmas.Cuts.{then_len-inside, then_len-past, osc_len-cons}
 use Rattle.styled_text.specs.declared.escapes.Mode.TheVariants as mode
 use Rattle.styled_text.specs.declared.escapes.State.TheVariants.{Start, Parameters, Intermediates, Command, Short}

@@ -1,10 +1,8 @@
 -- The pieces of a text (for `control_len`, `piece_laws`, `split_escape`, `split_piece` and others).
 use Rattle.std.proofs.Common.{◌≡◌, ◌≢◌, ℕ, zero, suc, ◌+◌, ◌<◌, ◌≤◌, Bool, true, false, not, ◌==◌, inl, inr, [], ◌∷◌, ◌++◌, refl, sym, ap, arith, length, get_or, take, drop, ◌⊎◌, lit<, add-one}
 use Rattle.std.proofs.lemmas.Bool.{cases_Bool, and_parts, not-true, false_from_ne_true}
-use Rattle.std.proofs.lemmas.Bool.Decides.{eqb_tells, nat_tests}
+use Rattle.std.proofs.{lemmas.Bool.Decides.eqb_tells, lemmas.Bool.Decides.nat_tests, Math.Seq.drop-cons, lemmas.Str.IsCharBoundary-after_ascii}
 use Rattle.std.proofs.lemmas.List.{take-append-drop, nil_from_length, drop_all}
-use Rattle.std.proofs.Math.Seq.{drop-cons}
-use Rattle.std.proofs.lemmas.Str.{IsCharBoundary-after_ascii}
 use Rattle.styled_text.specs.Names.{IsUtf8, IsCharBoundary, Text, front_len, is_visible, sequence_len, pieces_after, pieces, joined, stretches, visible_after, visible, has_no_escape, HasNoEscape}
 use Rattle.styled_text.specs.Names.{SequenceText, StretchText}
 use Rattle.memchr.specs.Find.{Nowhere, NoneBefore, Passes, is_byte}

@@ -1,9 +1,8 @@
 -- A text in pieces, without a line feed that closes it (for `TrailingNewline::write`, `split_trailing_newline`, `GatheredPieces::write` and others).
 use Rattle.std.proofs.Common.{◌≡◌, ◌≢◌, ℕ, ◌<◌, Bool, true, false, inl, inr, [], ◌∷◌, ◌++◌, refl, sym, ap, ◌∙◌, arith, length, append-nil, append_assoc, Result, Ok, Err, OnOk, subst, MatchResult}
-use Rattle.std.proofs.lemmas.Bool.Decides.{eqb_tells, nat_tests}
-use Rattle.std.proofs.lemmas.List.{nil_from_length}
+use Rattle.std.proofs.lemmas.{Bool.Decides.eqb_tells, Bool.Decides.nat_tests, List.nil_from_length}
 use Rattle.styled_text.specs.Names.{IsErrAnd, Text, without_trailing_newline, ends_in_line_feed, held, Meaning, WriterLaws, Puts, Owes, WriteFault}
-use Rattle.writers.proofs.lemmas.Steps.{owes_accepted, owes_stopped, owes_nothing, at_exit, owes_all, stops_early}
+use Rattle.writers.proofs.lemmas.Steps.{owes_accepted, at_exit, owes_all, stops_early}
 
 -- the end of a text is that of what follows its front
 pub without_trailing_newline-after : (t : Text) (d : ℕ) (u : Text) → without_trailing_newline (t ++ (d ∷ u)) ≡ t ++ without_trailing_newline (d ∷ u)

@@ -1,5 +1,4 @@
-use Rattle.std.proofs.Common.{rules}
-use Rattle.styled_text.proofs.lemmas.Pieces.{sequence_first, stretch_first}
+use Rattle.{std.proofs.Common.rules, styled_text.proofs.lemmas.Pieces.sequence_first, styled_text.proofs.lemmas.Pieces.stretch_first}
 use Rattle.styled_text.proofs.escapes.split_piece.Goals as goal
 
 pub returns-then-first-eq-ESCAPE : goal.returns-then-first-eq-ESCAPE

@@ -1,6 +1,5 @@
 use Rattle.std.proofs.Common.{rules, ◌≡◌, ◌∷◌, ap}
-use Rattle.styled_text.specs.Names.{stretches, StretchText}
-use Rattle.styled_text.proofs.lemmas.Pieces.{stretches-pieces}
+use Rattle.styled_text.{specs.Names.stretches, specs.Names.StretchText, proofs.lemmas.Pieces.stretches-pieces}
 use Rattle.writers.proofs.lemmas.Steps.{owes_stopped, owes_nothing}
 use Rattle.styled_text.proofs.escapes.write_stripped.Goals as goal
 

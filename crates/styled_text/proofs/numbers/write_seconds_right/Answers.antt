@@ -1,5 +1,4 @@
-use Rattle.std.proofs.Common.{arith, rules}
-use Rattle.styled_text.proofs.lemmas.Decimals.{right-seconds}
+use Rattle.{std.proofs.Common.arith, std.proofs.Common.rules, styled_text.proofs.lemmas.Decimals.right-seconds}
 use Rattle.writers.proofs.lemmas.Steps.{puts_then, at_exit, stops_early}
 use Rattle.styled_text.proofs.numbers.write_seconds_right.Goals as goal
 

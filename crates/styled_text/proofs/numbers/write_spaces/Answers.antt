@@ -1,6 +1,4 @@
-use Rattle.std.proofs.Common.{arith}
-use Rattle.writers.proofs.lemmas.Steps.{owes_accepted, owes_stopped}
-use Rattle.styled_text.proofs.lemmas.Decimals.{spaces_first}
+use Rattle.{std.proofs.Common.arith, writers.proofs.lemmas.Steps.owes_accepted, writers.proofs.lemmas.Steps.owes_stopped, styled_text.proofs.lemmas.Decimals.spaces_first}
 use Rattle.styled_text.proofs.numbers.write_spaces.Goals as goal
 
 pub returns-in_err-write_str : goal.returns-in_err-write_str

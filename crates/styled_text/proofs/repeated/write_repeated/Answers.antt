@@ -1,6 +1,5 @@
 use Rattle.std.proofs.Common.{◌≡◌, ℕ, zero, suc, ◌-◌, ◌<◌, ◌++◌, ap, arith}
-use Rattle.styled_text.specs.Names.{repeat, Text}
-use Rattle.writers.proofs.lemmas.Steps.{owes_accepted, owes_stopped}
+use Rattle.{styled_text.specs.Names.repeat, styled_text.specs.Names.Text, writers.proofs.lemmas.Steps.owes_accepted, writers.proofs.lemmas.Steps.owes_stopped}
 use Rattle.styled_text.proofs.repeated.write_repeated.Goals as goal
 
 -- the first one, and the remaining ones

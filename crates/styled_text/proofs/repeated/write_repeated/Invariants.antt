@@ -1,5 +1,4 @@
-use Rattle.styled_text.specs.Names.{repeat, Owes}
-use Rattle.std.specs.Prelude.{encode_utf8}
+use Rattle.{styled_text.specs.Names.repeat, styled_text.specs.Names.Owes, std.specs.Prelude.encode_utf8}
 use Rattle.styled_text.proofs.repeated.write_repeated.Given as goal
 
 -- the remaining characters are owed

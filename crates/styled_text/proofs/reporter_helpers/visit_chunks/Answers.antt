@@ -1,5 +1,4 @@
-use Rattle.std.proofs.Common.{rules, of_calls}
-use Rattle.styled_text.proofs.lemmas.Chunked.{visits_more, visits_none}
+use Rattle.{std.proofs.Common.rules, std.proofs.Common.of_calls, styled_text.proofs.lemmas.Chunked.visits_more, styled_text.proofs.lemmas.Chunked.visits_none}
 use Rattle.styled_text.proofs.reporter_helpers.visit_chunks.Goals as goal
 
 pub loop-rest-preserved : goal.loop-rest-preserved

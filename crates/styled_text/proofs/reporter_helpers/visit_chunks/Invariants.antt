@@ -1,7 +1,5 @@
-use Rattle.std.proofs.Common.{length}
-use denote.Text.{Utf8}
-use denote.Shadow.{shadow}
-use Rattle.styled_text.specs.Chunks.{VisitsChunks}
+use Rattle.{std.proofs.Common.length, styled_text.specs.Chunks.VisitsChunks}
+use denote.{Text.Utf8, Shadow.shadow}
 use Rattle.styled_text.proofs.reporter_helpers.visit_chunks.Given as goal
 
 abbrev pub invariant-loop-rest : goal.invariant-loop-rest

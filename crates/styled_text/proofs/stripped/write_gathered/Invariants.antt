@@ -1,6 +1,5 @@
 use Rattle.std.proofs.Common.{length}
-use denote.Text.{Utf8}
-use denote.Shadow.{shadow}
+use denote.{Text.Utf8, Shadow.shadow}
 use Rattle.styled_text.specs.Names.{without_trailing_newline, visible, unwritten, Owes}
 use Rattle.styled_text.proofs.stripped.write_gathered.Given as goal
 

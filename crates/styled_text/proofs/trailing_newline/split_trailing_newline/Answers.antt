@@ -1,6 +1,5 @@
 use Rattle.std.proofs.Common.{sym, lit<, Some, None}
-use Rattle.std.proofs.lemmas.Str.Pattern.{strip_suffix_char}
-use Rattle.styled_text.proofs.lemmas.TrailingNewlines.{feed_cut, feed_absent}
+use Rattle.{std.proofs.lemmas.Str.Pattern.strip_suffix_char, styled_text.proofs.lemmas.TrailingNewlines.feed_cut, styled_text.proofs.lemmas.TrailingNewlines.feed_absent}
 use Rattle.styled_text.proofs.trailing_newline.split_trailing_newline.Goals as goal
 
 pub returns-in-Some : goal.returns-in-Some

@@ -1,7 +1,6 @@
 use Rattle.std.proofs.Common.{◌<◌, rules, length}
-use Rattle.styled_text.proofs.lemmas.TrailingNewlines.{held-before, piece_nothing}
+use Rattle.styled_text.{proofs.lemmas.TrailingNewlines.held-before, proofs.lemmas.TrailingNewlines.piece_nothing, specs.TrailingNewline.held}
 use Rattle.writers.proofs.lemmas.Steps.{at_exit, puts_then, stops_early}
-use Rattle.styled_text.specs.TrailingNewline.{held}
 use Rattle.styled_text.proofs.trailing_newline.TrailingNewline.write.Goals as goal
 
 pub returns-then-is_empty-clause-text : goal.returns-then-is_empty-clause-text

@@ -1,8 +1,5 @@
-use Rattle.std.proofs.Common.{refl, lit<}
-use Rattle.std.proofs.lemmas.Str.Pattern.{ends_char}
+use Rattle.{std.proofs.Common.refl, std.proofs.Common.lit<, std.proofs.lemmas.Str.Pattern.ends_char, styled_text.specs.Names.indented_laws, writers.proofs.lemmas.Steps.at_exit}
 use Rattle.styled_text.proofs.lemmas.Indents.{margin_stopped, line_stopped, line_accepted, after-ends}
-use Rattle.writers.proofs.lemmas.Steps.{at_exit}
-use Rattle.styled_text.specs.Indentation.{indented_laws}
 use Rattle.styled_text.proofs.indenter.indentation.Indented.write_line.Goals as goal
 
 pub returns-in_err-write_margin : goal.returns-in_err-write_margin

@@ -1,5 +1,4 @@
-use Rattle.std.proofs.Common.{rules}
-use Rattle.styled_text.proofs.lemmas.IndentedCalls.{taken_more, taken_done}
+use Rattle.{std.proofs.Common.rules, styled_text.proofs.lemmas.IndentedCalls.taken_more, styled_text.proofs.lemmas.IndentedCalls.taken_done}
 use Rattle.styled_text.proofs.indenter.indentation.IndentedWrite.write_str.Goals as goal
 
 pub loop-rest-preserved : goal.loop-rest-preserved

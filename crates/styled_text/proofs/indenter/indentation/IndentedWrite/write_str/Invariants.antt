@@ -1,7 +1,5 @@
-use Rattle.std.proofs.Common.{length}
-use denote.Text.{Utf8}
-use denote.Shadow.{shadow}
-use Rattle.styled_text.specs.Indentation.{IndentedTakes}
+use Rattle.{std.proofs.Common.length, styled_text.specs.Indentation.IndentedTakes}
+use denote.{Text.Utf8, Shadow.shadow}
 use Rattle.styled_text.proofs.indenter.indentation.IndentedWrite.write_str.Given as goal
 
 -- taking the rest is taking the whole text

@@ -1,6 +1,5 @@
-use Rattle.std.proofs.Common.{rules}
+use Rattle.{std.proofs.Common.rules, styled_text.specs.Indentation.indented_laws}
 use Rattle.writers.proofs.lemmas.Steps.{owes_accepted, owes_stopped, owes_done}
-use Rattle.styled_text.specs.Indentation.{indented_laws}
 use Rattle.styled_text.proofs.indenter.indentation.IndentedWriteStr.write_str.Goals as goal
 
 pub returns-in_err-write_line : goal.returns-in_err-write_line

@@ -1,10 +1,7 @@
 use Rattle.std.proofs.Common.{◌≡◌, ◌+◌, ◌-◌, ◌≤◌, ◌++◌, ap, arith, sym, subst, take, length, length-take-le, ◌∙◌, rules}
-use Rattle.std.proofs.lemmas.Slice.{take-put_mid}
-use Rattle.std.proofs.lemmas.Str.{IsUtf8-append}
-use Rattle.std.specs.Str.{IsUtf8}
-use Rattle.styled_text.proofs.stripped.piece_buffer.PieceBuffer.push.Goals as goal
+use Rattle.std.{proofs.lemmas.Slice.take-put_mid, proofs.lemmas.Str.IsUtf8-append, specs.Str.IsUtf8}
 
-pub invariant_of-self : goal.invariant_of-self
+pub invariant_of-self : Rattle.styled_text.proofs.stripped.piece_buffer.PieceBuffer.push.Goals.invariant_of-self
 invariant_of-self c =
     let len = c.self.inside.len in
     let bytes = c.self.inside.bytes in

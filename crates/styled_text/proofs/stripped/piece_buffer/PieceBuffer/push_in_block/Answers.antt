@@ -1,7 +1,5 @@
 use Rattle.std.proofs.Common.{◌≡◌, ◌++◌, arith, sym, subst, take, rules}
-use Rattle.std.proofs.lemmas.Str.{IsUtf8-append, IsUtf8-take}
-use Rattle.std.specs.Str.{IsUtf8}
-use Rattle.styled_text.proofs.lemmas.Blocks.{block_stored}
+use Rattle.{std.proofs.lemmas.Str.IsUtf8-append, std.proofs.lemmas.Str.IsUtf8-take, std.specs.Str.IsUtf8, styled_text.proofs.lemmas.Blocks.block_stored}
 use Rattle.styled_text.proofs.stripped.piece_buffer.PieceBuffer.push_in_block.Goals as goal
 
 pub invariant_of-self : goal.invariant_of-self
