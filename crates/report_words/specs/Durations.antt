@@ -1,9 +1,7 @@
 -- Durations as text. Each is a number of nanoseconds.
 use Rattle.std.specs.Prelude.{ℕ, ◌+◌, ◌/◌, ◌%◌, List, [], ◌∷◌, ◌++◌, Option, None, Some, nat_le, nat_lt, if◌then◌else◌, codes}
 use Rattle.styled_text.specs.Names.{decimal, Text, last_digits, seconds}
-use Rattle.report_words.specs.declared.durations.DurationRounding.{DurationRounding}
-use Rattle.report_words.specs.declared.durations.DurationRounding.TheVariants.{Floor, Ceiling}
-use Rattle.report_words.specs.declared.durations.TimeUnit.{TimeUnit}
+use Rattle.report_words.specs.declared.durations.{DurationRounding.DurationRounding, DurationRounding.TheVariants.Floor, DurationRounding.TheVariants.Ceiling, TimeUnit.TimeUnit}
 use Rattle.report_words.specs.declared.durations.TimeUnit.TheVariants.{Year, Month, Day, Hour, Minute, Second, Millisecond, Microsecond, Nanosecond}
 
 -- seconds with two decimals, and above one minute the minutes before them

@@ -1,8 +1,7 @@
 -- Texts before they are painted: parts in sequence, each in a style or in none.
 use Rattle.std.specs.Prelude.{◌≡◌, ◌==◌, ◌⊎◌, ℕ, Bool, true, false, ◌&&◌, List, [], ◌∷◌, ◌++◌, IsTrue, refl, if◌then◌else◌, codes}
 use Rattle.styled_text.specs.Names.{decimal, Text, right_in, spaces, indent, flat_map, has_no_escape, HasNoEscape, plain, styled}
-use Rattle.styled_text.specs.declared.style.Style.{Style}
-use Rattle.styled_text.specs.declared.style.Styles.{Styles}
+use Rattle.styled_text.specs.declared.style.{Style.Style, Styles.Styles}
 
 -- the text ends in a line feed
 abbrev pub EndsLine : Text → Type 0

@@ -1,10 +1,8 @@
 -- What is handed in for texts without escape characters.
 use Rattle.std.specs.Prelude.{Option, None, Some}
 use Rattle.styled_text.specs.Names.{AllByRecursion, HasNoEscape}
-use Rattle.run_names.specs.ErrorChains.{MessageAndCauses}
-use Rattle.run_names.specs.declared.abort.AbortDescription.{AbortDescription}
+use Rattle.run_names.specs.{ErrorChains.MessageAndCauses, declared.abort.AbortDescription.AbortDescription, declared.name.TestInstanceId.TestInstanceId}
 use Rattle.run_names.specs.declared.abort.AbortDescription.TheVariants.{UnixSignal, WindowsNtStatus, WindowsJobObject}
-use Rattle.run_names.specs.declared.name.TestInstanceId.{TestInstanceId}
 
 -- what holds of a value, if there is one
 abbrev pub HoldsIf : {X : Type 0} → (X → Type 0) → Option X → Type 0

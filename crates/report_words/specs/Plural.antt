@@ -1,7 +1,6 @@
 -- Words in the singular or the plural.
 use Rattle.std.specs.Prelude.{ℕ, Bool, true, false, not, ◌==◌, if◌then◌else◌, codes}
-use Rattle.run_names.specs.declared.config.NextestRunMode.{NextestRunMode}
-use Rattle.run_names.specs.declared.config.NextestRunMode.TheVariants.{Test, Benchmark}
+use Rattle.run_names.specs.declared.config.NextestRunMode.{NextestRunMode, TheVariants.Test, TheVariants.Benchmark}
 use Rattle.styled_text.specs.Texts.{Text}
 
 -- the first word for one, the second for any other number

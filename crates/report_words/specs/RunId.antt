@@ -1,9 +1,6 @@
 -- The id of a run.
 use Rattle.std.specs.Prelude.{ℕ, List, Option, None, Some, codes, unwrap_or}
-use Rattle.uuid.specs.Parts.{with_variant, with_version}
-use Rattle.uuid.specs.Text.{parsed}
-use Rattle.uuid.specs.declared.Variant.TheVariants.{RFC4122}
-use Rattle.uuid.specs.declared.Version.TheVariants.{Random}
+use Rattle.uuid.specs.{Parts.with_variant, Parts.with_version, Text.parsed, declared.Variant.TheVariants.RFC4122, declared.Version.TheVariants.Random}
 use Rattle.styled_text.specs.Texts.{Text}
 
 -- the id that is forced: there is a text, and it parses

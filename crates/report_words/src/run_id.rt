@@ -1,8 +1,7 @@
 //! The id of a run, which can be forced for tests.
 
 ghost use Rattle.std.specs.Prelude.{◌≡◌};
-ghost use Rattle.run_names.specs.Names.{optional_text};
-ghost use Rattle.uuid.specs.Text.{parsed};
+ghost use Rattle.{run_names.specs.Names.optional_text, uuid.specs.Text.parsed};
 ghost use Rattle.report_words.specs.RunId.{random_id, run_id, run_id_warning};
 
 use uuid::{Builder, Uuid};

@@ -1,10 +1,8 @@
 -- Hours, minutes and seconds have a column for each byte (for `clock_width`).
 use Rattle.std.proofs.Common.{◌≡◌, ℕ, ◌+◌, ◌/◌, ◌%◌, ◌^◌, ◌<◌, Bool, true, false, [], ◌∷◌, ◌++◌, length, nat_lt, codes, ap, arith, length-append, lit<, if◌then◌else◌}
 use Rattle.styled_text.specs.Names.{decimal, IsAscii, chars, Text}
-use Rattle.std.proofs.lemmas.Str.{chars-IsAscii, IsAscii-append}
-use Rattle.std.proofs.lemmas.Fmt.{IsAscii-decimal_wide}
-use Rattle.styled_text.proofs.lemmas.Decimals.{IsAscii-cons, IsAscii-none}
-use Rattle.report_words.specs.Durations.{clock_text, leading_zero}
+use Rattle.{report_words.specs.Durations.clock_text, report_words.specs.Durations.leading_zero, std.proofs.lemmas.Str.chars-IsAscii, std.proofs.lemmas.Str.IsAscii-append}
+use Rattle.{std.proofs.lemmas.Fmt.IsAscii-decimal_wide, styled_text.proofs.lemmas.Decimals.IsAscii-cons, styled_text.proofs.lemmas.Decimals.IsAscii-none}
 
 -- a colon and the last two digits of a number
 abbrev colon_digits : ℕ → Text → Text

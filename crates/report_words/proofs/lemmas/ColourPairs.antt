@@ -1,13 +1,11 @@
 -- A text in colour and a plain one (for the lemmas `colour_pair-..` of the texts above).
 use Rattle.std.proofs.Common.{◌≡◌, Bool, true, false, cond, [], ◌∷◌, ◌++◌, refl, sym, ◌∙◌, ap, append_assoc, append-nil}
 use Rattle.styled_text.specs.Names.{Text, IsEqualButEndSpaces, visible_after, sequence_len, visible, HasNoEscape, indent, plain, styled, reset_color, style_prefix, style_suffix}
-use Rattle.styled_text.specs.declared.style.Style.{Style}
+use Rattle.styled_text.{specs.declared.style.Style.Style, proofs.lemmas.LineSequences.visible-line, proofs.lemmas.Widths.free_both, proofs.lemmas.Widths.visible-free_append}
 use Rattle.report_words.specs.InColour.{IsInColour, IsColourPair, IsColourPairOfLine}
 use Rattle.styled_text.specs.declared.style.Style.TheVariants as style
 use Rattle.styled_text.proofs.lemmas.IndentedEndSpaces.{IsBlank, alike-front, alike-line, indent-visible, indent-alike, indent-feed}
 use Rattle.report_words.proofs.lemmas.FreeWords.{frees, free-plain, free-indent}
-use Rattle.styled_text.proofs.lemmas.LineSequences.{visible-line}
-use Rattle.styled_text.proofs.lemmas.Widths.{free_both, visible-free_append}
 
 in_colour-none : IsInColour [] []
 unfolding visible_after
@@ -24,10 +22,7 @@ in_colour-exact : (c u : Text) → ((rest : Text) → visible (c ++ rest) ≡ u 
 unfolding visible_after
 in_colour-exact c u h =
     let whole = ap visible (sym (append-nil c)) ∙ h [] ∙ append-nil u in
-    record {
-      joins = λ rest. h rest ∙ ap (λ t. t ++ visible rest) (sym whole);
-      alike = λ rest more same. rw whole (alike-front u rest more same);
-    }
+    record { joins = λ rest. h rest ∙ ap (λ t. t ++ visible rest) (sym whole); alike = λ rest more same. rw whole (alike-front u rest more same) }
 
 in_colour-line : (c u : Text) → IsEqualButEndSpaces (visible c) u → IsInColour (c ++ 10 ∷ []) (u ++ 10 ∷ [])
 unfolding visible_after

@@ -1,18 +1,14 @@
 -- Words without escape characters (for `colour_pairs`).
 use Rattle.std.proofs.Common.{◌≡◌, ℕ, ℤ, pos, negsuc, zero, suc, ◌+◌, ◌-◌, Bool, true, false, cond, ◌==◌, nat_lt, inl, inr, List, [], ◌∷◌, refl, arith, take, drop, ◌/◌, ◌%◌}
-use Rattle.std.proofs.lemmas.Bool.{cases_Bool}
-use Rattle.std.proofs.lemmas.Bool.Decides.{nat_tests}
+use Rattle.std.proofs.lemmas.{Bool.cases_Bool, Bool.Decides.nat_tests}
 use Rattle.styled_text.specs.Names.{signed_decimal, Text, visible, HasNoEscape, indent, indent_onward, indent-onward, last_digits, with_point, seconds, plain}
 use Rattle.uuid.specs.Text.{by_index, hyphenated_text, lower, is_hyphen_place, hex_digit as id_digit, nibble, digit_place}
-use Rattle.run_names.specs.declared.config.NextestRunMode.{NextestRunMode}
-use Rattle.run_names.specs.declared.config.NextestRunMode.TheVariants.{Test, Benchmark}
-use Rattle.run_names.specs.Levels.{reason_words}
-use Rattle.run_names.specs.declared.level.CancelReason.{CancelReason}
+use Rattle.run_names.specs.declared.config.NextestRunMode.{NextestRunMode, TheVariants.Test, TheVariants.Benchmark}
+use Rattle.run_names.specs.{Levels.reason_words, declared.level.CancelReason.CancelReason}
 use Rattle.run_names.specs.declared.level.CancelReason.TheVariants as reason
 use Rattle.report_words.specs.Names.{clock_text, were_word, tests_word_if, setup_scripts_word, binaries_word, iterations_word, hbar_text}
 use Rattle.styled_text.proofs.lemmas.Closed.{decimal_free, right_free, repeat_free}
-use Rattle.styled_text.proofs.lemmas.Pieces.{free_parts, visible_after-free}
-use Rattle.styled_text.proofs.lemmas.Widths.{free_both}
+use Rattle.styled_text.proofs.lemmas.{Pieces.free_parts, Pieces.visible_after-free, Widths.free_both}
 
 pub free-take : (n : ℕ) (t : Text) → HasNoEscape t → HasNoEscape (take n t)
 free-take zero t h = refl

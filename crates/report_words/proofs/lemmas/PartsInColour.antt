@@ -1,17 +1,14 @@
 -- Parts painted in colour and plain: the law of colour, once for all texts of parts.
 use Rattle.std.proofs.Common.{ℕ, zero, suc, Bool, true, false, cond, List, ◌++◌, refl, [], ◌∷◌, ◌==◌, inl, inr, sym, ap, ◌∙◌, append_assoc, append-nil}
-use Rattle.std.proofs.lemmas.Bool.{cases_Bool, eqb-true}
+use Rattle.std.proofs.lemmas.{Bool.cases_Bool, Bool.eqb-true, List.append_cancel_right}
 use Rattle.styled_text.specs.Names.{Text, spaces, HasNoEscape, visible, visible_after, plain, styled, styles_of, indent, without_end_spaces, flat_map, AllByRecursion}
-use Rattle.styled_text.specs.declared.style.Styles.{Styles}
 use Rattle.styled_text.proofs.lemmas.Closed.{decimal_free, right_free, spaces_free}
 use Rattle.report_words.proofs.lemmas.ColourPairs.{colour_pair-none, colour_pair-append, colour_pair-styled, colour_pair-if, colour_pair-free, colour_pair-whole, colour_pair-indent, colour_pair-indented_line}
 use Rattle.report_words.specs.Names.{IsColourPair, IsColourPairOfLine, Parts, Tone, Count, Pass, Retry, Fail, Skip, ScriptId, RunIdPrefix, RunIdRest, none, Words, Word, Verbatim, Toned, Right, number}
+use Rattle.report_words.specs.Names.{ending, joined_end, either_end, EndsLine, IsOfLines, style_of, paint, Styles}
 use Rattle.report_words.specs.Names.{given, given_toned, given_right, Join, choice, each, indented, indented_line, plainly, openly, loosely, drawn_given, drawn_given_line, End, Line, Open, Lines}
-use Rattle.report_words.specs.Names.{ending, joined_end, either_end, EndsLine, IsOfLines, style_of, paint}
 use Rattle.styled_text.proofs.lemmas.IndentedEndSpaces.{IsBlank, end_spaces-line, indent-feed}
-use Rattle.styled_text.proofs.lemmas.LineSequences.{visible-line}
-use Rattle.styled_text.proofs.lemmas.Widths.{free_front}
-use Rattle.std.proofs.lemmas.List.{append_cancel_right}
+use Rattle.styled_text.proofs.lemmas.{LineSequences.visible-line, Widths.free_front}
 
 -- words from outside hold no escape character
 abbrev pub AreFreeGiven : {a : Bool} {d : End} → Bool → Parts a d → Type 0

@@ -1,9 +1,7 @@
 -- Lists of paths cut at their colons (for `split_colon`).
 use Rattle.std.proofs.Common.{◌≡◌, ◌≢◌, ℕ, suc, ◌<◌, [], ◌∷◌, ◌++◌, length, get_or, Option, None, Some, MatchOption, IfSome, refl, ap, ◌∙◌, arith, length-append, lit<, inl, inr}
-use Rattle.styled_text.specs.Names.{Bor, Text}
-use Rattle.std.proofs.lemmas.Bool.Decides.{eqb_tells}
-use Rattle.std.proofs.lemmas.Str.Pattern.{split_parts, IsSplitOnceResult}
-use Rattle.report_words.specs.Paths.{between_colons, in_first_path}
+use Rattle.{styled_text.specs.Names.Bor, styled_text.specs.Names.Text, report_words.specs.Paths.between_colons, report_words.specs.Paths.in_first_path}
+use Rattle.std.proofs.lemmas.{Bool.Decides.eqb_tells, Str.Pattern.split_parts, Str.Pattern.IsSplitOnceResult}
 
 -- no byte is a colon
 abbrev HasNoColon : Text → Type 0

@@ -1,6 +1,5 @@
 use Rattle.std.proofs.Common.{◌≡◌, ◌++◌, length, map}
-use denote.Text.{Utf8}
-use denote.Shadow.{shadow}
+use denote.{Text.Utf8, Shadow.shadow}
 use Rattle.report_words.specs.Paths.{between_colons}
 use Rattle.report_words.proofs.paths.paths_between_colons.Given as goal
 

@@ -1,7 +1,6 @@
 use Rattle.std.proofs.Common.{refl}
 use lib.Utf8.{encode}
-use Rattle.report_words.proofs.theme.ThemeCharacters.tree_last.Goals as goal
 
-pub returns-then-self : goal.returns-then-self
+pub returns-then-self : Rattle.report_words.proofs.theme.ThemeCharacters.tree_last.Goals.returns-then-self
 unfolding encode
 returns-then-self c = rw c.if-self.true refl
