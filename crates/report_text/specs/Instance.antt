@@ -2,11 +2,9 @@
 use Rattle.std.specs.Prelude.{◌≢◌, ℕ, ◌+◌, List, [], ◌∷◌, ◌++◌, false, Option, None, Some, length, codes, encode_utf8}
 use Rattle.styled_text.specs.Names.{decimal, NonZeroU32, non_zero_u32_get, repeat, Text, right_in, HasNoEscape, shrunk_parts, plain, styled}
 use Rattle.report_words.specs.Names.{Style, ListStyles, Parts, Open, drawn_given}
-use Rattle.run_names.specs.Names.{module_path_of, last_name_of}
-use Rattle.run_model.specs.Names.{TestInstanceId, StressIndex}
+use Rattle.{run_names.specs.Names.module_path_of, run_names.specs.Names.last_name_of, run_names.specs.declared.name.TestInstanceId.TestInstanceId, run_names.specs.declared.stress.StressIndex.StressIndex}
 use Rattle.styled_text.specs.declared.style.Style.TheVariants as style
-use Rattle.report_text.specs.declared.helpers.instance.DisplayCounterIndex.{DisplayCounterIndex}
-use Rattle.report_text.specs.declared.helpers.instance.DisplayCounterIndex.TheVariants.{Counter, Padded}
+use Rattle.report_text.specs.declared.helpers.instance.DisplayCounterIndex.{DisplayCounterIndex, TheVariants.Counter, TheVariants.Padded}
 
 -- a name with its module path and its last part
 abbrev pub name_text : ListStyles → Option Text → Text → Text

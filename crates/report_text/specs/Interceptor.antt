@@ -2,8 +2,7 @@
 use Rattle.std.specs.Prelude.{ℕ, ◌-◌, false, List, [], ◌++◌, None, length, nat_lt, if◌then◌else◌, codes}
 use Rattle.styled_text.specs.Names.{decimal, flat_map, plain, styled, Text}
 use Rattle.report_words.specs.Names.{Style, ListStyles, tests_word, tests_word_if}
-use Rattle.run_model.specs.Names.{NextestRunMode, OwnedTestInstanceId}
-use Rattle.report_text.specs.Instance.{test_text}
+use Rattle.{run_names.specs.declared.config.NextestRunMode.NextestRunMode, run_names.specs.declared.name.OwnedTestInstanceId.OwnedTestInstanceId, report_text.specs.Instance.test_text}
 
 -- the option, and that it takes one test
 unfoldable pub interceptor_option : Text → NextestRunMode → Text

@@ -1,5 +1,4 @@
 pub mod Failure
 pub mod Instance
 pub mod Interceptor
-pub mod PlainResults
 pub mod Quoting

@@ -5,6 +5,7 @@ pub mod Finish
 pub mod InfoResult
 pub mod Instance
 pub mod Names
+pub mod PlainResults
 pub mod ResultWords
 pub mod Script
 pub mod Settings

@@ -1,6 +1,6 @@
 -- The names that the crates above import in one line. A new one is added to the line of its module.
 pub use Rattle.report_text.specs.Instance.{HasPlainCounter, instance_part, instance_text}
-pub use Rattle.report_text.specs.{Failure.nt_status_text, PlainResults.IsPlainResult, declared.helpers.instance.DisplayCounterIndex.DisplayCounterIndex}
+pub use Rattle.report_text.specs.{Failure.nt_status_text, declared.helpers.instance.DisplayCounterIndex.DisplayCounterIndex}
 unfoldable pub use Rattle.report_text.specs.Instance.{counter_prefix, stress_prefix, test_name_text, test_text}
 unfoldable pub use Rattle.report_text.specs.Quoting.{shell_words}
 pub use Rattle.report_words.specs.declared.theme.ThemeCharacters.{ThemeCharacters}
@@ -15,7 +15,7 @@ pub use Rattle.text_parts.specs.Finish.{IsOnlyHidden, IsSameBelowImmediate, is_e
 pub use Rattle.text_parts.specs.Settings.{counter_where, counter_width_of, finished_counter, next_where, overrides_by, padded_counter, padded_where, started_counter, theme_of}
 pub use Rattle.text_parts.specs.declared.{finish.OutputTiming.OutputTiming, instance.CountedInstance.CountedInstance, settings.Settings.Settings}
 pub use Rattle.text_parts.specs.Script.{IsPlainScript, Script, script_of, shown_script}
-pub use Rattle.text_parts.specs.{AbortLine.line_of_abort, AbortLine.line_of_failure, Bar.bar_line, InfoResult.info_text, Instance.padded_instance, ResultWords.is_plain_success, StatsText.counted_text, StatsText.failure_tone}
+pub use Rattle.text_parts.specs.{AbortLine.line_of_abort, AbortLine.line_of_failure, Bar.bar_line, InfoResult.info_text, Instance.padded_instance, PlainResults.IsPlainResult, ResultWords.is_plain_success, StatsText.counted_text, StatsText.failure_tone}
 unfoldable pub use Rattle.text_parts.specs.AttemptOutput.{info_line, info_line_start, shown_info_line, unit_output}
 unfoldable pub use Rattle.text_parts.specs.StatsText.{counted_front, exec_failed_count, failed_count, failed_counts, leaky_failed_note, passed_front, passed_notes, progress_message, summary_text, timed_out_count}
 unfoldable pub use Rattle.text_parts.specs.Finish.{display_of, is_final_wanted, is_line_shown, output_timing, timed_at_end, timed_at_once, timed_listed}

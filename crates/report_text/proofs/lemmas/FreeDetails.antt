@@ -1,10 +1,7 @@
 -- Hexadecimal numbers and commands without escape characters (for the lemmas `colour_pair-..` of the texts above).
 use Rattle.std.proofs.Common.{◌≡◌, ℕ, zero, suc, ◌+◌, false, ◌==◌, nat_lt, inl, inr, List, [], ◌∷◌, ◌++◌, codes, refl, arith, ◌/◌, ◌%◌}
-use Rattle.std.proofs.lemmas.Bool.{cases_Bool}
-use Rattle.std.proofs.lemmas.Bool.Decides.{nat_tests}
+use Rattle.{std.proofs.lemmas.Bool.cases_Bool, std.proofs.lemmas.Bool.Decides.nat_tests, styled_text.proofs.lemmas.Pieces.free_parts, styled_text.proofs.lemmas.Widths.free_both}
 use Rattle.styled_text.specs.Names.{AllByRecursion, flat_map, Text, HasNoEscape}
-use Rattle.styled_text.proofs.lemmas.Pieces.{free_parts}
-use Rattle.styled_text.proofs.lemmas.Widths.{free_both}
 use Rattle.report_words.proofs.lemmas.FreeWords.{free-if, free-plain, free-digit}
 use Rattle.report_text.specs.Failure.{hex_digit, last_hex_digits, hex_text}
 use Rattle.report_text.specs.Quoting.{is_unquoted, quoted_byte, quoted_text, shell_word, shell_words}

@@ -1,12 +1,10 @@
 -- A test's iteration, counter and names, and a setup script's, in colour and plain.
 use Rattle.std.proofs.Common.{◌≡◌, ℕ, ◌+◌, Bool, true, false, Option, None, Some, refl, encode_utf8}
-use Rattle.run_names.specs.Names.{last_colons}
-use Rattle.run_model.specs.Names.{TestInstanceId, StressIndex}
+use Rattle.{run_names.specs.Names.last_colons, run_names.specs.declared.name.TestInstanceId.TestInstanceId, run_names.specs.declared.stress.StressIndex.StressIndex}
 use Rattle.styled_text.specs.Names.{Text, HasNoEscape, list_styles_of}
 use Rattle.report_words.specs.Names.{Style, IsPlainInstance, IsColourPair}
 use Rattle.report_text.specs.Instance.{HasPlainCounter, test_name_text, numbered_iteration, stress_text, stress_prefix, counter_text, counter_prefix, test_text, script_text, instance_text}
-use Rattle.report_text.specs.declared.helpers.instance.DisplayCounterIndex.{DisplayCounterIndex}
-use Rattle.report_text.specs.declared.helpers.instance.DisplayCounterIndex.TheVariants.{Counter, Padded}
+use Rattle.report_text.specs.declared.helpers.instance.DisplayCounterIndex.{DisplayCounterIndex, TheVariants.Counter, TheVariants.Padded}
 use Rattle.styled_text.specs.declared.style.Style.TheVariants as style
 use Rattle.styled_text.proofs.lemmas.Closed.{char_free, repeat_free}
 use Rattle.report_words.proofs.lemmas.ColourPairs.{colour_pair-none, colour_pair-free, colour_pairs}

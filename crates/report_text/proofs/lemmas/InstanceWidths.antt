@@ -2,16 +2,12 @@
 use Rattle.std.proofs.Common.{◌≡◌, ℕ, ◌+◌, [], ◌∷◌, ◌++◌, Option, None, Some, take, drop, encode_utf8, arith, ◌-◌, ◌<◌, ◌^◌, true, false, Result}
 use Rattle.styled_text.specs.Names.{option_map, option_map_or, IsUtf8, NonZeroU32, Text, HasNoEscape, saturated, FitsWidth, IsPainted, ArePainted, columns}
 use Rattle.styled_text.specs.Names.{shrunk, shrunk_parts, Meaning, WriterLaws, Puts, WriteFault}
-use Rattle.report_words.specs.Names.{Style, ListStyles}
-use Rattle.run_names.specs.Names.{last_colons}
-use Rattle.run_names.specs.declared.stress.StressIndex.{StressIndex}
-use Rattle.writers.proofs.lemmas.Steps.{puts_then}
+use Rattle.report_words.{specs.Names.Style, specs.Names.ListStyles, proofs.lemmas.FreeWords.free-take, proofs.lemmas.FreeWords.free-drop}
+use Rattle.{run_names.specs.Names.last_colons, run_names.specs.declared.stress.StressIndex.StressIndex, writers.proofs.lemmas.Steps.puts_then}
 use Rattle.report_text.specs.Instance.{numbered_iteration, stress_text, stress_prefix, counter_text, counter_prefix, id_prefix, name_text, test_name_text, HasPlainCounter, HasPlainWords}
 use Rattle.styled_text.proofs.lemmas.Closed.{IsClosedText, closed-free, closed-none, closeds, char_free, repeat_free}
 use Rattle.styled_text.proofs.lemmas.Widths.{parts-columns, parts-sequences}
-use Rattle.report_words.proofs.lemmas.FreeWords.{free-take, free-drop}
-use Rattle.report_text.specs.declared.helpers.instance.DisplayCounterIndex.{DisplayCounterIndex}
-use Rattle.report_text.specs.declared.helpers.instance.DisplayCounterIndex.TheVariants.{Counter, Padded}
+use Rattle.report_text.specs.declared.helpers.instance.DisplayCounterIndex.{DisplayCounterIndex, TheVariants.Counter, TheVariants.Padded}
 
 stress_closed : (s : Style) (o : Option StressIndex) → IsClosedText (stress_prefix s o)
 unfolding stress_prefix stress_text

@@ -1,12 +1,9 @@
 -- How wide a test's name can be (for `DisplayTestInstance::write_within`).
 use Rattle.std.proofs.Common.{ℕ, zero, suc, ◌+◌, ◌*◌, ◌<◌, ◌≤◌, ◌^◌, [], ◌∷◌, ◌++◌, arith, length, length-append, length-take, length-drop, Option, None, Some, take, drop, codes, ◌-◌, ◌==◌, inl, inr}
-use Rattle.std.proofs.lemmas.Bool.{cases_Bool}
+use Rattle.{std.proofs.lemmas.Bool.cases_Bool, styled_text.proofs.lemmas.Fits.columns_of-le, report_words.specs.Names.Style, report_words.specs.Names.ListStyles}
 use Rattle.styled_text.specs.Names.{chars, chars_after, continuation_len, lead_bits, option_map, option_map_or, Text, visible, visible_after, sequence_len, columns, styled, style_prefix, style_suffix}
-use Rattle.report_words.specs.Names.{Style, ListStyles}
-use Rattle.run_names.specs.Names.{last_colons}
-use Rattle.report_text.specs.Instance.{name_text, test_name_text}
+use Rattle.{run_names.specs.Names.last_colons, report_text.specs.Instance.name_text, report_text.specs.Instance.test_name_text}
 use Rattle.styled_text.specs.declared.style.Style.TheVariants as style
-use Rattle.styled_text.proofs.lemmas.Fits.{columns_of-le}
 
 visible_after-le : (n : ℕ) (t : Text) → length (visible_after n t) ≤ length t
 unfolding visible_after

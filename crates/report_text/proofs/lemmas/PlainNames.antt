@@ -1,21 +1,16 @@
 -- A name without colours is the name as it is (for `write_test_name`).
 use Rattle.std.proofs.Common.{◌≡◌, ℕ, zero, suc, ◌+◌, Bool, true, false, [], ◌∷◌, ◌++◌, Option, None, Some, take, drop, codes, refl, ap, arith, append-nil, inl, inr}
 use Rattle.styled_text.specs.Names.{option_map, option_map_or, styled, Text}
-use Rattle.styled_text.specs.declared.style.ListStyles.{ListStyles}
-use Rattle.std.proofs.lemmas.Bool.Decides.{eqb_tells}
+use Rattle.{std.proofs.lemmas.Bool.Decides.eqb_tells, report_words.specs.Names.ListStyles, report_text.specs.Instance.name_text, report_text.specs.Instance.test_name_text}
 use Rattle.run_names.specs.Names.{begins_with_colons, last_colons, place_after}
 use Rattle.styled_text.specs.declared.style.Style.TheVariants as style
-use Rattle.report_text.specs.Instance.{name_text, test_name_text}
 
 -- the first two bytes of a text that begins with colons
 two_colons : (t : Text) → begins_with_colons t ≡ true → codes "::" ++ drop 2 t ≡ t
 two_colons [] h = cc
 two_colons (c ∷ []) h = cc
 two_colons (c ∷ d ∷ t) h = elim (eqb_tells c 58) [
-  | inl p ↦ elim (eqb_tells d 58) [
-    | inl q ↦ rw (p.1, q.1) refl
-    | inr q ↦ (let not : begins_with_colons (c ∷ d ∷ t) ≡ false = rw (p.0, q.0) refl in cc)
-  ]
+  | inl p ↦ elim (eqb_tells d 58) [ inl q ↦ rw (p.1, q.1) refl | inr q ↦ (let not : begins_with_colons (c ∷ d ∷ t) ≡ false = rw (p.0, q.0) refl in cc) ]
   | inr p ↦ (let not : begins_with_colons (c ∷ d ∷ t) ≡ false = rw p.0 refl in cc)
 ]
 

@@ -1,8 +1,7 @@
 -- Texts cut at their quotes (for `split_quote`).
 use Rattle.std.proofs.Common.{◌≡◌, ◌≢◌, ℕ, suc, ◌<◌, [], ◌∷◌, ◌++◌, length, get_or, codes, Option, None, Some, MatchOption, IfSome, refl, sym, append-nil, ap, ◌∙◌, arith, append_assoc, length-append, lit<, inl, inr}
 use Rattle.styled_text.specs.Names.{Bor, flat_map, Text}
-use Rattle.std.proofs.lemmas.Bool.Decides.{eqb_tells}
-use Rattle.std.proofs.lemmas.Str.Pattern.{split_parts, IsSplitOnceResult}
+use Rattle.std.proofs.lemmas.{Bool.Decides.eqb_tells, Str.Pattern.split_parts, Str.Pattern.IsSplitOnceResult}
 use Rattle.report_text.specs.Quoting.{quoted_byte, quoted_text}
 
 -- no byte is a quote

@@ -5,8 +5,8 @@ ghost use Rattle.report_text.specs.Failure.{abort_details, abort_text, abort_wor
 ghost use Rattle.writers.specs.Writer.{Puts};
 
 use itoa::Buffer;
-use run_model::abort::{AbortDescription, DescriptionText};
-use run_model::memory::OutOfMemory;
+use run_names::abort::{AbortDescription, DescriptionText};
+use run_names::memory::OutOfMemory;
 use std::alloc::Global;
 use writers::text::WriteText;
 use writers::write_str::{WriteFault, WriteStr};
@@ -76,7 +76,7 @@ fn write_exit_details<W: WriteStr>(w: &mut W, exit: &ExitDescription) -> Result<
 /// How a process was ended from outside.
 ///
 /// ```
-/// use run_model::abort::AbortDescription;
+/// use run_names::abort::AbortDescription;
 /// let name = Some(DescriptionText::new(alloc, "SEGV")?);
 /// let text = display_abort_status(alloc, &AbortDescription::UnixSignal { signal: 11, name })?;
 /// assert_eq!(text.as_str(), "aborted with signal 11 (SIGSEGV)");

@@ -6,8 +6,8 @@ ghost use Rattle.report_text.specs.Instance.{HasPlainWords, counter_prefix, coun
 
 use crate::helpers::max_width::write_within;
 use itoa::Buffer;
-use run_model::name::{RustBinaryId, TestCaseName, TestInstanceId};
-use run_model::stress::StressIndex;
+use run_names::name::{RustBinaryId, TestCaseName, TestInstanceId};
+use run_names::stress::StressIndex;
 use std::fmt;
 use std::fmt::Formatter;
 use styled_text::repeated::write_repeated;
@@ -150,7 +150,7 @@ impl fmt::Display for DisplayTestInstance<'_> {
 /// An iteration of a stress run: its number from 1, and its total if there is one.
 ///
 /// ```
-/// use run_model::stress::StressIndex;
+/// use run_names::stress::StressIndex;
 /// use std::num::NonZeroU32;
 /// let stress_index = StressIndex { current: 2, total: NonZeroU32::new(10) };
 /// let shown = DisplayStressIndex { stress_index, count_style: styles.count };

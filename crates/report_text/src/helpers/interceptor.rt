@@ -6,9 +6,9 @@ ghost use Rattle.report_text.specs.Interceptor.{listed_test, interceptor_option,
 
 use crate::helpers::instance::DisplayTestInstance;
 use report_words::plural::{tests_plural_if, tests_str};
-use run_model::config::NextestRunMode;
-use run_model::memory::OutOfMemory;
-use run_model::name::OwnedTestInstanceId;
+use run_names::config::NextestRunMode;
+use run_names::memory::OutOfMemory;
+use run_names::name::OwnedTestInstanceId;
 use std::alloc::Global;
 use styled_text::style::{ListStyles, Style};
 use styled_text::text::Number;

@@ -4,7 +4,7 @@ ghost use Rattle.std.specs.Prelude.{◌≡◌, ℕ, List, ◌∷◌, ◌++◌, �
 ghost use Rattle.styled_text.specs.Names.{flat_map, option_map, Puts};
 ghost use Rattle.report_text.specs.Quoting.{in_single_quotes, is_unquoted, is_unquoted_byte, quoted_text, shell_word, shell_words};
 
-use run_model::memory::OutOfMemory;
+use run_names::memory::OutOfMemory;
 use std::alloc::Global;
 use std::fmt;
 use std::fmt::Formatter;

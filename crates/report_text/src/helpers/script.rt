@@ -1,15 +1,13 @@
 //! Setup scripts as a report shows them.
 
 ghost use Rattle.std.specs.Prelude.{◌≡◌, ◌∷◌, IfOk, Some, map, string_bytes};
-ghost use Rattle.report_text.specs.Instance.{script_text};
-ghost use Rattle.report_text.specs.Quoting.{shell_words};
-ghost use Rattle.writers.specs.Writer.{Puts};
+ghost use Rattle.{report_text.specs.Instance.script_text, report_text.specs.Quoting.shell_words, writers.specs.Writer.Puts};
 
 use crate::helpers::instance::StressPart;
 use crate::helpers::quoting::{CommandWord, write_shell_command};
-use run_model::memory::OutOfMemory;
-use run_model::name::ScriptId;
-use run_model::stress::StressIndex;
+use run_names::memory::OutOfMemory;
+use run_names::name::ScriptId;
+use run_names::stress::StressIndex;
 use std::alloc::Global;
 use std::fmt;
 use std::fmt::Formatter;
@@ -25,7 +23,7 @@ use writers::write_str::{WriteFault, WriteStr};
 /// [`write_script_instance`] writes the same and allocates nothing.
 ///
 /// ```
-/// use run_model::name::ScriptId;
+/// use run_names::name::ScriptId;
 /// let id = ScriptId::new(alloc, "s1")?;
 /// let args = [String::from_str(alloc, "an argument")?];
 /// let shown = DisplayScriptInstance::new(alloc, None, id, "cmd", &args, styles.script_id, styles.count)?;

@@ -1,5 +1,4 @@
-use Rattle.std.proofs.Common.{arith}
-use Rattle.report_text.proofs.lemmas.InstanceWidths.{fits_width, parts_put}
+use Rattle.{std.proofs.Common.arith, report_text.proofs.lemmas.InstanceWidths.fits_width, report_text.proofs.lemmas.InstanceWidths.parts_put}
 use Rattle.report_text.proofs.helpers.max_width.write_within.Goals as goal
 
 pub returns-in_err-write_front-clause-law : goal.returns-in_err-write_front-clause-law

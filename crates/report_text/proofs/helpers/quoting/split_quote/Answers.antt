@@ -1,8 +1,4 @@
 use Rattle.report_text.proofs.lemmas.Quotes.{quoted_parts, after_shorter}
-use Rattle.report_text.proofs.helpers.quoting.split_quote.Goals as goal
 
-pub returns : goal.returns
-returns c = record {
-  parts = quoted_parts _ _ c.split_once.ensures.cases;
-  shorter = after_shorter _ _ c.split_once.ensures.cases;
-}
+pub returns : Rattle.report_text.proofs.helpers.quoting.split_quote.Goals.returns
+returns c = record { parts = quoted_parts _ _ c.split_once.ensures.cases; shorter = after_shorter _ _ c.split_once.ensures.cases }

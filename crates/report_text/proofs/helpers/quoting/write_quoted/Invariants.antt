@@ -1,8 +1,5 @@
-use Rattle.std.proofs.Common.{length}
-use denote.Text.{Utf8}
-use denote.Shadow.{shadow}
-use Rattle.report_text.specs.Quoting.{quoted_text}
-use Rattle.writers.specs.Writer.{Owes}
+use Rattle.{std.proofs.Common.length, report_text.specs.Quoting.quoted_text, writers.specs.Writer.Owes}
+use denote.{Text.Utf8, Shadow.shadow}
 use Rattle.report_text.proofs.helpers.quoting.write_quoted.Given as goal
 
 -- the rest is owed

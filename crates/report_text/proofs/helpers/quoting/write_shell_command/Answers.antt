@@ -1,5 +1,4 @@
-use Rattle.std.proofs.Common.{rules}
-use Rattle.report_text.proofs.lemmas.Commands.{command_and_args}
+use Rattle.{std.proofs.Common.rules, report_text.proofs.lemmas.Commands.command_and_args}
 use Rattle.report_text.proofs.helpers.quoting.write_shell_command.Goals as goal
 
 pub returns-in_err-write_shell_word : goal.returns-in_err-write_shell_word

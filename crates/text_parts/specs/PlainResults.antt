@@ -1,9 +1,7 @@
 -- Results without escape characters.
-use Rattle.run_model.specs.declared.status.ExecutionResultDescription.{ExecutionResultDescription}
-use Rattle.run_model.specs.declared.status.FailureDescription.{FailureDescription}
+use Rattle.{report_words.specs.PlainTexts.IsPlainAbort, run_model.specs.declared.status.ExecutionResultDescription.ExecutionResultDescription}
+use Rattle.run_model.specs.declared.status.FailureDescription.{FailureDescription, TheVariants.ExitCode, TheVariants.Abort}
 use Rattle.run_model.specs.declared.status.ExecutionResultDescription.TheVariants as outcome
-use Rattle.run_model.specs.declared.status.FailureDescription.TheVariants.{ExitCode, Abort}
-use Rattle.report_words.specs.PlainTexts.{IsPlainAbort}
 
 -- a failure's signal and message hold none
 abbrev pub IsPlainFailure : FailureDescription → Type 0
