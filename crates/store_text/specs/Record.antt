@@ -1,11 +1,7 @@
 -- The record of a finished test.
-use Rattle.std.specs.Prelude.{◌++◌, codes}
-use Rattle.run_model.specs.Names.{Attempts, TestInstanceId}
+use Rattle.{std.specs.Prelude.◌++◌, std.specs.Prelude.codes, run_model.specs.Names.Attempts, run_model.specs.Names.TestInstanceId, styled_text.specs.Texts.Text}
 use Rattle.text_parts.specs.Names.{ChildOutputDescription, LiveSpec, short_word}
-use Rattle.styled_text.specs.Texts.{Text}
-use Rattle.store_text.specs.Netstring.{netstring}
-use Rattle.store_text.specs.StoredOutput.{stored_output}
-use Rattle.store_text.specs.declared.config.StoreConfig.{StoreConfig}
+use Rattle.store_text.specs.{Netstring.netstring, StoredOutput.stored_output, declared.config.StoreConfig.StoreConfig}
 
 -- its binary's id, its name, the word of its last attempt and its output, each as a netstring, on a line
 unfoldable pub record_text : StoreConfig → TestInstanceId → Attempts LiveSpec ChildOutputDescription → Text

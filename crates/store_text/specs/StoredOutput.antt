@@ -4,8 +4,7 @@ use Rattle.run_model.specs.Names.{Attempts, Written, case_of, is_success_case, d
 use Rattle.text_parts.specs.Names.{ChildOutputDescription, LiveSpec, StatusCase}
 use Rattle.run_model.specs.declared.output.ChildExecutionOutputDescription.TheVariants.{Output, StartError}
 use Rattle.run_model.specs.declared.output.ChildOutputDescription.TheVariants.{Split, Combined, NotLoaded}
-use Rattle.styled_text.specs.Texts.{Text}
-use Rattle.store_text.specs.declared.config.StoreConfig.{StoreConfig}
+use Rattle.{styled_text.specs.Texts.Text, store_text.specs.declared.config.StoreConfig.StoreConfig}
 
 -- a stream as text: one that was not captured has none
 abbrev pub stored_stream : Option Text → Text

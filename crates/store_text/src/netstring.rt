@@ -1,8 +1,7 @@
 //! Netstrings: a text after the number of its bytes, so that it may hold any byte.
 
 ghost use Rattle.std.specs.Prelude.{◌++◌};
-ghost use Rattle.writers.specs.Writer.{Puts};
-ghost use Rattle.store_text.specs.Netstring.{netstring};
+ghost use Rattle.{writers.specs.Writer.Puts, store_text.specs.Netstring.netstring};
 
 use itoa::Buffer;
 use writers::write_str::{WriteFault, WriteStr, write_strs};

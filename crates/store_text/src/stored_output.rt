@@ -1,8 +1,7 @@
 //! The output that a store keeps: the decoded text, with its escape sequences.
 
 ghost use Rattle.std.specs.Prelude.{◌≡◌, ◌++◌};
-ghost use Rattle.writers.specs.Writer.{Puts};
-ghost use Rattle.store_text.specs.Netstring.{netstring};
+ghost use Rattle.{writers.specs.Writer.Puts, store_text.specs.Netstring.netstring};
 ghost use Rattle.store_text.specs.StoredOutput.{captured_text, stored_output, stored_stream, written_text};
 
 use crate::config::StoreConfig;

@@ -5,14 +5,10 @@ use Rattle.text_parts.specs.Names.{ExecutionResultDescription, FlakyResult, Retr
 use Rattle.text_parts.specs.Names.{is_plain_success}
 use Rattle.run_model.specs.declared.status.FlakyResult.TheVariants as flaky
 use Rattle.run_model.specs.declared.status.StatusCase.TheVariants.{Success, Flaky, Failure}
-use Rattle.styled_text.proofs.lemmas.Closed.{decimal_free}
-use Rattle.styled_text.proofs.lemmas.Widths.{free_both}
-use Rattle.text_parts.proofs.lemmas.ResultColourPairs.{free-success_word}
+use Rattle.styled_text.proofs.lemmas.{Closed.decimal_free, Widths.free_both}
+use Rattle.text_parts.{proofs.lemmas.ResultColourPairs.free-success_word, specs.declared.instance.CountedInstance.CountedInstance}
 use Rattle.report_words.specs.Parts.{Fixed, Parts, Open, Line, Lines, Tone, Pass, Fail, Skip, none, words, toned, Right, given_right, ◌⧺◌, choice, plainly}
-use Rattle.text_parts.specs.declared.instance.CountedInstance.{CountedInstance}
-use Rattle.test_text.specs.declared.status_line.StatusLine.{StatusLine}
-use Rattle.test_text.specs.declared.status_line.StatusLineKind.{StatusLineKind}
-use Rattle.test_text.specs.declared.status_line.StatusLineKind.TheVariants.{Intermediate, Final}
+use Rattle.test_text.specs.declared.status_line.{StatusLine.StatusLine, StatusLineKind.StatusLineKind, StatusLineKind.TheVariants.Intermediate, StatusLineKind.TheVariants.Final}
 
 -- a word after the number of its attempt
 abbrev pub attempt_words : ℕ → Text → Text

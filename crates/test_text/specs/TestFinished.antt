@@ -3,13 +3,9 @@ use Rattle.std.specs.Prelude.{◌≡◌, ℕ, true, false, Option}
 use Rattle.run_model.specs.Names.{Attempts, has_loaded_output, described_last, described_summary, summary_of, TestOutputDisplay, TestInstanceId, StressIndex}
 use Rattle.text_parts.specs.Names.{ChildOutputDescription, LiveSpec, RunStats, ExecuteStatus, StatusSummary, display_of, output_timing, is_ever_shown, is_line_shown, timed_at_once, finished_counter}
 use Rattle.text_parts.specs.Names.{attempt_output}
-use Rattle.text_parts.specs.declared.finish.OutputTiming.{OutputTiming}
-use Rattle.text_parts.specs.declared.instance.CountedInstance.{CountedInstance}
-use Rattle.text_parts.specs.declared.settings.Settings.{Settings}
+use Rattle.text_parts.specs.declared.{finish.OutputTiming.OutputTiming, instance.CountedInstance.CountedInstance, settings.Settings.Settings}
 use Rattle.report_words.specs.Parts.{Parts, Lines, none, ◌⧺◌, choice}
-use Rattle.test_text.specs.StatusLine.{status_line}
-use Rattle.test_text.specs.declared.status_line.StatusLineKind.TheVariants.{Intermediate}
-use Rattle.test_text.specs.declared.test_finished.FinishedTest.{FinishedTest}
+use Rattle.test_text.specs.{StatusLine.status_line, declared.status_line.StatusLineKind.TheVariants.Intermediate, declared.test_finished.FinishedTest.FinishedTest}
 
 -- a finished test under a reason: as its line names it, when its output is shown, its row, its outcome,
 -- and its last attempt

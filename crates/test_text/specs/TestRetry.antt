@@ -4,12 +4,9 @@ use Rattle.styled_text.specs.Names.{decimal, Text, HasNoEscape}
 use Rattle.run_model.specs.Names.{Attempt, is_immediate, has_loaded_output, TestOutputDisplay, TestInstanceId, StressIndex}
 use Rattle.text_parts.specs.Names.{RetryData, instance_end, padded_instance, short_word, is_level_shown, bracketed, by_delay, attempt_output}
 use Rattle.run_names.specs.declared.level.StatusLevel.TheVariants as status
-use Rattle.styled_text.proofs.lemmas.Closed.{decimal_free}
-use Rattle.styled_text.proofs.lemmas.Widths.{free_both}
+use Rattle.styled_text.proofs.lemmas.{Closed.decimal_free, Widths.free_both}
 use Rattle.report_words.specs.Parts.{Parts, Line, Lines, Retry, none, words, Right, given_right, ◌⧺◌, choice}
-use Rattle.text_parts.specs.declared.instance.CountedInstance.{CountedInstance}
-use Rattle.text_parts.specs.declared.settings.Settings.{Settings}
-use Rattle.test_text.specs.StatusLine.{attempt_words}
+use Rattle.{text_parts.specs.declared.instance.CountedInstance.CountedInstance, text_parts.specs.declared.settings.Settings.Settings, test_text.specs.StatusLine.attempt_words}
 
 -- its line
 unfoldable pub attempt_failed_line : CountedInstance → Attempt → Parts false Line

@@ -4,8 +4,7 @@ use Rattle.run_names.specs.declared.level.StatusLevel.TheVariants as status
 use Rattle.run_model.specs.Names.{TestInstanceId, StressIndex}
 use Rattle.report_words.specs.Parts.{Parts, Line, Lines, Skip, none, right, ◌⧺◌, choice}
 use Rattle.text_parts.specs.Names.{padded_instance, untimed_end, is_level_shown}
-use Rattle.text_parts.specs.declared.instance.CountedInstance.{CountedInstance}
-use Rattle.text_parts.specs.declared.settings.Settings.{Settings}
+use Rattle.text_parts.specs.declared.{instance.CountedInstance.CountedInstance, settings.Settings.Settings}
 
 -- its line
 unfoldable pub skip_line : CountedInstance → Parts false Line

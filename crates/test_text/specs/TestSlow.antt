@@ -3,12 +3,9 @@ use Rattle.std.specs.Prelude.{ℕ, Bool, true, false, ◌&&◌, Option, codes, n
 use Rattle.run_model.specs.Names.{status_rank, StatusLevel, TestInstanceId, StressIndex}
 use Rattle.text_parts.specs.Names.{RetryData, instance_end, padded_instance, is_level_shown, exceeded}
 use Rattle.run_names.specs.declared.level.StatusLevel.TheVariants as status
-use Rattle.styled_text.specs.Names.{HasNoEscape, Text}
-use Rattle.report_words.proofs.lemmas.FreeWords.{free-if}
+use Rattle.{styled_text.specs.Names.HasNoEscape, styled_text.specs.Names.Text, test_text.specs.StatusLine.attempt_words, test_text.specs.StatusLine.free-attempt_words}
+use Rattle.{text_parts.specs.declared.instance.CountedInstance.CountedInstance, text_parts.specs.declared.settings.Settings.Settings, report_words.proofs.lemmas.FreeWords.free-if}
 use Rattle.report_words.specs.Parts.{Parts, Line, Lines, Tone, Fail, Retry, Skip, none, words, Right, ◌⧺◌, choice}
-use Rattle.text_parts.specs.declared.instance.CountedInstance.{CountedInstance}
-use Rattle.text_parts.specs.declared.settings.Settings.{Settings}
-use Rattle.test_text.specs.StatusLine.{attempt_words, free-attempt_words}
 
 -- the end of a slow test's line: how long the attempt has taken, and the test
 unfoldable pub slow_end : CountedInstance → ℕ → Parts false Line

@@ -1,12 +1,9 @@
 -- A test that starts, and a retry.
 use Rattle.std.specs.Prelude.{ℕ, false, List, Option, codes, refl}
-use Rattle.run_model.specs.Names.{TestInstanceId, StressIndex}
+use Rattle.{run_model.specs.Names.TestInstanceId, run_model.specs.Names.StressIndex, test_text.specs.StatusLine.attempt_words, test_text.specs.StatusLine.free-attempt_words}
 use Rattle.text_parts.specs.Names.{RunStats, RetryData, shell_words, padded_instance, untimed_end, shows_starts, started_counter}
-use Rattle.text_parts.specs.declared.instance.CountedInstance.{CountedInstance}
-use Rattle.text_parts.specs.declared.settings.Settings.{Settings}
-use Rattle.styled_text.specs.Texts.{Text}
+use Rattle.{text_parts.specs.declared.instance.CountedInstance.CountedInstance, text_parts.specs.declared.settings.Settings.Settings, styled_text.specs.Texts.Text}
 use Rattle.report_words.specs.Parts.{Parts, Lines, Count, Pass, Retry, none, words, right, Right, ◌⧺◌, choice, drawn_given}
-use Rattle.test_text.specs.StatusLine.{attempt_words, free-attempt_words}
 
 -- a test that starts, with the counter that it will have if it is the next to finish
 abbrev pub started_instance : Settings → Option StressIndex → TestInstanceId → RunStats → CountedInstance

@@ -1,9 +1,7 @@
 //! A finished test, and its text during the run.
 
 ghost use Rattle.std.specs.Prelude.{◌≡◌};
-ghost use Rattle.run_names.specs.Levels.{reason_rank};
-ghost use Rattle.writers.specs.Writer.{Puts};
-ghost use Rattle.report_words.specs.Parts.{paint};
+ghost use Rattle.{run_names.specs.Levels.reason_rank, writers.specs.Writer.Puts, report_words.specs.Parts.paint};
 ghost use Rattle.test_text.specs.TestFinished.{HasShownOutput, finish_of, line_at_once, output_at_once, test_finish, test_finished_text};
 
 use crate::status_line::{StatusLine, StatusLineKind, write_status_line};

@@ -2,11 +2,9 @@
 
 ghost use Rattle.std.specs.Prelude.{◌≡◌, true};
 ghost use Rattle.styled_text.specs.Names.{styled, right_in, Puts};
-ghost use Rattle.report_words.specs.Parts.{paint};
+ghost use Rattle.{report_words.specs.Parts.paint, test_text.specs.StatusLine.attempt_words};
 ghost use Rattle.test_text.specs.TestRetry.{HasFailedAttemptOutput, attempt_failed_text, delay_words, failed_output, is_failed_output_shown};
-ghost use Rattle.text_parts.specs.Names.{is_level_shown, short_word};
-ghost use Rattle.test_text.specs.StatusLine.{attempt_words};
-ghost use Rattle.run_names.specs.declared.level.StatusLevel.TheVariants.{Retry};
+ghost use Rattle.{text_parts.specs.Names.is_level_shown, text_parts.specs.Names.short_word, run_names.specs.declared.level.StatusLevel.TheVariants.Retry};
 
 use itoa::Buffer;
 use run_model::config::TestOutputDisplay;

@@ -1,8 +1,6 @@
 //! A skipped test.
 
-ghost use Rattle.writers.specs.Writer.{Puts};
-ghost use Rattle.report_words.specs.Parts.{paint};
-ghost use Rattle.test_text.specs.TestSkipped.{skip_line, test_skipped_text};
+ghost use Rattle.{writers.specs.Writer.Puts, report_words.specs.Parts.paint, test_text.specs.TestSkipped.skip_line, test_text.specs.TestSkipped.test_skipped_text};
 
 use run_model::level::StatusLevel;
 use run_model::name::TestInstanceId;

@@ -1,8 +1,6 @@
 //! A test that starts, and a retry: shown if output is not captured, or with commands.
 
-ghost use Rattle.writers.specs.Writer.{Puts};
-ghost use Rattle.text_parts.specs.Instance.{padded_instance};
-ghost use Rattle.report_words.specs.Parts.{paint};
+ghost use Rattle.{writers.specs.Writer.Puts, text_parts.specs.Instance.padded_instance, report_words.specs.Parts.paint};
 ghost use Rattle.test_text.specs.TestStarted.{command_text, test_retry_started_text, test_started_text};
 
 use crate::attempt::Try;

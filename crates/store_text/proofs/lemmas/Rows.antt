@@ -1,19 +1,13 @@
 -- Worked rows: what the definitions say of some records.
 use Rattle.std.proofs.Common.{◌≡◌, ◌++◌, [], ◌∷◌, true, false, pos, None, Some, codes, refl}
 use Rattle.styled_text.specs.Names.{digits, chars, is_utf8, Text}
-use Rattle.std.proofs.lemmas.Str.{IsUtf8-from_is_utf8}
+use Rattle.{run_model.specs.declared.status.FailureDescription.TheVariants.ExitCode, run_model.proofs.lemmas.Decoded.decoded-same, std.proofs.lemmas.Str.IsUtf8-from_is_utf8}
 use Rattle.run_model.specs.Names.{Attempts, TestInstanceId, decoded_text}
 use Rattle.text_parts.specs.Names.{ChildOutputDescription, LiveSpec, ExecutionResultDescription, short_word}
-use Rattle.run_model.specs.declared.output.ChildExecutionOutputDescription.TheVariants.{Output}
-use Rattle.run_model.specs.declared.output.ChildOutputDescription.TheVariants.{Split}
+use Rattle.run_model.specs.declared.output.{ChildExecutionOutputDescription.TheVariants.Output, ChildOutputDescription.TheVariants.Split}
 use Rattle.run_model.specs.declared.status.ExecutionResultDescription.TheVariants as outcome
-use Rattle.run_model.specs.declared.status.FailureDescription.TheVariants.{ExitCode}
 use Rattle.run_model.specs.declared.status.FlakyResult.TheVariants as flaky
-use Rattle.run_model.proofs.lemmas.Decoded.{decoded-same}
-use Rattle.store_text.specs.Netstring.{netstring, netstring_head}
-use Rattle.store_text.specs.Record.{record_text}
-use Rattle.store_text.specs.StoredOutput.{stored_output}
-use Rattle.store_text.specs.declared.config.StoreConfig.{StoreConfig}
+use Rattle.store_text.specs.{Netstring.netstring, Netstring.netstring_head, Record.record_text, StoredOutput.stored_output, declared.config.StoreConfig.StoreConfig}
 
 -- one attempt with this result and these two streams
 abbrev attempt : ExecutionResultDescription → Text → Text → Attempts LiveSpec ChildOutputDescription

@@ -1,20 +1,14 @@
 -- The line of a finished test and its output, without escape characters (for the text of a finished test, and for the entries of a summary).
-use Rattle.std.proofs.Common.{Bool, false}
+use Rattle.{std.proofs.Common.Bool, std.proofs.Common.false, text_parts.specs.declared.instance.CountedInstance.CountedInstance}
 use Rattle.run_names.specs.declared.unit.UnitKind.TheVariants as unit
 use Rattle.text_parts.specs.Names.{StatusCase, StatusSummary, IsPlainResult, IsPlainWritten}
 use Rattle.run_model.specs.declared.status.StatusCase.TheVariants.{Success, Flaky, Failure}
-use Rattle.text_parts.specs.declared.instance.CountedInstance.{CountedInstance}
-use Rattle.text_parts.specs.declared.settings.Settings.{Settings}
-use Rattle.report_text.proofs.lemmas.InstanceColourPairs.{colour_pair-instance_text}
-use Rattle.report_words.proofs.lemmas.FreeWords.{frees}
-use Rattle.report_words.proofs.lemmas.PartsInColour.{AreFree}
-use Rattle.text_parts.proofs.lemmas.LineColourPairs.{IsPlainTest}
-use Rattle.text_parts.proofs.lemmas.OutputColourPairs.{free-unit_output}
+use Rattle.text_parts.{specs.declared.settings.Settings.Settings, proofs.lemmas.LineColourPairs.IsPlainTest, proofs.lemmas.OutputColourPairs.free-unit_output}
+use Rattle.{report_text.proofs.lemmas.InstanceColourPairs.colour_pair-instance_text, report_words.proofs.lemmas.FreeWords.frees, report_words.proofs.lemmas.PartsInColour.AreFree}
 use Rattle.text_parts.proofs.lemmas.ResultColourPairs.{free-long_word, free-short_word, free-abort_line}
 use Rattle.test_text.specs.StatusLine.{status_words, status_prefix, status_line}
 use Rattle.test_text.specs.TestFinished.{FinishReport, line_at_once, output_at_once, test_finished_text}
-use Rattle.test_text.specs.declared.status_line.StatusLineKind.{StatusLineKind}
-use Rattle.test_text.specs.declared.status_line.StatusLineKind.TheVariants.{Intermediate}
+use Rattle.test_text.specs.declared.status_line.StatusLineKind.{StatusLineKind, TheVariants.Intermediate}
 
 free-status_words : (k : Bool) (kind : StatusLineKind) (case : StatusCase) (x : StatusSummary) → IsPlainResult x.result → AreFree k (status_words kind case x)
 free-status_words k kind Success x h = tt

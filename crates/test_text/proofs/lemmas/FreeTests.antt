@@ -4,18 +4,12 @@ use Rattle.styled_text.specs.Names.{AllByRecursion, HasNoEscape, Text}
 use Rattle.run_model.specs.Names.{TestOutputDisplay, TestInstanceId, StressIndex, Attempt}
 use Rattle.text_parts.specs.Names.{RunStats, RetryData, IsPlainResult, IsPlainWritten}
 use Rattle.run_names.specs.declared.unit.UnitKind.TheVariants as unit
-use Rattle.report_words.specs.PlainTexts.{IsPlainInstance}
-use Rattle.report_words.proofs.lemmas.ColourPairs.{colour_pair-free}
-use Rattle.report_words.proofs.lemmas.FreeWords.{frees}
-use Rattle.report_words.proofs.lemmas.PartsInColour.{AreFree}
-use Rattle.text_parts.specs.declared.instance.CountedInstance.{CountedInstance}
-use Rattle.text_parts.specs.declared.settings.Settings.{Settings}
-use Rattle.report_text.proofs.lemmas.FreeDetails.{free-shell_words}
+use Rattle.report_words.{specs.PlainTexts.IsPlainInstance, proofs.lemmas.ColourPairs.colour_pair-free, proofs.lemmas.FreeWords.frees, proofs.lemmas.PartsInColour.AreFree}
+use Rattle.text_parts.specs.declared.{instance.CountedInstance.CountedInstance, settings.Settings.Settings}
+use Rattle.{report_text.proofs.lemmas.FreeDetails.free-shell_words, test_text.specs.TestSkipped.skip_line, test_text.specs.TestSkipped.test_skipped_text}
 use Rattle.text_parts.proofs.lemmas.LineColourPairs.{IsPlainTest, plain-started_counter, plain-padded, free-instance_end, free-untimed_end}
-use Rattle.text_parts.proofs.lemmas.OutputColourPairs.{free-unit_output}
-use Rattle.text_parts.proofs.lemmas.ResultColourPairs.{free-short_word}
+use Rattle.text_parts.proofs.lemmas.{OutputColourPairs.free-unit_output, ResultColourPairs.free-short_word}
 use Rattle.test_text.specs.TestRetry.{attempt_failed_line, failed_output, delay_line, attempt_failed_text}
-use Rattle.test_text.specs.TestSkipped.{skip_line, test_skipped_text}
 use Rattle.test_text.specs.TestSlow.{slow_end, slow_text, terminating_text, test_slow_text}
 use Rattle.test_text.specs.TestStarted.{start_line, retry_start_line, command_text, test_started_text, test_retry_started_text}
 

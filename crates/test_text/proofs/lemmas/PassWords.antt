@@ -1,10 +1,8 @@
 -- The words of most tests, with their padding (for `write_success_word`, `write_failure_word`).
 use Rattle.std.proofs.Common.{ℕ, ◌≡◌, ◌<◌, [], ◌∷◌, false, codes, lit<, refl}
-use Rattle.styled_text.specs.Names.{chars, right_in}
-use Rattle.std.proofs.lemmas.Str.{chars-IsAscii}
+use Rattle.{std.proofs.lemmas.Str.chars-IsAscii, styled_text.specs.Names.chars, styled_text.specs.Names.right_in}
 use Rattle.run_model.specs.declared.status.ExecutionResultDescription.TheVariants as outcome
-use Rattle.styled_text.proofs.lemmas.Decimals.{IsAscii-cons, IsAscii-none}
-use Rattle.text_parts.specs.ResultWords.{success_word}
+use Rattle.{styled_text.proofs.lemmas.Decimals.IsAscii-cons, styled_text.proofs.lemmas.Decimals.IsAscii-none, text_parts.specs.ResultWords.success_word}
 
 -- four characters of ASCII, right in twelve columns
 four_columns : (a b c d : ℕ) → a < 128 → b < 128 → c < 128 → d < 128
