@@ -1,4 +1,3 @@
 pub mod EventLines
 pub mod Names
-pub mod Parts
 pub mod SceneTexts

@@ -3,7 +3,7 @@ use Rattle.std.specs.Prelude.{◌≡◌, ℕ, ◌+◌, List, [], ◌∷◌, ◌+
 use Rattle.{std.specs.Result.result_map_both, std.specs.Str.is_utf8, scene_events.specs.Configs.unconfigured}
 use Rattle.scene_fields.specs.{Split.split_on, declared.stored.PlacedOutput.PlacedOutput}
 use Rattle.scene_fields.specs.Fields.{◌>>=◌, Fails, Line, Noted, Place, exactly, next, none_noted, says, noted_outputs}
-use Rattle.scene_text.specs.EventLines.{config_line_fields, event_line_fields, made}
+use Rattle.{run_lines.specs.Lines.config_line_fields, run_lines.specs.Lines.made, scene_text.specs.EventLines.event_line_fields}
 use Rattle.scene_fields.specs.declared.fault.{LineError.LineError, LineFault.LineFault, ReadFault.ReadFault, LineFault.TheVariants.NotUtf8, LineFault.TheVariants.ConfigAfterEvent}
 use Rattle.scene_text.specs.declared.reader.ParsedLine.TheVariants.{NoEvent, ConfigLine, EventLine}
 use Rattle.scene_text.specs.declared.reader.{LinesRead.LinesRead, ParsedLine.ParsedLine}

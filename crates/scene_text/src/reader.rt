@@ -1,21 +1,17 @@
 //! The reader of scenes.
 //!
 //! A scene is lines of fields separated by tabs. The first field names an event, and what follows it is read by
-//! the kind of the event. Each module knows one thing: `lines` which kinds there are, `event_lines` what fields each has,
-//! `parts` values that are in one field in parts, and `binary_ids` ids that lines share.
+//! the kind of the event. `lines` knows which kinds there are; what fields each has is in the crates `unit_lines` and `run_lines`.
 
 ghost use Rattle.std.specs.Prelude.{◌≡◌, [], ◌∷◌, false, IfErr, IfOk, OnErr, OnOk, Ok};
 ghost use Rattle.scene_fields.specs.Fields.{Fails, Gives};
 ghost use Rattle.scene_text.specs.SceneTexts.{IsFaultOfNext, KeepsLines, LeavesLines, NotesLine, ReadsLines, RunLine, TakesLine, before_next, fault_at, is_begun_behind, is_passed_over, line_value, line_words, no_lines, parsed_line, parsed_lines, recorded_line, text_lines, value_of, with_line};
 
-mod binary_ids;
-mod event_lines;
 mod lines;
-mod parts;
 
-use binary_ids::BinaryIds;
-use lines::{read_config, read_event};
+use lines::read_event;
 use memchr::memchr;
+use run_lines::lines::read_config;
 use run_model::memory::OutOfMemory;
 use scene_events::scene::event::SceneEvent;
 use scene_events::scene::{ParsedRun, SceneConfig};
@@ -27,18 +23,10 @@ use scene_fields::split::first_line;
 use scene_fields::stored::PlacedOutput;
 use std::alloc::Global;
 use std::mem;
+use unit_lines::binary_ids::BinaryIds;
 
 // Room for the fields of most recorded lines: those of a finished test with one attempt, and of a second one.
 const FIELDS: usize = 32;
-
-// What a field spells, where it spells something.
-type Field<T> = Result<Option<T>, OutOfMemory>;
-
-// What fields spell, or what is wrong with their line.
-type Line<T> = Result<T, LineError>;
-
-// The event of a line.
-type EventResult = Line<SceneEvent>;
 
 /// The value of a line.
 #[derive(Drop)]

@@ -1,27 +1,23 @@
-//! The kinds of line that a scene has, and the fields of a `config` line.
+//! The kinds of line that a scene has.
 
-ghost use Rattle.std.specs.Prelude.{◌≡◌};
-ghost use Rattle.scene_text.specs.Names.{Gives, answered, by_row, config_line_fields, event_line_fields, other_event_rows, run_event_rows, unknown};
+ghost use Rattle.scene_text.specs.Names.{Gives, SceneEvent, by_row, event_line_fields, made, other_event_rows, run_event_rows, test_fields, unknown};
 
-use super::EventResult;
-use super::binary_ids::BinaryIds;
-use super::event_lines::{
-    read_answer_script, read_answer_test, read_cancel, read_done, read_end, read_end_stress,
-    read_header, read_info, read_input, read_pause, read_prefix, read_retry, read_retry_start,
-    read_run, read_setup, read_setup_done, read_setup_slow, read_skip, read_slow, read_start,
-    read_sub_end,
+use run_lines::lines::{
+    read_cancel, read_end, read_end_stress, read_header, read_info, read_input, read_pause,
+    read_prefix, read_run, read_sub_end,
 };
-use super::parts::read_progress;
+use run_lines::parts::read_progress;
 use run_model::boxed::Boxed;
-use scene_events::scene::SceneConfig;
 use scene_events::scene::event::SceneEvent;
 use scene_fields::fault::{LineError, LineFault};
 use scene_fields::fields::Fields;
 use scene_fields::numbers::read_count;
-use scene_fields::values::{
-    ConfigKey, read_config_key, read_display, read_final_level, read_flag, read_mode,
-};
 use std::alloc::Global;
+use unit_lines::binary_ids::BinaryIds;
+use unit_lines::lines::{
+    read_answer_script, read_answer_test, read_done, read_retry, read_retry_start, read_setup,
+    read_setup_done, read_setup_slow, read_slow, read_start, read_test,
+};
 
 /// Reads the fields behind a word, which names the kind of event. The words of tests come first, since most lines
 /// are theirs.
@@ -32,7 +28,7 @@ pub fn read_event(
     ids: &mut BinaryIds,
     word: &str,
     fields: &mut Fields<'_>,
-) -> EventResult
+) -> Result<SceneEvent, LineError>
     ensures { Gives (λ e. e) fields.old result fields.new (event_line_fields word.now) }
 {
     match word {
@@ -73,7 +69,7 @@ fn read_other_event(
     ids: &mut BinaryIds,
     word: &str,
     fields: &mut Fields<'_>,
-) -> EventResult
+) -> Result<SceneEvent, LineError>
     ensures { Gives (λ e. e) fields.old result fields.new (by_row unknown other_event_rows word.now) }
 {
     match word {
@@ -121,10 +117,26 @@ fn read_other_event(
     }
 }
 
+// Reads a `skip` line: the test.
+fn read_skip(
+    alloc: Global,
+    ids: &mut BinaryIds,
+    fields: &mut Fields<'_>,
+) -> Result<SceneEvent, LineError>
+    ensures { Gives (λ e. e) fields.old result fields.new (made SceneEvent.TestSkipped test_fields) }
+{
+    let test = read_test(alloc, ids, fields)?;
+    Ok(SceneEvent::TestSkipped(Boxed::new(alloc, test)?))
+}
+
 // Reads the fields behind a word that names an event of the run as it goes on. They hold no text, so only the event allocates.
 #[inline(never)]
 #[tactic(auto, unfolding(crate::specs::EventLines::run_event_rows))]
-fn read_run_event(alloc: Global, word: &str, fields: &mut Fields<'_>) -> EventResult
+fn read_run_event(
+    alloc: Global,
+    word: &str,
+    fields: &mut Fields<'_>,
+) -> Result<SceneEvent, LineError>
     ensures { Gives (λ e. e) fields.old result fields.new (by_row unknown run_event_rows word.now) }
 {
     match word {
@@ -167,25 +179,4 @@ fn read_run_event(alloc: Global, word: &str, fields: &mut Fields<'_>) -> EventRe
         }
         _ => Err(LineError::Fault(LineFault::UnknownEvent)),
     }
-}
-
-/// Reads a `config` line: a key and its value. The last line of a key counts.
-#[tactic(auto, unfolding(crate::specs::EventLines::config_line_fields))]
-pub fn read_config(fields: &mut Fields<'_>, config: SceneConfig) -> Result<SceneConfig, LineFault>
-    ensures { config_line_fields config fields.old ≡ answered result fields.new }
-{
-    let mut config = config;
-    match fields.read(read_config_key)? {
-        ConfigKey::Final => config.final_status_level = fields.read(read_final_level)?,
-        ConfigKey::Runs => config.run_count = fields.read(read_count)?,
-        ConfigKey::Bench => config.mode = fields.read(read_mode)?,
-        ConfigKey::Success => config.success_output = Some(fields.read(read_display)?),
-        ConfigKey::Failure => config.failure_output = Some(fields.read(read_display)?),
-        ConfigKey::NoCapture => config.no_capture = fields.read(read_flag)?,
-        ConfigKey::Verbose => config.verbose = fields.read(read_flag)?,
-        ConfigKey::NoIndent => config.no_output_indent = fields.read(read_flag)?,
-        ConfigKey::Unicode => config.use_unicode = fields.read(read_flag)?,
-        ConfigKey::Empty => config.display_empty_outputs = fields.read(read_flag)?,
-    }
-    Ok(config)
 }
