@@ -1,12 +1,11 @@
 -- The scene that a text spells, or its first fault.
 use Rattle.std.specs.Prelude.{◌≡◌, ℕ, ◌+◌, List, [], ◌∷◌, ◌++◌, Bool, true, false, ◌==◌, ◌||◌, map, nat_lt, bytes_eq, codes, if◌then◌else◌, Option, None, Some, Result, Ok, Err, length, ⊤}
-use Rattle.{std.specs.Result.result_map_both, std.specs.Str.is_utf8, scene_events.specs.Configs.unconfigured}
+use Rattle.{run_lines.specs.Lines.config_line_fields, run_lines.specs.Lines.made, std.specs.Result.result_map_both, std.specs.Str.is_utf8, scene_events.specs.Configs.unconfigured}
 use Rattle.scene_fields.specs.{Split.split_on, declared.stored.PlacedOutput.PlacedOutput}
 use Rattle.scene_fields.specs.Fields.{◌>>=◌, Fails, Line, Noted, Place, exactly, next, none_noted, says, noted_outputs}
-use Rattle.{run_lines.specs.Lines.config_line_fields, run_lines.specs.Lines.made, scene_text.specs.EventLines.event_line_fields}
+use Rattle.scene_text.specs.{EventLines.event_line_fields, declared.reader.LinesRead.LinesRead, declared.reader.ParsedLine.ParsedLine}
 use Rattle.scene_fields.specs.declared.fault.{LineError.LineError, LineFault.LineFault, ReadFault.ReadFault, LineFault.TheVariants.NotUtf8, LineFault.TheVariants.ConfigAfterEvent}
 use Rattle.scene_text.specs.declared.reader.ParsedLine.TheVariants.{NoEvent, ConfigLine, EventLine}
-use Rattle.scene_text.specs.declared.reader.{LinesRead.LinesRead, ParsedLine.ParsedLine}
 use Rattle.scene_events.specs.declared.scene.{ParsedRun.ParsedRun, SceneConfig.SceneConfig, event.SceneEvent.SceneEvent}
 use Rattle.scene_fields.specs.declared.fault.LineError.TheVariants as error
 use Rattle.scene_fields.specs.declared.fault.ReadFault.TheVariants as fault

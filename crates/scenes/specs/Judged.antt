@@ -1,13 +1,11 @@
 -- Scenes that are judged: each line by itself, and then whether the scene's reporter would refuse an event.
 use Rattle.std.specs.Prelude.{◌≡◌, ◌⊎◌, ℕ, List, ◌∷◌, ◌++◌, get_or, length, Option, None, Some, Result, Ok, Err}
-use Rattle.std.specs.Option.{option_and_then, option_map}
+use Rattle.{std.specs.Option.option_and_then, std.specs.Option.option_map, command_line.specs.Faults.IsJudgeFault, command_line.specs.declared.fault.Fault.Fault}
 use Rattle.reporter_state.specs.Refusals.{first_refused, refusal_at_by, refusal_by}
-use Rattle.reporter_state.specs.declared.decider.OutputLoadDecider.{OutputLoadDecider}
+use Rattle.{command_line.specs.declared.args.Options.Options, reporter_state.specs.declared.decider.OutputLoadDecider.OutputLoadDecider, scenes.specs.declared.scene.Scene.Scene}
 use Rattle.scenes.specs.Reports.{AreCallsOf, fault_at_call, decider_for}
 use Rattle.scenes.specs.ParsedScenes.{IsFaultOf, IsSceneRead, scene_lines}
-use Rattle.scenes.specs.declared.scene.Scene.{Scene}
 use Rattle.scene_text.specs.Names.{event_lines, no_lines, text_lines, text_read, IsCallOf, SceneConfig, SceneEvent, LineFault, ReportCall}
-use Rattle.command_line.specs.{Faults.IsJudgeFault, declared.fault.Fault.Fault, declared.args.Options.Options}
 use Rattle.command_line.specs.declared.fault.Fault.TheVariants as fault
 
 -- no call of the scene is refused

@@ -2,12 +2,11 @@
 use Rattle.std.specs.Prelude.{◌≡◌, ◌≤◌, ◌⊎◌, ℕ, List, ◌++◌, true, length, reverse, Option, None, Result, IfErr, OnOk, ⊤}
 use Rattle.styled_text.specs.Names.{Appends, AllZip, is_some, Text, AppendsFront, Meaning, WriteFault}
 use Rattle.writers.specs.declared.write_str.WriteFault.TheVariants.{Device, Memory}
-use Rattle.{console_reporter.specs.Outcomes.HasFront, reporter_state.specs.Refusals.first_refused}
+use Rattle.{console_reporter.specs.Outcomes.HasFront, reporter_state.specs.Refusals.first_refused, scenes.specs.Outcomes.run_outcome}
 use Rattle.scene_text.specs.Names.{IsCallOf, SceneConfig, ParsedLines, ReportCall}
 use Rattle.scenes.specs.Reports.{report_of, store_for, stored_of, decider_for}
-use Rattle.scenes.specs.{Outcomes.run_outcome, declared.outcome.RunOutcome.RunOutcome}
+use Rattle.{scenes.specs.declared.outcome.RunOutcome.RunOutcome, command_line.specs.declared.args.Options.Options, command_line.specs.declared.fault.Fault.Fault}
 use Rattle.command_line.specs.declared.fault.Fault.TheVariants.{OutOfMemory, StoreFailed, WriteFailed}
-use Rattle.command_line.specs.declared.{args.Options.Options, fault.Fault.Fault}
 
 -- A device as a writer, where its bytes are known: they grow by what it accepts, and at a fault by a beginning of it.
 abbrev pub device : Meaning (Option (List ℕ))

@@ -93,8 +93,7 @@ never-attempt s stress test x delay failure never =
 never-script : (s : Settings) (script : Script) (x : SetupScriptExecuteStatus LiveSpec ChildOutputDescription) → loads_script x.result ≡ false →
     paint s.styles (setup_script_finished_text s script (unloaded_script x)) ≡ paint s.styles (setup_script_finished_text s script x)
 unfolding setup_script_finished_text failed_script_output
-never-script s script x never =
-    elim (cases_Bool (is_success x.result)) [ inl y ↦ rw y refl | inr n ↦ absurd (false≢true (sym (rw n at never))) ]
+never-script s script x never = elim (cases_Bool (is_success x.result)) [ inl y ↦ rw y refl | inr n ↦ absurd (false≢true (sym (rw n at never))) ]
 
 -- an event whose output the decider skips is the same without it
 pub same-unloaded : (s : Settings) (store : Option StoreConfig) (elapsed : Nanos) (e : TestEventKind) → is_skipped (decider_by s store) e ≡ true →

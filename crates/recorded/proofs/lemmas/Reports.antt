@@ -3,10 +3,9 @@ use Rattle.std.proofs.Common.{◌≡◌, ℕ, ◌^◌, ◌-◌, ◌≤◌, List,
 use Rattle.{std.specs.Io.KnownBytes.Appends, std.specs.List.AllZip, scenes.specs.declared.outcome.RunOutcome.RunOutcome, scenes.proofs.lemmas.ReadyCalls.outcome_unread}
 use Rattle.scenes.specs.Names.{Options, Fault, PrintsFollowed, device, run_outcome, OfLines, OfText, configuration_for, report_of, stored_of, decider_for}
 use Rattle.console_reporter.proofs.lemmas.Earlier.{call_of_last, calls_of_last, isolated_last}
-use Rattle.console_reporter.proofs.lemmas.Isolation.{isolated}
+use Rattle.{console_reporter.proofs.lemmas.Isolation.isolated, recorded.proofs.lemmas.Skipped.skipped_call, recorded.proofs.lemmas.SpelledLines.scene_law}
 use Rattle.recorded.proofs.lemmas.EarlierOutputs.{loaded_call, outcome_last, shown_call}
 use Rattle.recorded.proofs.lemmas.Inline.{AreInline, IsInline, go_on}
-use Rattle.recorded.proofs.lemmas.{Skipped.skipped_call, SpelledLines.scene_law}
 use Rattle.recorded.specs.Names.{counted, line_replayed, lines_inline, lines_replayed, needed, ended_lines, IsLeft, AreBytes, scene_spelled}
 use Rattle.reporter_state.specs.{Names.first_refused, Names.unread, declared.decider.OutputLoadDecider.OutputLoadDecider}
 use Rattle.scene_text.specs.Names.{ReportCall, IsCallOf, SceneConfig, SceneEvent, ParsedLines, RunLine, lines_before, no_lines}

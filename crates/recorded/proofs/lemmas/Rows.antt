@@ -1,11 +1,10 @@
 -- Worked rows: what the definitions say of outputs that are written out, what a replay makes of a setup script whose output is stored, and a
 -- text whose outputs are spelled out.
 use Rattle.std.proofs.Common.{◌≡◌, ℕ, List, [], ◌∷◌, ◌++◌, codes, true, false, refl, None, Some, Ok, Err}
-use Rattle.{hex.proofs.OnLiterals.hex_on_literals, reporter_state.specs.declared.decider.OutputLoadDecider.OutputLoadDecider, scene_fields.specs.declared.fault.LineFault.TheVariants.BadField}
-use Rattle.run_model.specs.Names.{attempt_with_output, is_success}
+use Rattle.{hex.proofs.OnLiterals.hex_on_literals, console_reporter.specs.Names.OutputLoadDecider, run_model.specs.Names.attempt_with_output, run_model.specs.Names.is_success}
+use Rattle.scene_fields.specs.declared.{fault.LineFault.TheVariants.BadField, stored.StoredOutput.TheVariants.Split, stored.StoredOutput.TheVariants.Combined}
 use Rattle.recorded.specs.Names.{captured_at, counted_output, event_replayed, outputs_len, stream_at, line_spelled, scene_spelled, tabbed}
 use Rattle.scene_text.specs.Names.{SetupFinish, number_in, after_mark, reference_in, sum_in, sum_of, cut, split_on, Reference, PlacedOutput}
-use Rattle.scene_fields.specs.declared.stored.StoredOutput.TheVariants.{Split, Combined}
 use Rattle.scene_fields.specs.declared.stored.StoredStream.TheVariants.{NotCaptured, Empty, At}
 use Rattle.run_model.specs.declared.output.ChildOutputDescription.TheVariants as captured
 use Rattle.scene_events.specs.declared.scene.event.SceneEvent.TheVariants as scene

@@ -1,11 +1,10 @@
 -- Lines whose outputs are spelled out, and the text that they make.
 use Rattle.std.proofs.Common.{◌≡◌, ℕ, ◌+◌, ◌<◌, List, [], ◌∷◌, ◌++◌, map, length, true, false, get_or, drop, refl, ap, sym, ◌∙◌, subst, arith, None, inl, inr, ◌==◌, length-append}
-use Rattle.{std.specs.Str.IsUtf8, std.specs.Str.is_utf8, scene_fields.proofs.lemmas.Cuts.split_on-lacks, scene_fields.proofs.lemmas.Cuts.split_on-parts}
+use Rattle.std.{specs.Str.IsUtf8, specs.Str.is_utf8, proofs.lemmas.Bool.cases_Bool, proofs.lemmas.Bool.Decides.nat_tests}
+use Rattle.{scene_fields.proofs.lemmas.Cuts.split_on-lacks, scene_fields.proofs.lemmas.Cuts.split_on-parts, recorded.proofs.lemmas.MarkedFields.marked}
 use Rattle.std.proofs.Math.Seq.{drop-append-add, get_or-append_seam, take-append_seam}
-use Rattle.std.proofs.{lemmas.Bool.cases_Bool, lemmas.Bool.Decides.nat_tests}
 use Rattle.std.proofs.lemmas.Str.{IsCharBoundary-after_ascii, IsCharBoundary-before_ascii, IsUtf8-append, IsUtf8-drop, IsUtf8-from_ascii, IsUtf8-from_is_utf8, IsUtf8-take, is_utf8-from_IsUtf8}
 use Rattle.recorded.proofs.lemmas.WholeLines.{NoneHas, lacks-append, pieces}
-use Rattle.recorded.proofs.lemmas.MarkedFields.{marked}
 use Rattle.recorded.proofs.lemmas.SpelledBytes.{field_lacks_feed, field_lacks_tab, field_utf8}
 use Rattle.recorded.specs.Names.{ended_lines, without_last, field_spelled, line_spelled, scene_spelled, tabbed, text_of_lines}
 use Rattle.scene_text.specs.Names.{reference_in, Lacks, split_on, is_passed_over}

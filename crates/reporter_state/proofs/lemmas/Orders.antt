@@ -33,10 +33,7 @@ module _ {X : Type 0} (lt : X → X → Bool) where
   before_last : (e f : X) (gs : List X) → lt f e ≡ false → put_in lt e (gs ++ f ∷ []) ≡ put_in lt e gs ++ f ∷ []
   unfolding put_in
   before_last e f [] h = rw h refl
-  before_last e f (g ∷ gs) h = let more = before_last e f gs h in elim (cases_Bool (lt g e)) [
-    | inl t ↦ rw t (ap (λ l. g ∷ l) more)
-    | inr n ↦ rw n refl
-  ]
+  before_last e f (g ∷ gs) h = let more = before_last e f gs h in elim (cases_Bool (lt g e)) [ inl t ↦ rw t (ap (λ l. g ∷ l) more) | inr n ↦ rw n refl ]
 
 module _ {X : Type 0} (lt : X → X → Bool) (o : IsStrictWeakOrder lt) where
   not_below_itself : (x : X) → lt x x ≡ false
@@ -94,10 +91,7 @@ module _ {X : Type 0} (lt : X → X → Bool) (o : IsStrictWeakOrder lt) where
   ties-put_in z e [] = refl
   ties-put_in z e (f ∷ fs) = let more = ties-put_in z e fs in elim (cases_Bool (lt f e)) [
     | inl t ↦ rw t (elim (cases_Bool (ties lt z f)) [
-      | inl a ↦ (elim (cases_Bool (ties lt z e)) [
-        | inl b ↦ absurd (both_tie z e f t a b)
-        | inr b ↦ (let same = rw b at more in rw (a, b, same))
-      ])
+      | inl a ↦ (elim (cases_Bool (ties lt z e)) [ inl b ↦ absurd (both_tie z e f t a b) | inr b ↦ (let same = rw b at more in rw (a, b, same)) ])
       | inr a ↦ rw (a, more)
     ])
     | inr n ↦ rw n refl

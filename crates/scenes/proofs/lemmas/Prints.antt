@@ -3,10 +3,8 @@ use Rattle.std.proofs.Common.{◌≡◌, ℕ, true, List, [], ◌∷◌, ◌++�
 use Rattle.scenes.proofs.Common.{AllZip, AreWhole, Begins, configuration_for, decider_for, Failed, Fault, fault_at_call, first_refused, HasAtLeast, HasAtMost, HasBeginning, HasFirstCalls, Io, is_some, IsCallOf, Meaning, OfCalls, Options, OutOfMemory, OutputNotLoaded, ParsedLines, Prints, PrintsFollowed, Records, report, ReportCall, Reported, RetriedSuccess, reverse-append, RunOutcome, SceneConfig, SceneEvent, StandAtOneCall, Stops, store_for, stored, stored_text, StoreFailed, StoreIo, Text, text, WriteEventError, WriteFailed, WriterLaws}
 use Rattle.writers.specs.declared.write_str.WriteFault.TheVariants.{Device, Memory as RefusedMemory}
 use Rattle.console_reporter.specs.Names.{HasFront, Side, error_for, Report}
-use Rattle.reporter_state.specs.Refusals.{refusal_in}
-use Rattle.reporter_state.specs.declared.faults.WriteEventError.TheVariants.{Memory}
-use Rattle.scenes.specs.Prints.{AreBegun, IsStop}
-use Rattle.scenes.proofs.lemmas.Refusals.{zip_both}
+use Rattle.reporter_state.specs.{Refusals.refusal_in, declared.faults.WriteEventError.TheVariants.Memory}
+use Rattle.scenes.{specs.Prints.AreBegun, specs.Prints.IsStop, proofs.lemmas.Refusals.zip_both}
 
 -- of a text a beginning was accepted, as `HasBeginning` says it
 abbrev pub Begun : {S : Type 0} → Meaning S → Type 0 → S → Text → S → Type 0

@@ -193,10 +193,7 @@ module _ (file text : List ℕ) (read : LinesRead) (Has : ParsedLines → List R
   unread_told other is = absurd is
 
   pub stopped_read : Stops fault
-  stopped_read = elim has.more_is [
-    | inl is ↦ unread_told fault is
-    | inr x ↦ subst Stops (sym x.1) (fault_told x.0 x.2)
-  ]
+  stopped_read = elim has.more_is [ inl is ↦ unread_told fault is | inr x ↦ subst Stops (sym x.1) (fault_told x.0 x.2) ]
 
 -- what a line after an event is read with
 abbrev behind : SceneConfig → LinesBefore
@@ -265,8 +262,7 @@ with_cases before after t (Err f) says none h = absurd (cc)
 
 cases : (before after : ParsedLines) (t : RunLine) → line_read before t ≡ Ok after → Does before after t
 unfolding line_read
-cases before after t h =
-    with_cases before after t (line_value (lines_before before) t) refl (λ begun. rw begun (says_none before.config t)) h
+cases before after t h = with_cases before after t (line_value (lines_before before) t) refl (λ begun. rw begun (says_none before.config t)) h
 
 one_kept : (before after : ParsedLines) (t : RunLine) → is_begun before.events ≡ true → line_read before t ≡ Ok after → (after.config ≡ before.config) × (is_begun after.events ≡ true)
 one_kept before after t begun h = elim (cases before after t h) [

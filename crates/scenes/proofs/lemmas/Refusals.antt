@@ -3,9 +3,7 @@
 use Rattle.std.proofs.Common.{◌≡◌, ℕ, ◌+◌, ◌<◌, ◌≤◌, List, [], ◌∷◌, ◌++◌, Bool, Option, false, length, take, arith, get_or, refl, sym, ap, subst, ◌∙◌, ◌⊎◌, None, Some, append_assoc, inl, inr, not, if◌then◌else◌, ap₂, true, rules}
 use Rattle.scenes.proofs.Common.{AllZip, cases_Bool, ChecksEvent, common_steps, decider_for, Event, Fault, fault_at_call, first_refused, Header, is_some, IsCallOf, IsSceneRefused, length-append, Line, LineFault, option_map, Options, position_or_len, Prefix, refusal_by, Refuses, ReportCall, Scene, SceneConfig, SceneEvent, take_all, WriteEventError, all_zipped_more, cond, false≢true, nat_lt, OutputLoadDecider, OutputNotLoaded, RetriedSuccess, take_more, TestEventKind}
 use Rattle.styled_text.specs.Names.{option_or, option_map_or, position}
-use Rattle.std.proofs.lemmas.List.Folds.{position_or_len_push}
-use Rattle.std.proofs.lemmas.List.Sums.{fails_before_first}
-use Rattle.std.proofs.lemmas.Slice.Zip.{AllZip-long}
+use Rattle.std.proofs.lemmas.{List.Folds.position_or_len_push, List.Sums.fails_before_first, Slice.Zip.AllZip-long, Bool.or_parts}
 use Rattle.reporter_state.specs.Names.{is_retried_success, event_refusal, lacks_output, loads_attempt, loads_finish, loads_script, lent}
 use Rattle.scene_fields.specs.declared.fault.LineFault.TheVariants as line
 use Rattle.run_model.specs.Names.{Attempt, Written, has_valid_output, has_loaded_output, is_success, summary_of, TestInstanceId}
@@ -14,7 +12,6 @@ use Rattle.run_model.specs.declared.info.InfoResponse.TheVariants as response
 use Rattle.run_model.specs.declared.call.ReportCall.TheVariants as call
 use Rattle.scene_text.specs.Names.{script_status, SaysSame, may_be_refused, nothing_counted, elapsed_in, SceneTest}
 use Rattle.scene_events.specs.declared.scene.event.SceneEvent.TheVariants as scene
-use Rattle.std.proofs.lemmas.Bool.{or_parts}
 
 -- why an event is refused whose output is needed or is not
 abbrev pub lacking : Bool → Written → Option WriteEventError

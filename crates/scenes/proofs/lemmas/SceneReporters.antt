@@ -1,13 +1,11 @@
 -- Events reported one after the other, and one that is stopped (for `SceneReporter::report_events`, `report_to`).
 use Rattle.std.proofs.Common.{◌≡◌, ◌⊎◌, ℕ, suc, ◌+◌, ◌<◌, true, List, [], ◌∷◌, ◌++◌, Option, None, Some, length, take, drop, get_or, reverse, refl, sym, ap, ◌∙◌, subst, arith, append_assoc, inl, inr, Result, Ok, Err, IfErr, OnOk}
-use Rattle.std.proofs.Math.Seq.{drop-cons}
+use Rattle.std.proofs.{Math.Seq.drop-cons, lemmas.List.length-take-le, lemmas.List.take-append-drop}
 use Rattle.scenes.proofs.Common.{all_zipped_more, AllZip, AreWhole, Begins, configuration_for, decider_for, EventLine, Fault, fault_at_call, first_refused, Follows, Io, is_some, IsCallOf, Line, LineFault, Meaning, option_map, Options, outcome_after, OutOfMemory, OutputLoadDecider, OutputNotLoaded, ParsedLines, Prints, Records, refusal_by, report, report_of, ReportCall, Reported, RetriedSuccess, reverse-append, Scene, scene_lines, SceneConfig, SceneEvent, SceneReporter, Stops, StopsAtEvent, Store, store-laws, store_for, store_meaning, stored, stored_of, stored_text, StoreIo, take_more, Text, text, with_line, WriteEventError, WriterLaws, writers}
-use Rattle.std.proofs.lemmas.List.{length-take-le, take-append-drop}
 use Rattle.console_reporter.specs.Names.{Configuration, config_of, StandsAfter, AreDelivered, Promises, Report}
-use Rattle.reporter_state.specs.Refusals.{refusal_in}
+use Rattle.{std.specs.List.position, reporter_state.specs.Refusals.refusal_in}
 use Rattle.scene_fields.specs.declared.fault.LineFault.TheVariants as line
 use Rattle.scenes.specs.Names.{IsSceneAccepted, RefusesEvent, run_outcome, IsReadyCall, ready_if, unloaded_for}
-use Rattle.std.specs.List.{position}
 use Rattle.scenes.specs.declared.outcome.RunOutcome.TheVariants as outcome
 use Rattle.scenes.proofs.lemmas.ReadyCalls.{more_if, none_ready, outcome_if, refusal_if, report_ready, stored_ready}
 use Rattle.scenes.proofs.lemmas.Refusals.{fails_behind, none_mapped, none_more, first_of, refusal_of_call, told_refusal, zip_after}

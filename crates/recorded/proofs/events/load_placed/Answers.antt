@@ -1,6 +1,5 @@
 use Rattle.recorded.proofs.lemmas.Loaded.{loaded-event}
-use Rattle.recorded.proofs.events.load_placed.Goals as goal
 
-pub returns-in-Ok-load-clause-loaded : goal.returns-in-Ok-load-clause-loaded
+pub returns-in-Ok-load-clause-loaded : Rattle.recorded.proofs.events.load_placed.Goals.returns-in-Ok-load-clause-loaded
 returns-in-Ok-load-clause-loaded g c =
     loaded-event (g.O.ReadAt.recorded c.args.outputs.now.source) c.args.placed.now c.in-Ok.captured c.args.event.now c.load.new.self c.in-Ok.ensures.loaded c.in-Ok-load.ensures.loaded

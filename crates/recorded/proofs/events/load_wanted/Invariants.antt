@@ -1,10 +1,9 @@
 use Rattle.std.proofs.Common.{◌≡◌, ◌≤◌, ◌-◌, ◌^◌, drop}
 use Rattle.recorded.specs.Names.{counted, is_undamaged, outputs_len, wanted}
 use Rattle.recorded.{proofs.lemmas.Fields.IsLeft, proofs.lemmas.Fields.IsLeftEvent}
-use Rattle.recorded.proofs.events.load_wanted.Given as goal
 
 -- the outputs so far, of those that are loaded, are undamaged and in the event, and the others will be
-abbrev pub invariant-loop-placed : goal.invariant-loop-placed
+abbrev pub invariant-loop-placed : Rattle.recorded.proofs.events.load_wanted.Given.invariant-loop-placed
 invariant-loop-placed g l = record {
   undamaged : IsLeft is_undamaged (g.O.ReadAt.recorded l.fn.outputs.source) (wanted l.only (drop l.placed-index l.stored)) (wanted l.only l.stored);
   loaded : IsLeftEvent (g.O.ReadAt.recorded l.fn.outputs.source) (wanted l.only (drop l.placed-index l.stored)) l.event (wanted l.only l.stored) l.fn.event;

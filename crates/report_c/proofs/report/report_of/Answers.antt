@@ -1,5 +1,4 @@
-use Rattle.std.proofs.Common.{refl}
-use Rattle.report_c.proofs.Unreported.{unreported}
+use Rattle.{std.proofs.Common.refl, report_c.proofs.Unreported.unreported}
 use Rattle.report_c.proofs.report.report_of.Goals as goal
 
 pub returns-in-Ok-clause-report : goal.returns-in-Ok-clause-report

@@ -1,6 +1,5 @@
 use Rattle.std.proofs.Common.{◌∙◌, inl, refl}
-use Rattle.scenes.proofs.Common.{Appends-nil, device, OutOfMemory}
-use Rattle.scenes.proofs.lemmas.FollowedRuns.{nothing_stops}
+use Rattle.scenes.{proofs.Common.Appends-nil, proofs.Common.OutOfMemory, specs.Names.device, proofs.lemmas.FollowedRuns.nothing_stops}
 use Rattle.scenes.proofs.follow.follow_scene.Goals as goal
 
 pub returns-in-Ok-clause-ok : goal.returns-in-Ok-clause-ok

@@ -1,8 +1,6 @@
 use Rattle.std.proofs.Common.{◌≡◌, Some, ap, get_or, refl, rules}
-use Rattle.scenes.proofs.Common.{device, is_some, OutOfMemory}
-use Rattle.scenes.specs.Prints.{AreBegun}
+use Rattle.scenes.{specs.Names.device, proofs.Common.is_some, proofs.Common.OutOfMemory, specs.Prints.AreBegun, proofs.lemmas.Devices.whole_here, proofs.lemmas.Prints.moved}
 use Rattle.scenes.proofs.lemmas.PlainReports.{both_stop, configured_so, untouched}
-use Rattle.scenes.proofs.lemmas.{Devices.whole_here, Prints.moved}
 use Rattle.scenes.proofs.plain.write_calls_and_records.Goals as goal
 
 pub returns-in_default-clause-err : goal.returns-in_default-clause-err

@@ -1,5 +1,4 @@
 use Rattle.scenes.proofs.lemmas.NothingStored.{nothing_stored}
-use Rattle.scenes.proofs.report.records_come_after_texts.Goals as goal
 
-pub returns : goal.returns
+pub returns : Rattle.scenes.proofs.report.records_come_after_texts.Goals.returns
 returns c = nothing_stored

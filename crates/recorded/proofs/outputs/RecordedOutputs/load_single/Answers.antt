@@ -1,5 +1,4 @@
 use Rattle.recorded.proofs.lemmas.Streams.{refused}
-use Rattle.recorded.proofs.outputs.RecordedOutputs.load_single.Goals as goal
 
-pub returns-in_err-new-clause-loaded : goal.returns-in_err-new-clause-loaded
+pub returns-in_err-new-clause-loaded : Rattle.recorded.proofs.outputs.RecordedOutputs.load_single.Goals.returns-in_err-new-clause-loaded
 returns-in_err-new-clause-loaded g c = refused _ _ _ _ c.from_residual-in_err-new.ensures.1 c.in_ok-bytes.ensures.loaded

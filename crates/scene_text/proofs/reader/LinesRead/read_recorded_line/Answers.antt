@@ -1,9 +1,8 @@
 use Rattle.std.proofs.Common.{◌≡◌, Some, false, true, refl, sym, ap, ◌∙◌}
 use Rattle.{std.specs.Str.is_utf8, scene_fields.proofs.lemmas.Utf8.utf8_passes}
 use Rattle.scene_text.specs.Names.{none_noted, field_texts, split_on, before_next, is_passed_over, line_from, line_words}
-use Rattle.scene_text.proofs.reader.LinesRead.read_recorded_line.Goals as goal
 
-pub returns-clause-value : goal.returns-clause-value
+pub returns-clause-value : Rattle.scene_text.proofs.reader.LinesRead.read_recorded_line.Goals.returns-clause-value
 unfolding line_from
 returns-clause-value c =
     let before = before_next c.args.self.now in

@@ -1,10 +1,8 @@
 use Rattle.std.proofs.Common.{rules, ◌≡◌, ◌++◌, length, take, drop, ap, sym, subst, ◌∙◌}
-use Rattle.std.proofs.{Math.Seq.take-append_seam, lemmas.List.length-map}
+use Rattle.{std.proofs.Math.Seq.take-append_seam, std.proofs.lemmas.List.length-map, scenes.proofs.lemmas.ReadyCalls.ready_unread}
 use Rattle.scenes.proofs.Common.{AreReadyCallsOf, decider_for, unread, unread_call}
-use Rattle.scenes.proofs.lemmas.ReadyCalls.{ready_unread}
-use Rattle.scenes.proofs.scene.Scene.calls.Goals as goal
 
-pub returns-clause-calls : goal.returns-clause-calls
+pub returns-clause-calls : Rattle.scenes.proofs.scene.Scene.calls.Goals.returns-clause-calls
 returns-clause-calls c =
     let left = c.unload_skipped.new.calls in
     let made = c.in_ok-calls.calls.items in

@@ -1,8 +1,7 @@
 use Rattle.std.proofs.Common.{refl, subst, sym}
 use Rattle.{scenes.proofs.Common.store_meaning, scenes.proofs.lemmas.SceneReporters.starts}
-use Rattle.scenes.proofs.scene_reporter.SceneReporter.build.Goals as goal
 
-pub returns-clause-start : goal.returns-clause-start
+pub returns-clause-start : Rattle.scenes.proofs.scene_reporter.SceneReporter.build.Goals.returns-clause-start
 returns-clause-start g c = λ options built asked delivered store_delivered.
     let made = c.build_in-reporter.ensures in
     let stands = made.stands in

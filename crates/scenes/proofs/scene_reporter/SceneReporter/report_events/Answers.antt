@@ -1,6 +1,5 @@
-use Rattle.std.proofs.Common.{◌++◌, append-nil, refl, rules, subst, sym}
-use Rattle.scenes.proofs.Common.{Follows, same-after, take_all}
-use Rattle.scenes.specs.Reports.{IsReadyCall}
+use Rattle.std.proofs.Common.{◌++◌, append-nil, refl, rules, subst, sym, take_all}
+use Rattle.scenes.{proofs.Common.Follows, proofs.Common.same-after, specs.Reports.IsReadyCall}
 use Rattle.scenes.proofs.lemmas.SceneReporters.{reported_to, stopped_at, stopped_before}
 use Rattle.scenes.proofs.scene_reporter.SceneReporter.report_events.Goals as goal
 
