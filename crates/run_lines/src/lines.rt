@@ -1,6 +1,7 @@
 //! The lines of a run, of the iterations of a stress run, and of a replay, and of how the run is reported.
 
-ghost use Rattle.{std.specs.Prelude.◌≡◌, std.specs.Prelude.IfOk, scene_fields.specs.Texts.text_in};
+ghost use Rattle.std.specs.Prelude.{◌≡◌, IfOk};
+ghost use Rattle.scene_fields.specs.Texts.{text_in};
 ghost use Rattle.run_lines.specs.Lines.{cancel_line_fields, config_line_fields, end_line_fields, end_stress_line_fields, header_line_fields, info_line_fields, input_line_fields, not_seen_fields};
 ghost use Rattle.run_lines.specs.Lines.{pause_line_fields, prefix_line_fields, run_line_fields, some_text_in, sub_end_line_fields, unique_prefix_fields};
 ghost use Rattle.scene_fields.specs.Fields.{Gives, answered};

@@ -1,7 +1,8 @@
 //! Values in one field with parts, separated by colons or commas: the progress of a stress run, and a date with a time of day.
 
 ghost use Rattle.run_lines.specs.Parts.{checked_clock, checked_day, moment_in, progress_in, stress_count_in};
-ghost use Rattle.{std.specs.Option.option_map, std.specs.Prelude.◌≡◌, scene_events.specs.Moments.clock_of, scene_events.specs.Moments.day_of};
+ghost use Rattle.std.specs.Prelude.{◌≡◌};
+ghost use Rattle.{std.specs.Option.option_map, scene_events.specs.Moments.clock_of, scene_events.specs.Moments.day_of};
 
 use jiff::civil::{Date, Time};
 use run_model::stress::{StressCount, StressProgress};

@@ -3,7 +3,8 @@
 //! The state of a unit is a word, as `running`, and its parts. How the attempt ended is in the next field.
 
 ghost use Rattle.unit_lines.specs.Parts.{delay_in, exited_in, exiting_in, highlight_in, highlight_stream_in, result_or_none_in, running_in, slow_after_in, state_in, state_with};
-ghost use Rattle.{unit_lines.specs.Parts.terminate_reason_in, unit_lines.specs.Parts.terminating_in, unit_lines.specs.Parts.timing_in, unit_lines.specs.Parts.wait_in, std.specs.Prelude.◌≡◌, std.specs.Prelude.IfOk};
+ghost use Rattle.{unit_lines.specs.Parts.terminate_reason_in, unit_lines.specs.Parts.terminating_in, unit_lines.specs.Parts.timing_in, unit_lines.specs.Parts.wait_in};
+ghost use Rattle.std.specs.Prelude.{◌≡◌, IfOk};
 
 use super::Field;
 use bytes::Bytes;
