@@ -132,8 +132,9 @@ def lines_of(path):
     held = []
     for piece in pieces_of(path):
         *whole, rest = piece.split(b"\n")
-        for line in whole:
-            yield b"".join([*held, line, b"\n"])
+        if whole:
+            yield b"".join([*held, whole[0], b"\n"])
+            yield from [line + b"\n" for line in whole[1:]]
             held = []
         held.append(rest)
     if any(held):

@@ -13,7 +13,7 @@ DOC_TESTS = re.compile(r"\s*Doc-tests (\S+)")
 DIED = "process didn't exit successfully: "
 ENDED_BY = re.compile(r" \((?:signal: (\d{1,9})|exit status: (\d{1,9}))\b", re.A)
 OWN = re.compile(r'\{\s*"type"\s*:\s*"(?:suite|test)"')
-DECODE = json.JSONDecoder().raw_decode
+DECODE = json.JSONDecoder().scan_once
 ENDS = ("ok", "failed", "ignored", "timeout")
 # libtest warns of a test after this time.
 SLOW_AFTER = 60
@@ -68,7 +68,7 @@ class Reader:
         elif kind == "suite":
             self.nanos += int(nanos(event.get("exec_time")))
         elif kind == "test":
-            self.test(self.place(text_of(event, "name")), text_of(event, "event"), event)
+            self.test(self.place(text_of(event, "name")), what, event)
 
     def test(self, place, what, event):
         if what == "started":
@@ -99,14 +99,14 @@ def event_in(line):
     if not line.startswith("{"):
         return None
     try:
-        event, end = DECODE(line)
-        if end != len(line) and line[end:].strip(" \t\r\n"):
-            raise ValueError(line)
-    except (ValueError, RecursionError):
-        if OWN.match(line):
-            raise
-        return None
-    return event if isinstance(event, dict) else None
+        event, end = DECODE(line, 0)
+        if end == len(line) or not line[end:].strip(" \t\r\n"):
+            return event
+    except (ValueError, RecursionError, StopIteration):
+        pass
+    if OWN.match(line):
+        raise ValueError(line)
+    return None
 
 
 def binary_in(line):

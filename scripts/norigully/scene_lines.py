@@ -21,6 +21,15 @@ OF_ESCAPES = {escape.encode(): character.encode() for character, escape in NAMED
 RUN_ID = "00000000-0000-4000-8000-000000000001"
 # A failure whose code is not known: nextest says nothing more of this code, with which a panic ends.
 UNKNOWN_FAILURE = "fail:101"
+# What a test counts as by the result of its last attempt, as in nextest's `RunStats::on_test_finished`; else as failed.
+COUNTED = {
+    "pass": ("passed",),
+    "leak": ("passed", "leaky"),
+    "tmpass": ("passed",),
+    "leakfail": ("failed", "leakyfailed"),
+    "exec": ("exec",),
+    "tmout": ("timedout",),
+}
 
 
 def spelled(character, may_be_byte):
@@ -124,8 +133,8 @@ class Attempt:
             output = "comb", stream(combined), "-"
         else:
             output = "split", stream(stdout), stream(stderr)
-        of_end = result, nanos(seconds), "1" if is_slow else "0"
-        self.fields = [*of_end, *output, words(errors) if errors else "-", part(highlight) if highlight else "-"]
+        after = words(errors) if errors else "-", part(highlight) if highlight else "-"
+        self.fields = [result, nanos(seconds), "1" if is_slow else "0", *output, *after]
 
     def forget(self, errors):
         """Leaves out what it wrote, and says why."""
@@ -185,25 +194,13 @@ class Run:
         self.line("skip", "-", text(binary), text(name))
 
     def count_finished(self, attempts):
-        """`RunStats::on_test_finished`: the last attempt decides; a test that passed after others is flaky, too."""
-        last, is_flaky = attempts[-1], len(attempts) > 1
-        self.count("finished")
-        if last.result == "pass" and not last.is_slow and not is_flaky:
-            self.count("passed")
-        elif last.result == "pass":
-            self.count("passed", *["slow"] * last.is_slow, *["flaky"] * is_flaky)
-        elif last.result == "leak":
-            self.count("passed", "leaky", *["slow"] * last.is_slow, *["flaky"] * is_flaky)
-        elif last.result == "tmpass":
-            self.count("passed", *["flaky"] * is_flaky)
-        elif last.result == "leakfail":
-            self.count("failed", "leakyfailed")
-        elif last.result == "exec":
-            self.count("exec")
-        elif last.result == "tmout":
-            self.count("timedout")
-        else:
-            self.count("failed")
+        """The last attempt decides; a test that passed after others is flaky, too."""
+        last = attempts[-1]
+        keys = COUNTED.get(last.result, ("failed",))
+        if keys[0] == "passed":
+            is_slow = last.is_slow and last.result != "tmpass"
+            keys = (*keys, *["slow"] * is_slow, *["flaky"] * (len(attempts) > 1))
+        self.count("finished", *keys)
 
     def done(self, binary, name, attempts, success="never", failure="immediate", total=None):
         """A test finished, of whose attempts this many are allowed; as many as were made where that is not known."""
@@ -213,7 +210,7 @@ class Run:
     def line_of(self, binary, name, attempts, success="never", failure="immediate", total=None):
         """Writes the line of a finished test, which is counted."""
         before = f"done\t-\t{text(binary)}\t{text(name)}\t{success}\t{failure}\tpass\t{self.stats()}\t{total or len(attempts)}"
-        self.write("\t".join([before, *("\t".join(it.fields) for it in attempts)]) + "\n")
+        self.write("\t".join([before, *["\t".join(it.fields) for it in attempts]]) + "\n")
 
     def end(self, seconds):
         self.line("end", nanos(seconds), self.stats(), "0", "-")
