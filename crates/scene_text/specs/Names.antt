@@ -16,7 +16,9 @@ pub use Rattle.scene_fields.specs.declared.{fault.LineError.LineError, fault.Lin
 pub use Rattle.scene_fields.specs.declared.stored.{PlacedOutput.PlacedOutput, StoredOutput.StoredOutput, StoredStream.StoredStream, StreamField.StreamField}
 pub use Rattle.scene_text.specs.EventLines.{event_line_fields, unknown}
 unfoldable pub use Rattle.scene_text.specs.EventLines.{event_rows, other_event_rows, run_event_rows}
-pub use Rattle.scene_text.specs.SceneTexts.{AllRead, IsFaultOfNext, IsFirstFault, IsNextFault, KeepsLines, LeavesLines, LinesBefore, NotesLine, ParsedLines, PlainLine, ReadsLines, RecordedLine, RunLine, before_next, config_words, event_line, fault_at, is_begun, is_begun_behind, is_passed_over, line_here, line_place, line_value, line_words, lines_after, lines_before, lines_with, no_lines, parsed_line, parsed_lines, plain_line, recorded_line, text_lines, text_read, value_of, with_line, with_made, words_behind}
+pub use Rattle.scene_text.specs.SceneTexts.{AllRead, before_next, config_words, event_line, fault_at, is_begun, is_begun_behind, is_passed_over, IsFaultOfNext, IsFirstFault, IsNextFault, KeepsLines, LeavesLines}
+pub use Rattle.scene_text.specs.SceneTexts.{line_here, line_place, line_value, line_words, lines_after, lines_before, lines_with, LinesBefore, no_lines, NotesLine, parsed_line, parsed_lines, ParsedLines}
+pub use Rattle.scene_text.specs.SceneTexts.{plain_line, PlainLine, ReadsLines, recorded_line, RecordedLine, RunLine, text_lines, text_read, value_of, with_line, with_made, words_behind}
 unfoldable pub use Rattle.scene_text.specs.SceneTexts.{event_lines, line_from, line_read, lines_read}
 pub use Rattle.scene_text.specs.declared.reader.{LinesRead.LinesRead, ParsedLine.ParsedLine}
 pub use Rattle.unit_lines.specs.Lines.{attempt_number, by_row, combined_fields, output_fields_of, retry_numbered, split_fields, start_error_fields, stream_in, unloaded_fields}

@@ -1,7 +1,8 @@
 -- What devices hold of a report that was written to buffers (for `report_accepted`, `follow_source`).
 use Rattle.std.proofs.Common.{◌≡◌, ◌⊎◌, ℕ, List, [], ◌∷◌, ◌++◌, reverse, Option, None, Some, Result, Ok, Err, IfErr, OnOk, refl, sym, ap, ◌∙◌, subst, append-nil, inl, inr}
 use Rattle.styled_text.specs.Names.{Appends, append_known, BufferStops, buffer_laws, GrowsWithin, Holds, AppendsFront, WriteFault}
-use Rattle.scenes.proofs.Common.{Appends-nil, AreWhole, Begins, buffer_meaning, BufferAccepts, DeliversRest, device, Event, false≢true, Fault, HasAtLeast, HasAtMost, HasBeginning, Header, is_some, IsSameStore, Meaning, Options, ParsedLines, Prefix, report_of, ReportCall, Reported, SceneConfig, StandAtOneCall, Store, store_for, store_meaning, stored, stored_of, StoreFailed, Text, TextBuffer, WriteFailed}
+use Rattle.scenes.proofs.Common.{Appends-nil, AreWhole, Begins, buffer_meaning, BufferAccepts, DeliversRest, device, Event, false≢true, Fault, HasAtLeast, HasAtMost, HasBeginning, Header, is_some, IsSameStore, Meaning}
+use Rattle.scenes.proofs.Common.{Options, ParsedLines, Prefix, report_of, ReportCall, Reported, SceneConfig, StandAtOneCall, Store, store_for, store_meaning, stored, stored_of, StoreFailed, Text, TextBuffer, WriteFailed}
 use Rattle.writers.specs.declared.write_str.WriteFault.TheVariants.{Device, Memory}
 use Rattle.writers.proofs.lemmas.Deliveries.{accepted_delivers, begins_of, stopped_begins}
 use Rattle.scenes.specs.Names.{deferred_meaning, AreBegun, IsStop, Deferred}

@@ -1,6 +1,8 @@
 -- What two writers have of a report that stopped, and of a longer one (for `SceneReporter::report_events`, `report_to`, `follow_to`).
 use Rattle.std.proofs.Common.{◌≡◌, ℕ, true, List, [], ◌∷◌, ◌++◌, reverse, refl, sym, ap, ◌∙◌, subst, append-nil, append_assoc, arith, length, ◌≤◌, ◌⊎◌, None, Result, Ok, Err, inl, inr}
-use Rattle.scenes.proofs.Common.{AllZip, AreWhole, Begins, configuration_for, decider_for, Failed, Fault, fault_at_call, first_refused, HasAtLeast, HasAtMost, HasBeginning, HasFirstCalls, Io, is_some, IsCallOf, Meaning, OfCalls, Options, OutOfMemory, OutputNotLoaded, ParsedLines, Prints, PrintsFollowed, Records, report, ReportCall, Reported, RetriedSuccess, reverse-append, RunOutcome, SceneConfig, SceneEvent, StandAtOneCall, Stops, store_for, stored, stored_text, StoreFailed, StoreIo, Text, text, WriteEventError, WriteFailed, WriterLaws}
+use Rattle.scenes.proofs.Common.{AllZip, AreWhole, Begins, configuration_for, decider_for, Failed, Fault, fault_at_call, first_refused, HasAtLeast, HasAtMost, HasBeginning, HasFirstCalls, Io, is_some}
+use Rattle.scenes.proofs.Common.{IsCallOf, Meaning, OfCalls, Options, OutOfMemory, OutputNotLoaded, ParsedLines, Prints, PrintsFollowed, Records, report, ReportCall, Reported, RetriedSuccess, reverse-append}
+use Rattle.scenes.proofs.Common.{RunOutcome, SceneConfig, SceneEvent, StandAtOneCall, Stops, store_for, stored, stored_text, StoreFailed, StoreIo, Text, text, WriteEventError, WriteFailed, WriterLaws}
 use Rattle.writers.specs.declared.write_str.WriteFault.TheVariants.{Device, Memory as RefusedMemory}
 use Rattle.console_reporter.specs.Names.{HasFront, Side, error_for, Report}
 use Rattle.reporter_state.specs.{Refusals.refusal_in, declared.faults.WriteEventError.TheVariants.Memory}

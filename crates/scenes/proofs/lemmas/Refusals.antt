@@ -1,7 +1,8 @@
 -- All calls of one event are refused alike, and some need not be made to judge it; and the first event of a scene that is refused (for
 -- `check_refusal`, `check_refusals`, `report_events`, `report_to`).
 use Rattle.std.proofs.Common.{◌≡◌, ℕ, ◌+◌, ◌<◌, ◌≤◌, List, [], ◌∷◌, ◌++◌, Bool, Option, false, length, take, arith, get_or, refl, sym, ap, subst, ◌∙◌, ◌⊎◌, None, Some, append_assoc, inl, inr, not, if◌then◌else◌, ap₂, true, rules}
-use Rattle.scenes.proofs.Common.{AllZip, cases_Bool, ChecksEvent, common_steps, decider_for, Event, Fault, fault_at_call, first_refused, Header, is_some, IsCallOf, IsSceneRefused, length-append, Line, LineFault, option_map, Options, position_or_len, Prefix, refusal_by, Refuses, ReportCall, Scene, SceneConfig, SceneEvent, take_all, WriteEventError, all_zipped_more, cond, false≢true, nat_lt, OutputLoadDecider, OutputNotLoaded, RetriedSuccess, take_more, TestEventKind}
+use Rattle.scenes.proofs.Common.{all_zipped_more, AllZip, cases_Bool, ChecksEvent, common_steps, cond, decider_for, Event, false≢true, Fault, fault_at_call, first_refused, Header, is_some, IsCallOf, IsSceneRefused, length-append, Line, LineFault}
+use Rattle.scenes.proofs.Common.{nat_lt, option_map, Options, OutputLoadDecider, OutputNotLoaded, position_or_len, Prefix, refusal_by, Refuses, ReportCall, RetriedSuccess, Scene, SceneConfig, SceneEvent, take_all, take_more, TestEventKind, WriteEventError}
 use Rattle.styled_text.specs.Names.{option_or, option_map_or, position}
 use Rattle.std.proofs.lemmas.{List.Folds.position_or_len_push, List.Sums.fails_before_first, Slice.Zip.AllZip-long, Bool.or_parts}
 use Rattle.reporter_state.specs.Names.{is_retried_success, event_refusal, lacks_output, loads_attempt, loads_finish, loads_script, lent}

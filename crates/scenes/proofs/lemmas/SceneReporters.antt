@@ -1,7 +1,9 @@
 -- Events reported one after the other, and one that is stopped (for `SceneReporter::report_events`, `report_to`).
 use Rattle.std.proofs.Common.{◌≡◌, ◌⊎◌, ℕ, suc, ◌+◌, ◌<◌, true, List, [], ◌∷◌, ◌++◌, Option, None, Some, length, take, drop, get_or, reverse, refl, sym, ap, ◌∙◌, subst, arith, append_assoc, inl, inr, Result, Ok, Err, IfErr, OnOk}
 use Rattle.std.proofs.{Math.Seq.drop-cons, lemmas.List.length-take-le, lemmas.List.take-append-drop}
-use Rattle.scenes.proofs.Common.{all_zipped_more, AllZip, AreWhole, Begins, configuration_for, decider_for, EventLine, Fault, fault_at_call, first_refused, Follows, Io, is_some, IsCallOf, Line, LineFault, Meaning, option_map, Options, outcome_after, OutOfMemory, OutputLoadDecider, OutputNotLoaded, ParsedLines, Prints, Records, refusal_by, report, report_of, ReportCall, Reported, RetriedSuccess, reverse-append, Scene, scene_lines, SceneConfig, SceneEvent, SceneReporter, Stops, StopsAtEvent, Store, store-laws, store_for, store_meaning, stored, stored_of, stored_text, StoreIo, take_more, Text, text, with_line, WriteEventError, WriterLaws, writers}
+use Rattle.scenes.proofs.Common.{all_zipped_more, AllZip, AreWhole, Begins, configuration_for, decider_for, EventLine, Fault, fault_at_call, first_refused, Follows, Io, is_some, IsCallOf, Line, LineFault, Meaning, option_map, Options}
+use Rattle.scenes.proofs.Common.{outcome_after, OutOfMemory, OutputLoadDecider, OutputNotLoaded, ParsedLines, Prints, Records, refusal_by, report, report_of, ReportCall, Reported, RetriedSuccess, reverse-append, Scene, scene_lines, SceneConfig, SceneEvent, SceneReporter}
+use Rattle.scenes.proofs.Common.{Stops, StopsAtEvent, Store, store-laws, store_for, store_meaning, stored, stored_of, stored_text, StoreIo, take_more, Text, text, with_line, WriteEventError, WriterLaws, writers}
 use Rattle.console_reporter.specs.Names.{Configuration, config_of, StandsAfter, AreDelivered, Promises, Report}
 use Rattle.{std.specs.List.position, reporter_state.specs.Refusals.refusal_in}
 use Rattle.scene_fields.specs.declared.fault.LineFault.TheVariants as line
