@@ -133,7 +133,7 @@ impl<O: ReadAt + Drop> RecordedOutputs<O> {
         if !reference.has_sum_of(bytes.as_slice()) {
             return Err(LoadFault::WrongSum);
         }
-        Bytes::from_vec(bytes).map_err(|_refused| LoadFault::OutOfMemory)
+        Ok(Bytes::from_vec(bytes).map_err(|_refused| LoadFault::OutOfMemory)?)
     }
 
     // Fills a vector with the bytes from this place on.
