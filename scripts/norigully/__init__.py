@@ -13,6 +13,17 @@ VERSION = "0.1.0"
 TOP = pathlib.Path(__file__).resolve().parent.parent.parent
 
 
+def end_by_exception(kind, error, trace):
+    """Ctrl-C is one line of a script; Python then ends it by the signal."""
+    if issubclass(kind, KeyboardInterrupt):
+        print(f"{pathlib.Path(sys.argv[0]).name}: interrupted", file=sys.stderr)
+    else:
+        sys.__excepthook__(kind, error, trace)
+
+
+sys.excepthook = end_by_exception
+
+
 def print_help_if_asked(doc):
     """Prints the docstring of a script and ends it, where that is all that it is asked for."""
     if sys.argv[1:] in (["--help"], ["-h"]):
