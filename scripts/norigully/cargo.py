@@ -73,10 +73,10 @@ class Package:
             if words[at].partition("=")[0] in OF_METADATA or words[at] in ("--offline", "--locked", "--frozen"):
                 given += words[at : at + count]
             at += count
-        told = subprocess.run(["cargo", "metadata", "--no-deps", "--format-version", "1", *given], capture_output=True)
-        if told.returncode:
+        ran = subprocess.run(["cargo", "metadata", "--no-deps", "--format-version", "1", *given], capture_output=True)
+        if ran.returncode:
             return {}
-        return {it["id"]: Package.from_metadata(it) for it in json.loads(told.stdout)["packages"]}
+        return {it["id"]: Package.from_metadata(it) for it in json.loads(ran.stdout)["packages"]}
 
     @staticmethod
     def from_metadata(it):
@@ -84,7 +84,7 @@ class Package:
         version, _, _build = it["version"].partition("+")
         numbers, _, pre = version.partition("-")
         major, minor, patch = numbers.split(".")
-        told = {
+        values = {
             "NAME": it["name"],
             "VERSION": it["version"],
             "VERSION_MAJOR": major,
@@ -95,7 +95,7 @@ class Package:
         }
         # What a package may leave out is an empty text.
         for key in ("description", "homepage", "repository", "license", "license_file", "rust_version", "readme"):
-            told[key.upper()] = it.get(key) or ""
-        environment = {f"CARGO_PKG_{key}": value for key, value in told.items()}
+            values[key.upper()] = it.get(key) or ""
+        environment = {f"CARGO_PKG_{key}": value for key, value in values.items()}
         environment |= {"CARGO_MANIFEST_DIR": folder, "CARGO_MANIFEST_PATH": it["manifest_path"]}
         return Package(it["name"], folder, environment)

@@ -2,23 +2,29 @@
 that are looked at before a program starts. ./run has it, and the `norigully` that ./build installs."""
 
 import codecs
+import contextlib
 import errno
+import functools
 import importlib
 import os
+import secrets
 import signal
 import stat
 import sys
 import tempfile
 
 from norigully import VERSION, entry, print_help_if_asked
-from norigully.entry import INPUT, OUTPUT, WRONG, Bad, NotBuilt, NotWritten, is_same_file
+from norigully.entry import ERROR, INPUT, OUTPUT, WRONG, Bad, NotBuilt, NotWritten, is_same_file
 from norigully.words import options_of, usage, why_wrong
 
 # The first words that name another program than `report`.
 PROGRAMS = {"--follow": "follow", "--recorded": "replay"}
-# The first word that makes a page, and those of files of other tools, of which a scene is made.
-PAGE = "--page"
+# The first words that make something else of a run than its report, and those of files of other tools, of which a
+# scene is made.
+PAGE, SUMMARIES = "--page", ("--summary", "--annotations")
 CONVERTERS = {"--junit": "norigully.junit", "--libtest": "norigully.libtest_json"}
+# The statuses of a program that printed a whole report.
+WHOLE = (0, 4, 100)
 
 
 def fault(name, what, status):
@@ -55,7 +61,10 @@ def looks_like(typed, name, options):
     try:
         if name == "replay" or not stat.S_ISREG(os.stat(path).st_mode):
             return None
-        with open(path, "rb", buffering=0, closefd=not options.reads_input) as file:
+        how = {"buffering": 0, "closefd": not options.reads_input, "opener": opened_at_once}
+        with open(path, "rb", **how) as file:
+            if not stat.S_ISREG(os.fstat(file.fileno()).st_mode):
+                return None
             text = os.pread(file.fileno(), 4096, file.tell()).removeprefix(codecs.BOM_UTF8).lstrip()
     except OSError:
         return None
@@ -74,11 +83,29 @@ def looks_like(typed, name, options):
     return None
 
 
+def opened_at_once(path, flags):
+    """The descriptor of a file, which may have become a pipe by now: that would be waited for."""
+    return os.open(path, flags | os.O_NONBLOCK)
+
+
+def has_colours():
+    """Whether a report has colours that no word asks for: where the environment forces them, as CI services have it do,
+    and on a terminal. NO_COLOR goes before all."""
+    of_cargo = os.environ.get("CARGO_TERM_COLOR")
+    if os.environ.get("NO_COLOR") or of_cargo == "never":
+        return False
+    forces = of_cargo == "always", is_on("CLICOLOR_FORCE"), is_on("FORCE_COLOR")
+    return any(forces) or (os.isatty(OUTPUT) and os.environ.get("TERM") != "dumb")
+
+
+def is_on(name):
+    return os.environ.get(name, "") not in ("", "0", "false")
+
+
 def words_for(name, options):
-    """The words for the program: colours on a terminal, and the file. `report` reads standard input by its path."""
+    """The words for the program: colours, and the file. `report` reads standard input by its path."""
     given = list(options.given)
-    is_plain = os.environ.get("NO_COLOR") or os.environ.get("TERM") == "dumb"
-    if "--color" not in given and options.wants_color and os.isatty(OUTPUT) and not is_plain:
+    if "--color" not in given and options.wants_color and has_colours():
         given.append("--color")
     if options.file is None:
         return given
@@ -86,7 +113,7 @@ def words_for(name, options):
 
 
 def follows_pipe(name, options):
-    """Whether the lines to follow come through a pipe, from a producer that the same Ctrl-C reaches."""
+    """Whether the lines to follow come through a pipe, from a producer that the same keys reach."""
     if name != "follow":
         return False
     try:
@@ -95,6 +122,21 @@ def follows_pipe(name, options):
         # Standard input is closed.
         return False
     return stat.S_ISFIFO(mode) or stat.S_ISSOCK(mode)
+
+
+def wait_at_descriptors():
+    """Opens each standard descriptor anew that does not block, since the programs wait only where the system does: who
+    else has it keeps it as it is. A socket cannot be opened so."""
+    for number in (INPUT, OUTPUT, ERROR):
+        with contextlib.suppress(OSError):
+            mode = os.fstat(number).st_mode
+            if not os.get_blocking(number) and (stat.S_ISFIFO(mode) or stat.S_ISCHR(mode)):
+                how = os.O_RDONLY if number == INPUT else os.O_WRONLY
+                # A pipe whose other end is closed would be waited for.
+                opened = os.open(f"/proc/self/fd/{number}", how | os.O_NONBLOCK | os.O_NOCTTY)
+                os.set_blocking(opened, True)
+                os.dup2(opened, number)
+                os.close(opened)
 
 
 def make_page(words, find):
@@ -108,9 +150,10 @@ def make_page(words, find):
         raise NotWritten(*error.args) from error
 
 
-def with_scene(words):
-    """The words with - in place of the files of another tool, of which standard input is the scene from here on."""
-    at = 1
+def with_scene(typed, converter, words):
+    """The words with - in place of the files of another tool, of which standard input is the scene from here on; None
+    where they name no file."""
+    at = 0
     while at < len(words) and words[at].startswith("-") and words[at] != "-":
         at += 2 if words[at] in ("--level", "--store", "-o", "--title", "--choices") else 1
     files = words[at:]
@@ -118,13 +161,14 @@ def with_scene(words):
         if option in ("--store", "-o") and any(is_same_file(to, INPUT if it == "-" else it) for it in files):
             raise Bad(f"cannot write {to}")
     if not files:
-        return words[1:]
-    lines = importlib.import_module(CONVERTERS[words[0]]).convert(files)
+        return None
+    say = functools.partial(entry.fault, typed, status=0)
+    lines = importlib.import_module(CONVERTERS[converter]).convert(files, say)
     with tempfile.TemporaryFile() as scene:
         entry.write_all(lines, scene.fileno())
         os.lseek(scene.fileno(), 0, os.SEEK_SET)
         os.dup2(scene.fileno(), INPUT)
-    return [*words[1:at], "-"]
+    return [*words[:at], "-"]
 
 
 def start(called, doc, kit_line, find):
@@ -140,12 +184,21 @@ def do(typed, words, kit_line, find):
         about = f"norigully {VERSION}, the console reporter of nextest-runner 0.129.0 with a proof\n"
         entry.write(about + kit_line())
         return
-    is_page = words[:1] == [PAGE]
-    words = words[is_page:]
+    made = words[0] if words and words[0] in (PAGE, *SUMMARIES) else None
+    words = words[made is not None :]
+    # Results of other tools are followed in any case: the status is that of their run.
+    if made is None and words[:1] == ["--follow"] and words[1:2] and words[1] in CONVERTERS:
+        del words[0]
     if words and words[0] in CONVERTERS:
-        words = with_scene(words)
-    if is_page:
+        converter, *words = words
+        if made is None and words[:1] == ["--follow"]:
+            del words[0]
+        if converted := with_scene(typed, converter, words):
+            words = converted if made else ["--follow", *converted]
+    if made == PAGE:
         make_page(words, find)
+    elif made:
+        importlib.import_module("norigully.ci_summary").main(made, words)
     else:
         become(typed, words, find)
 
@@ -161,22 +214,43 @@ def become(typed, words, find):
     check_files(name, options)
     words, program = words_for(name, options), find(name)
     if follows_pipe(name, options):
-        # Ctrl-C is for the producer, which then writes how its run ends; what it writes is reported to the end.
+        # Ctrl-C is for the producer, and so is Ctrl-\: it then writes how its run ends, and that is reported.
         signal.signal(signal.SIGINT, signal.SIG_IGN)
-    looks = looks_like(typed, name, options)
-    if looks and (child := os.fork()):
-        sys.exit(said_behind(child, typed, looks))
+        signal.signal(signal.SIGQUIT, signal.SIG_IGN)
+    wait_at_descriptors()
+    looks, token = looks_like(typed, name, options), token_for(options)
+    if token:
+        entry.write(f"::stop-commands::{token}\n")
+    if (looks or token) and (child := os.fork()):
+        sys.exit(ended(child, typed, looks, token))
     try:
         os.execv(program, [name, *words])
     except OSError as error:
-        raise NotBuilt(f"cannot run {program}: {error.strerror}") from error
+        raise NotBuilt(f"cannot run {os.path.realpath(program)}: {error.strerror}") from error
 
 
-def said_behind(child, typed, what):
-    """Waits for a program, says what is wrong with its input where it does not take that, and returns its status."""
+def token_for(options):
+    """A word that nobody can guess, where the report goes to the log of a job on GitHub: between the lines that have it
+    GitHub takes no line for a command, and a test may print one. None elsewhere."""
+    kinds = stat.S_ISFIFO, stat.S_ISSOCK, stat.S_ISCHR
+    is_log = os.environ.get("GITHUB_ACTIONS") and any(it(os.fstat(OUTPUT).st_mode) for it in kinds)
+    return secrets.token_hex(16) if is_log and options.stops_commands else None
+
+
+def ended(child, typed, what, token):
+    """Waits for a program and returns its status. It says what is wrong with its input where it does not take that, and
+    has GitHub take commands again."""
+    status = None
     try:
         status = os.waitstatus_to_exitcode(os.waitpid(child, 0)[1])
     except BaseException:
         os.kill(child, signal.SIGTERM)
+        os.waitpid(child, 0)
         raise
-    return entry.fault(typed, what, WRONG) if status == WRONG else status if status >= 0 else 128 - status
+    finally:
+        if token:
+            # What was cut off may end within a line.
+            entry.write(f"{'' if status in WHOLE else chr(10)}::{token}::\n")
+    if what and status == WRONG:
+        return entry.fault(typed, what, WRONG)
+    return status if status >= 0 else 128 - status

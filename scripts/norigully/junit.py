@@ -1,70 +1,164 @@
-"""JUnit XML, as nextest, pytest, gotestsum, Maven's surefire, ctest and jest-junit write it, and the scene of it."""
+"""JUnit XML, as the tools write it that docs/REAL_RUNS.md lists, and the scene of it."""
 
+import os
 import re
+import uuid
 import xml.etree.ElementTree as tree
+from collections import Counter
 from xml.parsers import expat
 
 from norigully.entry import Bad, pieces_of
-from norigully.scene_lines import UNKNOWN_FAILURE, Attempt, WholeRun, nanos
+from norigully.scene_lines import RUN_ID, UNKNOWN_FAILURE, Attempt, WholeRun, nanos
 
-CODE = re.compile(r"exit (?:code|status):? (-?\d{1,9})\b", re.A)
+# How nextest's types of failures begin. The signal of an abort is in its message; no other message counts, since it has
+# the words of a test.
+CODE = re.compile(r"(?:test|(?:setup )?script) failure with exit code (-?\d{1,9})\b", re.A)
+ABORT = re.compile(r"(?:test|(?:setup )?script) (?:was )?abort")
 SIGNAL = re.compile(r"signal:? (\d{1,9})\b(?:[ (:]+SIG([A-Z0-9]+))?", re.A)
+TIMEOUT = re.compile(r"(?:test|(?:setup )?script) timeout\b")
 # Thousands with commas, as surefire writes them; any other comma is that of a decimal fraction.
 THOUSANDS = re.compile(r"\s*\d{1,3}(?:,\d{3})+(?:\.\d*)?\s*", re.A)
+COUNT = re.compile(r"\d{1,9}", re.A)
+# Node writes the duration of its run in a comment.
+DURATION = re.compile(r"\s*duration_ms (\d+(?:\.\d+)?)\s*", re.A)
+FAILED, FAILURES = ("failure", "error"), ("failures", "errors")
 EARLIER = ("flakyFailure", "flakyError", "rerunFailure", "rerunError")
+STREAMS = ("system-out", "system-err")
 # What may be in each element; text may be in all.
+IN_SUITES = {"testsuite", "testcase", "properties", *STREAMS, *FAILED}
 INSIDE = {
     None: {"testsuites", "testsuite"},
-    "testsuites": {"testsuite", "properties"},
-    "testsuite": {"testsuite", "testcase", "properties", "system-out", "system-err"},
-    "testcase": {"failure", "error", "skipped", "system-out", "system-err", "properties", *EARLIER},
+    **dict.fromkeys(("testsuites", "testsuite"), IN_SUITES),
+    "testcase": {"skipped", "properties", *STREAMS, *FAILED, *EARLIER},
     "properties": {"property"},
-    **{it: {"stackTrace", "system-out", "system-err"} for it in EARLIER},
+    **dict.fromkeys(EARLIER, {"stackTrace", *STREAMS}),
 }
+# The attributes that are read, and those that the report has no place for, or that its own counts replace.
+ATTRIBUTES = {
+    *("name", "classname", "time", "status", "message", "type", "uuid", "failures", "errors", "file", "line"),
+    *("tests", "skipped", "disabled", "warnings", "flakes", "assertions", "failure", "result", "timestamp", "duration"),
+    *("hostname", "id", "package", "class", "version", "value", "value_param", "type_param", "random_seed", "skips"),
+}
+MAY_FAIL = "TEST_CASE tagged with !mayfail"
 # Suites in suites: more are no test results.
 DEEPEST = 100
+# Of what was left out so many names are said, and so much of each.
+SAID, LONGEST = 8, 40
+
+
+class Suite:
+    """A suite that is being read, or what is around all: its name, its test while that is the only one, whether there
+    was one, and whether one failed."""
+
+    def __init__(self, name):
+        self.name, self.only, self.has_tests, self.has_failed = name, None, False, False
 
 
 class Tree:
-    """Builds the elements of each test of a file, and gives the test to a call when it ends. What JUnit XML has no use for
-    is refused where it begins, so nothing is expanded."""
+    """Builds the elements of each test of a file, and gives the test to a scene when it ends. A document type is
+    refused where it begins, so nothing is expanded. What is in an element that no rule knows is read as if that were
+    not there."""
 
-    def __init__(self, file, take):
-        self.file, self.take, self.builder, self.within = file, take, tree.TreeBuilder(), [None]
-        # The elements that it is within, and the names of the suites, each of which may be that of the one around.
-        self.open, self.suites = [], [None]
+    def __init__(self, file, scene):
+        self.file, self.scene, self.builder, self.within = file, scene, tree.TreeBuilder(), [None]
+        # The elements that it is within, and the suites.
+        self.open, self.suites, self.left_out = [], [Suite(None)], Counter()
         self.data = self.builder.data
         self.close = self.builder.close
 
     def start(self, tag, attributes):
         # Without its namespace.
-        name, within = tag.rsplit("}", 1)[-1] if "}" in tag else tag, self.within[-1]
-        if name not in INSIDE.get(within, ()):
-            what = f"an element `{name}` in `{within}`" if within else f"the element `{name}` is no test suite"
-            raise Bad(f"{self.file}: {what}")
+        name, around = tag.rsplit("}", 1)[-1] if "}" in tag else tag, self.around()
+        if around is None and name not in INSIDE[None]:
+            raise Bad(f"{self.file}: the element `{name}` is no test suite")
         if len(self.within) > DEEPEST:
             raise Bad(f"{self.file}: suites in more than {DEEPEST} suites")
+        if name not in INSIDE.get(around, ()):
+            self.left_out["element", name] += 1
+            self.within.append("")
+            return
+        for it in attributes:
+            if it not in ATTRIBUTES and "}" not in it:
+                self.left_out["attribute", it] += 1
+        if name in INSIDE[None]:
+            self.start_suite(name, around, attributes)
+        elif name == "testcase":
+            self.take_only()
+            self.scene.files[-1].is_mixed |= len(self.open) == 1
         self.within.append(name)
         self.open.append(self.builder.start(name, attributes))
-        if name == "testsuite":
-            self.suites.append(attributes.get("name") or self.suites[-1] if within else attributes.get("name"))
+
+    def around(self):
+        """The element around, but for those that no rule knows."""
+        return next(it for it in reversed(self.within) if it != "")
+
+    def start_suite(self, name, around, attributes):
+        self.take_only()
+        if around is None or len(self.open) == 1:
+            self.scene.begin(around is None, attributes)
+        # A suite in one with a name has that, where it has none of its own.
+        self.suites.append(Suite(attributes.get("name") or self.suites[-1].name))
 
     def end(self, _tag):
-        name, element = self.within.pop(), self.open.pop()
+        if (name := self.within.pop()) == "":
+            return
+        element = self.open.pop()
         self.builder.end(name)
-        if name == "testsuite":
-            self.suites.pop()
+        if name in INSIDE[None]:
+            self.end_suite(element)
         elif name == "testcase":
-            self.take(self.suites[-1], element)
+            suite = self.suites[-1]
+            if suite.has_tests:
+                self.take(element)
+            else:
+                suite.only, suite.has_tests = element, True
             del self.open[-1][-1]
+
+    def take(self, case):
+        suite = self.suites[-1]
+        suite.has_failed |= first(case, *FAILED) is not None
+        self.scene.take(suite.name, case)
+
+    def take_only(self):
+        """Takes the test of a suite that has more than this one, or suites."""
+        suite = self.suites[-1]
+        if suite.only is not None:
+            self.take(suite.only)
+            suite.only = None
+
+    def end_suite(self, element):
+        """What a suite itself wrote is of its test, where it has one that wrote nothing. Else it is left out, which
+        matters where a test failed. Where the suite itself failed, that is a test of its own."""
+        wrote = [it for it in element if it.tag in STREAMS and has_text(it)]
+        only = self.suites[-1].only
+        if only is not None and not any(it.tag in STREAMS and has_text(it) for it in only):
+            only.extend(wrote)
+            wrote = []
+        self.take_only()
+        failures = [it for it in element if it.tag in FAILED]
+        if failures:
+            case = tree.Element("testcase", name="[suite]")
+            case.extend(failures + wrote)
+            wrote = []
+            self.take(case)
+        suite = self.suites.pop()
+        self.suites[-1].has_failed |= suite.has_failed
+        self.left_out.update(("element", it.tag) for it in wrote if suite.has_failed)
+        element.clear()
+
+    def comment(self, text):
+        if self.open and (found := DURATION.fullmatch(text)):
+            self.scene.files[-1].took = int(nanos(found[1])) // 1000
 
     def doctype(self, *_):
         raise Bad(f"{self.file}: a document type, which JUnit XML has no use for")
 
 
-def read(file, text, take):
-    """Reads the XML of a file. It is read at once: an older expat begins anew at each chunk of a long text."""
-    parser = tree.XMLParser(target=Tree(file, take))
+def read(file, text, scene):
+    """Reads the XML of a file, and returns how often what was left out. It is read at once: an older expat begins anew
+    at each chunk of a long text."""
+    target = Tree(file, scene)
+    parser = tree.XMLParser(target=target)
     try:
         parser.feed(text)
         parser.close()
@@ -73,10 +167,16 @@ def read(file, text, take):
     except (LookupError, ValueError, OverflowError) as error:
         # The encoding that it names, of which Python says what is wrong.
         raise Bad(f"{file}: {error}") from error
+    scene.end_file(os.path.basename(file))
+    return target.left_out
 
 
 def first(element, *names):
     return next((it for it in element if it.tag in names), None)
+
+
+def has_text(element):
+    return element is not None and any(map(str.strip, element.itertext()))
 
 
 def text_in(element, name):
@@ -86,35 +186,52 @@ def text_in(element, name):
 
 
 def result_of(failure):
-    """How an attempt ended, where the words of its failure tell it as nextest's do."""
-    said = f"{failure.get('type') or ''} {failure.get('message') or ''}"
-    signal, code = SIGNAL.search(said), CODE.search(said)
-    if signal:
+    """How an attempt ended, where the type of its failure is one of nextest's, or it was not started."""
+    kind = failure.get("type") or ""
+    if failure.tag == "skipped":
+        return "exec"
+    if code := CODE.match(kind):
+        leaked = "+leak" if "leaked handles" in kind else ""
+        return f"fail{leaked}:{code[1]}" if int(code[1]) else UNKNOWN_FAILURE
+    if ABORT.match(kind) and (signal := SIGNAL.search(f"{kind} {failure.get('message') or ''}")):
         return f"sig:{signal[1]}" + (f":{signal[2]}" if signal[2] else "")
-    if code:
-        return f"fail:{code[1]}" if int(code[1]) else UNKNOWN_FAILURE
-    if "test timeout" in said:
+    if TIMEOUT.match(kind):
         return "tmout"
-    return "exec" if "execution failure" in said else UNKNOWN_FAILURE
+    return "exec" if kind == "execution failure" else UNKNOWN_FAILURE
+
+
+def holds(text, part):
+    """Whether lines of a text end as those of another one are, in order: tools indent them, and put a type in front."""
+    lines = map(str.rstrip, text.split("\n"))
+    return all(any(ends_as(it, line) for it in lines) for line in filter(None, map(str.strip, part.split("\n"))))
+
+
+def ends_as(line, end):
+    return line.endswith(end) and not line[: len(line) - len(end)][-1:].isalnum()
 
 
 def described(failure):
     """What a failure says: its text, which most tools begin with the message, else the message and the text."""
-    own = "".join(it for part in failure if part.tag == "stackTrace" for it in part.itertext())
-    body, message = (own or failure.text or "").strip("\n"), (failure.get("message") or "").strip("\n")
-    return body if not message or message.split("\n")[0] in body else f"{message}\n{body}".strip("\n")
+    pieces, message = [failure.text or ""], (failure.get("message") or "").strip("\n")
+    for it in failure:
+        pieces += ["" if it.tag in STREAMS else "".join(it.itertext()), it.tail or ""]
+    body = "".join(it for it in pieces if it.strip()).lstrip("\n").rstrip()
+    # An attribute has spaces where its tool wrote line feeds.
+    is_in_body = holds(body, message) or f" {' '.join(message.split())} " in f" {' '.join(body.split())} "
+    return body if is_in_body else f"{message}\n{body}".rstrip()
 
 
-def with_failure(failure, out, err):
-    """Standard error with what the failure says in front, unless the streams have it anyway."""
-    said = described(failure)
-    if not said or said.split("\n")[0] in (out or "") + (err or ""):
-        return err
-    return f"{said}\n{err or ''}"
+def with_failures(failures, place, out, err):
+    """Standard error with what the failures say in front, unless the streams have it anyway. GoogleTest and Catch2 have
+    one for each check that failed."""
+    said = [it for it in map(described, failures) if it and not holds(out or "", it) and not holds(err or "", it)]
+    if place and not any(place.split(":")[0] in it for it in (*said, out or "", err or "")):
+        said.append(place)
+    return "\n".join([*said, err or ""]) if said else err
 
 
-def failed_attempt(failure, seconds, out, err):
-    return Attempt(result_of(failure), seconds, out, with_failure(failure, out, err))
+def failed_attempt(failures, seconds, place, out, err):
+    return Attempt(result_of(failures[0]), seconds, out, with_failures(failures, place, out, err))
 
 
 def seconds_of(element):
@@ -127,71 +244,168 @@ def attempts_of(case):
     if not len(case):
         return [Attempt("pass", seconds_of(case))]
     others = [
-        failed_attempt(it, seconds_of(it), text_in(it, "system-out"), text_in(it, "system-err"))
+        failed_attempt([it], seconds_of(it), "", text_in(it, "system-out"), text_in(it, "system-err"))
         for it in case
         if it.tag in EARLIER
     ]
     out, err = text_in(case, "system-out"), text_in(case, "system-err")
-    failure = first(case, "failure", "error")
-    if failure is None:
+    failures = [it for it in case if it.tag in FAILED]
+    if not failures and (unstarted := not_started(case)) is not None:
+        failures = [unstarted]
+    if not failures:
         return [*others, Attempt("pass", seconds_of(case), out, err)]
+    place = ":".join(filter(None, (case.get("file"), case.get("line"))))
     # The case of a test that failed in the end is its first attempt, and those beside it are the reruns.
-    return [failed_attempt(failure, seconds_of(case), out, err), *others]
+    return [failed_attempt(failures, seconds_of(case), place, out, err), *others]
 
 
 def place_of(case, suite):
     """The binary and the name of a test. Its binary is its class, else its suite; also its suite where the class is the
-    test's whole name, as jest-junit and ctest write it."""
+    test's whole name, as jest-junit and ctest write it, or Node's `test`."""
     group, test = case.get("classname") or "", case.get("name") or ""
-    return (group if group != test else "") or suite or group, test
+    return (group if group not in (test, "test") else "") or suite or group, test
+
+
+def may_fail(skipped):
+    """Whether a test may fail: Node has still to do it, or Catch2 has its tag."""
+    return skipped is not None and (skipped.get("type") == "todo" or skipped.get("message") == MAY_FAIL)
+
+
+def not_started(case):
+    """What ctest says of a test that it could not start, which has failed; None of one that was skipped."""
+    skipped = first(case, "skipped") if case.get("status") == "notrun" else None
+    return None if skipped is None or (skipped.get("message") or "").startswith("SKIP_") else skipped
 
 
 def is_skipped(case):
-    """Whether a test did not run: it has an element that says so, or the state by which ctest and GoogleTest say it."""
-    return (len(case) and first(case, "skipped") is not None) or case.get("status") in ("disabled", "notrun")
+    """Whether a test did not run: it has an element that says so, or the state by which ctest and GoogleTest say it.
+    One that failed, too, has failed, unless it may."""
+    if not len(case):
+        return case.get("status") in ("disabled", "notrun")
+    skipped = first(case, "skipped")
+    if first(case, *FAILED) is not None:
+        return may_fail(skipped)
+    return not_started(case) is None and (skipped is not None or case.get("status") in ("disabled", "notrun"))
+
+
+def counts_of(attributes):
+    """How many failures and how many errors these count: 0 where that is no number."""
+    return [int(it) if it and COUNT.fullmatch(it) else 0 for it in map(attributes.get, FAILURES)]
+
+
+class File:
+    """What a file says of its run as a whole, in its first element, else in the suites that are right in it: how long
+    it took, and how many failures there were. And how many of these its tests have."""
+
+    def __init__(self, attributes):
+        self.name, self.run_id = attributes.get("name"), attributes.get("uuid")
+        # A time of 0 is written by tools that do not know it.
+        self.took, self.counts = int(nanos(seconds_of(attributes))), counts_of(attributes)
+        # Of the suites right in it, and whether tests are there, too.
+        self.times, self.sums, self.is_mixed = [], [0, 0], False
+        self.tests, self.nanos, self.elements = 0, 0, Counter()
+
+    def suite(self, attributes):
+        self.times.append(int(nanos(seconds_of(attributes))))
+        self.sums = [*map(int.__add__, self.sums, counts_of(attributes))]
+
+    def add(self, case):
+        """Counts the failures of a test, but for those that Catch2 does not count either."""
+        found, skipped = [it.tag for it in case if it.tag in (*FAILED, *EARLIER)], first(case, "skipped")
+        if skipped is None or skipped.get("message") != MAY_FAIL:
+            self.elements.update(found)
+            self.tests += bool(found)
+
+    def duration(self):
+        """That of its tests where it has no other."""
+        return self.took or (sum(self.times) if all(self.times) and not self.is_mixed else 0) or self.nanos
+
+    def lost(self):
+        """How many failures no test has: a package that could not be built, say. Some tools count tests, others count
+        checks or attempts, of which a test has several."""
+        failures, errors = self.counts if any(self.counts) else self.sums
+        of_errors = errors - sum(count for tag, count in self.elements.items() if tag.endswith("rror"))
+        return max(0, failures + errors - self.elements.total(), min(of_errors, failures + errors - self.tests))
 
 
 class Scene:
     """The scene of the tests of some files."""
 
     def __init__(self):
-        self.run, self.binaries = WholeRun(), set()
-        self.total, self.skipped, self.nanos = 0, 0, 0
+        self.run, self.binaries, self.files = WholeRun(), set(), []
+        self.total, self.skipped = 0, 0
+
+    def begin(self, is_first, attributes):
+        """Takes the first element of a file, or a suite right in it."""
+        if is_first:
+            self.files.append(File(attributes))
+        else:
+            self.files[-1].suite(attributes)
 
     def take(self, suite, case):
         """Takes a test."""
         binary, name = place_of(case, suite)
         self.binaries.add(binary)
+        file = self.files[-1]
+        file.add(case)
         if is_skipped(case):
             self.skipped += 1
-            self.nanos += int(nanos(seconds_of(case)))
+            file.nanos += int(nanos(seconds_of(case)))
             self.run.skip(binary, name)
         else:
             self.total += 1
             attempts = attempts_of(case)
             # Where it has one attempt, that took its time.
-            self.nanos += int(attempts[0].fields[1] if len(attempts) == 1 else nanos(seconds_of(case)))
+            file.nanos += int(attempts[0].fields[1] if len(attempts) == 1 else nanos(seconds_of(case)))
             self.run.done(binary, name, attempts)
 
+    def end_file(self, name):
+        """A file that counts more failures than its tests have is that of a run that failed."""
+        if lost := self.files[-1].lost():
+            binary = self.files[-1].name or name
+            self.total += 1
+            self.binaries.add(binary)
+            said = f"The file counts {lost} failure{'s' * (lost > 1)} that no test in it has.\n"
+            self.run.done(binary, "[no test]", [Attempt(UNKNOWN_FAILURE, 0, stderr=said)])
+
     def lines(self):
-        self.run.end(f"{self.nanos // 10**9}.{self.nanos % 10**9:09}")
-        return self.run.lines(self.total, len(self.binaries), self.skipped)
+        taken = sum(it.duration() for it in self.files)
+        self.run.end(f"{taken // 10**9}.{taken % 10**9:09}")
+        return self.run.lines(self.total, len(self.binaries), self.skipped, self.run_id())
+
+    def run_id(self):
+        """The id that nextest gives to the run of its only file."""
+        try:
+            return str(uuid.UUID(self.files[0].run_id or "")) if len(self.files) == 1 else RUN_ID
+        except ValueError:
+            return RUN_ID
 
 
-def scene_of(texts):
-    """The lines of the scene of these texts, each by the name of its file; some at a time, once all are read."""
-    scene = Scene()
+def scene_of(texts, say=lambda _: None):
+    """The lines of the scene of these texts, each by the name of its file; some at a time, once all are read. What was
+    left out is said in one line."""
+    scene, left_out, files = Scene(), Counter(), []
     for file, text in texts:
-        read(file, text, scene.take)
+        if found := read(file, text, scene):
+            left_out += found
+            files.append(file)
+    if files:
+        say(f"{files[0]}{f' and {len(files) - 1} more' if files[1:] else ''}: left out: {said_of(left_out)}")
     return scene.lines()
 
 
-def convert(words):
+def said_of(left_out):
+    """How often what was left out."""
+    found = [f"{count} {kind}{'s' * (count > 1)} '{name[:LONGEST]}'" for (kind, name), count in left_out.items()]
+    return ", ".join([*found[:SAID], f"and {len(found) - SAID} more names"] if found[SAID:] else found)
+
+
+def convert(words, say=lambda _: None):
     """The lines of the scene of the files that the words name, or of standard input, some at a time."""
     for word in words:
         if word.startswith("-") and word != "-":
             raise Bad(f"unknown option {word}")
-    return scene_of((name_to_say(it), whole(it)) for it in words or ["-"])
+    return scene_of(((name_to_say(it), whole(it)) for it in words or ["-"]), say)
 
 
 def whole(path):

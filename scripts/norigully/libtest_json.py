@@ -69,6 +69,9 @@ class Reader:
             self.nanos += int(nanos(event.get("exec_time")))
         elif kind == "test":
             self.test(self.place(text_of(event, "name")), what, event)
+        elif kind == "bench":
+            # One that ended well; its time is none of a test.
+            self.done(self.place(text_of(event, "name")), "pass", None, "")
 
     def test(self, place, what, event):
         if what == "started":
@@ -159,8 +162,8 @@ def scene_of(file, name):
     return reader.run.lines(reader.total, reader.suites, reader.ignored)
 
 
-def convert(words):
-    """The lines of the scene of the file that the words name, or of standard input."""
+def convert(words, _say=None):
+    """The lines of the scene of the file that the words name, or of standard input. Nothing that it has is left out."""
     if len(words) > 1 or (words and words[0].startswith("-") and words[0] != "-"):
         raise Bad("usage: scene-of-libtest-json [FILE]")
     path = words[0] if words else "-"

@@ -106,9 +106,9 @@ def nanos(seconds):
         return "0"
 
 
-def header(started, status):
+def header(started, status, run_id=RUN_ID):
     """The line of a replay's header: when the run started, as Python's `time` has it, and how it ended."""
-    return "\t".join(["header", RUN_ID, "-", "-", ",".join(map(str, started[:6])), text(status)]) + "\n"
+    return "\t".join(["header", run_id, "-", "-", ",".join(map(str, started[:6])), text(status)]) + "\n"
 
 
 class Attempt:
@@ -144,10 +144,10 @@ class Attempt:
 class Run:
     """Writes the lines of one run, and counts."""
 
-    def __init__(self, write, total, binaries, skipped=0, profile="default"):
+    def __init__(self, write, total, binaries, skipped=0, profile="default", run_id=RUN_ID):
         self.write, self.counts, self.told = write, {}, {}
         self.count_as("initial", total)
-        self.line("run", RUN_ID, profile, str(total), str(binaries), f"tests={skipped}" if skipped else "-")
+        self.line("run", run_id, profile, str(total), str(binaries), f"tests={skipped}" if skipped else "-")
 
     def line(self, *fields):
         self.write("\t".join(fields) + "\n")
@@ -229,15 +229,18 @@ class WholeRun(Run):
     def write(self, line):
         self.kept += encoded(line)
 
-    def lines(self, total, binaries, skipped):
+    def lines(self, total, binaries, skipped, run_id=RUN_ID):
         """Some of the lines at a time, with the totals."""
         first = []
-        Run(first.append, total, binaries, skipped)
+        Run(first.append, total, binaries, skipped, run_id=run_id)
         yield encoded(first[0])
-        # Statistics leave out what is 0.
-        told, number = (self.TOTAL, str(total)) if total else (f"initial={self.TOTAL} ", "")
+        # Statistics leave out what is 0, and are `-` where all is.
+        changes = {self.TOTAL: str(total)} if total else {f"initial={self.TOTAL} ": "", f"initial={self.TOTAL}": "-"}
         at = 0
         while at < len(self.kept):
             end = self.kept.find(b"\n", at + self.PIECE) + 1 or len(self.kept)
-            yield bytes(self.kept[at:end]).replace(told.encode(), number.encode())
+            piece = bytes(self.kept[at:end])
+            for told, number in changes.items():
+                piece = piece.replace(told.encode(), number.encode())
+            yield piece
             at = end

@@ -11,10 +11,14 @@ SHOWN = ("--color", "--counter", "--replay", "--unload", "--level L", "--store P
 # How usage shows the last word.
 LAST = {"report": "FILE", "follow": "[FILE]", "replay": "DIR"}
 WITH_VALUE = ("--level", "--store")
+# Words of ./run and not of the programs.
+OF_RUN = ("--no-color", "--no-stop-commands")
 # Words of ./run that are not where they may be.
 FIRST, ONLY = "the first word where it is used", "used alone"
 ALONE = {**dict.fromkeys(("--help", "-h", "--version", "-V"), ONLY)}
-ALONE |= dict.fromkeys(("--follow", "--recorded", "--page", "--junit", "--libtest"), FIRST)
+ALONE |= dict.fromkeys(
+    ("--follow", "--recorded", "--page", "--summary", "--annotations", "--junit", "--libtest"), FIRST
+)
 # The files in the folder of a recorded run.
 FILES_OF_RUN = ("run.scene", "outputs")
 
@@ -33,8 +37,9 @@ class Options:
     given: list = field(default_factory=list)
     store_at: int | None = None
     file: str | None = None
-    # Not a word of the programs: ./run gives them colours on a terminal, unless asked not to.
+    # ./run gives the programs colours on a terminal, and stops GitHub's commands, unless asked not to.
     wants_color: bool = True
+    stops_commands: bool = True
 
     @property
     def reads_input(self):
@@ -50,13 +55,13 @@ class Options:
 
 def options_of(program, words):
     """Reads the words of a program; None where they are used wrongly. The rules are those of the program, which takes
-    words that are UTF-8 alone; `--no-color` is a word of ./run."""
+    words that are UTF-8 alone; OF_RUN are words of ./run."""
     if not is_utf8(words):
         return None
     options, at = Options(program), 0
     while at < len(words):
         word, is_last = words[at], at == len(words) - 1
-        if is_last and not (program == "follow" and (is_option(options, word) or word == "--no-color")):
+        if is_last and not (program == "follow" and (is_option(options, word) or word in OF_RUN)):
             options.file, at = word, at + 1
         elif word in ("--level", "--store"):
             if at + 1 == len(words) or word in options.given or (word == "--level" and words[at + 1] not in LEVELS):
@@ -69,6 +74,8 @@ def options_of(program, words):
             at += 1
         elif word == "--no-color" and options.wants_color:
             options.wants_color, at = False, at + 1
+        elif word == "--no-stop-commands" and options.stops_commands:
+            options.stops_commands, at = False, at + 1
         else:
             return None
     if not options.wants_color and "--color" in options.given:
@@ -102,7 +109,7 @@ def why_wrong(program, words):
             return f"unknown level {more[0]}: {', '.join(LEVELS[:-1])} or {LEVELS[-1]}"
         if word in ALONE:
             return f"{word} is {ALONE[word]}"
-        if word.startswith("-") and word not in ("-", "--no-color", *FLAGS, *WITH_VALUE):
+        if word.startswith("-") and word not in ("-", *OF_RUN, *FLAGS, *WITH_VALUE):
             return f"unknown option {word}"
         is_file = word == "-" or not word.startswith("-")
         if more and is_file:

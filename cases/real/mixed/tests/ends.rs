@@ -64,5 +64,6 @@ fn reads_its_environment() {
 // It returns an error.
 #[test]
 fn returns_an_error() -> Result<(), String> {
+    println!("\nthe run {}", of("NEXTEST_RUN_ID"));
     Err("no luck".into())
 }

@@ -1,0 +1,175 @@
+"""What a CI service shows of a run beside its log: a summary in Markdown, and GitHub's annotations of failures."""
+
+import heapq
+import os
+import re
+
+from norigully import entry
+from norigully.entry import Bad
+from norigully.page_scene import FIELDS_BEFORE, FIELDS_OF_AN_ATTEMPT, PASSED, SLOWEST, number_of, plain, spoken
+
+# Of a run so many failures are shown, and of each stream of one so many lines and characters at its beginning and at
+# its end. GitHub takes a megabyte of a summary, and ten annotations of a step.
+MOST, LINES, LONGEST, ANNOTATIONS = 50, 20, 2000, 10
+# Escape sequences, and what else is no text.
+UNSEEN = re.compile(r"\x1b\[[0-?]*[ -/]*[@-~]|[\x00-\x08\x0b\x0c\x0e-\x1f\x7f-\x9f]")
+# `src/lib.rs:6:100`, `File "test_store.py", line 11`, `StoreTests.cs:line 12`.
+PLACE = re.compile(r"""([\w.+@/-]{1,300}\.\w{1,9})(?::(?:line )?|", line )(\d{1,7})\b""", re.A)
+KIND = re.compile(rb"[a-z-]+")
+SHOWN = {"flaky": "flaky", "failed": "failed", "exec": "could not be started", "timedout": "timed out"}
+# What a run came to counts as failures by these keys.
+FAILURES = ("failed", "exec", "timedout", "setupfailed", "setupexec", "setuptimedout")
+
+
+class Failure:
+    """A test or a setup script that failed: its name, and what it wrote."""
+
+    def __init__(self, names, fields):
+        self.name, self.result = " ".join(map(plain, names)), plain(fields[0])
+        # What JUnit XML says of a failure is before standard error.
+        streams = [fields[5], fields[4]] if fields[3] == b"split" else [fields[4]]
+        self.wrote = [text for text in (UNSEEN.sub("", plain(it)) for it in streams if it != b"-") if text.strip()]
+        self.wrote = [it.replace("\r\n", "\n").replace("\r", "\n").lstrip("\n").rstrip() for it in self.wrote]
+
+    def place(self):
+        """The first file that what it wrote names and that is there, and the line; None where there is none."""
+        for found in (it for text in self.wrote for it in PLACE.finditer(text)):
+            path = os.path.relpath(found[1])
+            if not path.startswith("..") and os.path.isfile(path):
+                return path, found[2]
+        return None
+
+
+class Summary:
+    """What the lines of a scene tell of a run."""
+
+    def __init__(self, file):
+        self.file, self.took, self.counts, self.has_ended = file, 0, {}, False
+        self.failed, self.failures, self.flaky, self.slowest = 0, [], [], []
+
+    def read(self, number, line):
+        fields = line.rstrip(b"\n").split(b"\t")
+        kind, wrong = fields[0], f"{self.file}: line {number}: no line of a scene"
+        if not kind or kind.startswith(b"#"):
+            return
+        try:
+            if not KIND.fullmatch(kind):
+                raise Bad(wrong)
+            if kind == b"done":
+                self.read_test(number, fields)
+            elif kind == b"setupdone" and fields[5] not in PASSED:
+                self.fail(Failure([b"setup script", fields[2]], fields[5:13]))
+            elif kind in (b"end", b"endstress"):
+                self.took, self.counts = number_of(fields[1]), counts_of(fields[2 if kind == b"end" else 5])
+            # What begins takes an end back.
+            self.has_ended = kind in (b"end", b"endstress") or (self.has_ended and kind != b"run")
+        except (IndexError, ValueError) as error:
+            raise Bad(wrong) from error
+
+    def read_test(self, number, fields):
+        last, count = fields[-FIELDS_OF_AN_ATTEMPT:], len(fields) - FIELDS_BEFORE
+        if count <= 0 or count % FIELDS_OF_AN_ATTEMPT:
+            raise ValueError
+        names, was_retried = fields[2:4], count > FIELDS_OF_AN_ATTEMPT
+        if last[0] not in PASSED or (was_retried and fields[6] == b"fail"):
+            self.fail(Failure(names, last))
+        elif was_retried:
+            self.flaky.append(" ".join(map(plain, names)))
+        heapq.heappush(self.slowest, (number_of(last[1]), -number, " ".join(map(plain, names))))
+        if len(self.slowest) > SLOWEST:
+            heapq.heappop(self.slowest)
+
+    def fail(self, failure):
+        self.failed += 1
+        if len(self.failures) < MOST:
+            self.failures.append(failure)
+
+    def came_to(self):
+        """What the run came to, in a word."""
+        if not self.has_ended:
+            return "did not end"
+        if self.failed or "cancel" in self.counts or any(map(self.count, FAILURES)):
+            return "failed"
+        if not self.count("initial"):
+            return "had no tests"
+        return "passed" if self.count("finished") >= self.count("initial") else "was cut off"
+
+    def count(self, key):
+        return number_of(self.counts.get(key, "0").encode())
+
+    def markdown(self):
+        word = self.came_to()
+        yield f"### {'✅' if word == 'passed' else '❌'} The test run {word}\n\n"
+        finished = self.count("finished")
+        shown = [(f"{finished} test{'s' * (finished != 1)} run", True), (f"{self.count('passed')} passed", True)]
+        for key, name in SHOWN.items():
+            shown.append((f"{self.count(key)} {name}", self.count(key)))
+        lost = max(0, self.count("initial") - finished)
+        shown += [(f"{self.count('skipped')} skipped", True), (f"{lost} not run", lost)]
+        yield f"{', '.join(text for text, is_shown in shown if is_shown)}, in {spoken(self.took)}.\n\n"
+        for it in self.failures:
+            code = "\n\n".join(map(indented, it.wrote)) or f"    {it.result}"
+            yield f"<details><summary><code>{escaped(it.name)}</code></summary>\n\n{code}\n\n</details>\n\n"
+        if self.failed > len(self.failures):
+            yield f"And {self.failed - len(self.failures)} more.\n\n"
+        if self.flaky:
+            more = f" and {len(self.flaky) - MOST} more" if len(self.flaky) > MOST else ""
+            yield f"**Flaky:** {', '.join(f'<code>{escaped(it)}</code>' for it in self.flaky[:MOST])}{more}\n\n"
+        if self.slowest:
+            yield "| Slowest tests | |\n|---|---|\n"
+        for nanos, _, name in sorted(self.slowest, reverse=True):
+            yield f"| <code>{escaped(name)}</code> | {spoken(nanos)} |\n"
+
+    def annotations(self):
+        count = ANNOTATIONS if self.failed <= ANNOTATIONS else ANNOTATIONS - 1
+        for it in self.failures[:count]:
+            place = it.place()
+            at = f"file={property_of(place[0])},line={place[1]}," if place else ""
+            said = shortened(it.wrote[0]) if it.wrote else it.result
+            yield f"::error {at}title={property_of(it.name)}::{message_of(said)}\n"
+        if self.failed > count:
+            yield f"::error title=test failures::and {self.failed - count} more\n"
+
+
+def counts_of(statistics):
+    """Statistics, as a line has them."""
+    return {} if statistics == b"-" else dict(it.split("=", 1) for it in plain(statistics).split(" "))
+
+
+def shortened(text):
+    """The beginning and the end of a text that is long, and how many lines are between."""
+    lines = text.split("\n")
+    if len(lines) > 2 * LINES:
+        lines[LINES:-LINES] = [f"[{len(lines) - 2 * LINES} lines left out]"]
+    long = "{} [{} characters left out]".format
+    return "\n".join(it if len(it) <= LONGEST else long(it[:LONGEST], len(it) - LONGEST) for it in lines)
+
+
+def indented(text):
+    """A text as indented code, which takes whatever it has, fences and tags too."""
+    return "\n".join(f"    {it}" for it in shortened(text).split("\n"))
+
+
+def escaped(text):
+    """A text in one line of HTML in Markdown."""
+    text = UNSEEN.sub("", text).replace("&", "&amp;").replace("<", "&lt;").replace(">", "&gt;")
+    return re.sub(r"\s", " ", re.sub(r"[|*_`\[\]\\~$@#:]", lambda it: f"&#{ord(it[0])};", text))
+
+
+def message_of(text):
+    return text.replace("%", "%25").replace("\r", "%0D").replace("\n", "%0A")
+
+
+def property_of(text):
+    return message_of(UNSEEN.sub("", text)).replace(":", "%3A").replace(",", "%2C")
+
+
+def main(word, words):
+    """Prints what the first word asks for, of a scene."""
+    if len(words) != 1 or (words[0].startswith("-") and words[0] != "-"):
+        raise Bad(f"{word} needs a FILE, which is the last word")
+    summary = Summary("standard input" if words[0] == "-" else words[0])
+    for number, line in enumerate(entry.lines_of(words[0]), 1):
+        summary.read(number, line)
+    for part in summary.markdown() if word == "--summary" else summary.annotations():
+        entry.write(part)
