@@ -18,11 +18,35 @@ PIECE = 1 << 16
 NO_MEMORY = ["cannot keep what the test wrote", "out of memory"]
 
 
+class Clock:
+    """The seconds that tests have had: those between Ctrl-Z and what continues the script are not among them."""
+
+    def __init__(self):
+        # The time at which the script was stopped, if it is, and the seconds for which it was before.
+        self.stopped = None, 0.0
+
+    def now(self):
+        at, before = self.stopped
+        return (time.monotonic() if at is None else at) - before
+
+    def stop(self, processes):
+        """Stops these and the script itself, until something continues it. Each is in a session of its own, where only
+        SIGSTOP stops it."""
+        began, (_, before) = time.monotonic(), self.stopped
+        self.stopped = began, before
+        for it in processes:
+            send(it.child, signal.SIGSTOP)
+        os.kill(os.getpid(), signal.SIGSTOP)
+        for it in processes:
+            send(it.child, signal.SIGCONT)
+        self.stopped = None, before + time.monotonic() - began
+
+
 class Process:
     """A process that runs in a session of its own."""
 
-    def __init__(self, command, folder, environment, options):
-        self.options, self.began = options, time.monotonic()
+    def __init__(self, command, folder, environment, options, clock):
+        self.options, self.clock, self.began = options, clock, clock.now()
         self.ended, self.periods, self.is_late, self.kill_at = None, 0, False, float("inf")
         self.errors, self.is_leaky, self.taken = None, False, 0.0
         self.child = subprocess.Popen(
@@ -40,7 +64,7 @@ class Process:
         """Sends it a signal that is to end it, and SIGKILL after a grace. Another thread may ask for it."""
         if self.ended is None:
             number = number if self.options.grace_period > 0 else signal.SIGKILL
-            self.kill_at = min(self.kill_at, time.monotonic() + self.options.grace_period)
+            self.kill_at = min(self.kill_at, self.clock.now() + self.options.grace_period)
             send(self.child, number)
 
     def wait(self, tell_slow):
@@ -57,12 +81,12 @@ class Process:
                     with suppress(subprocess.TimeoutExpired):
                         self.child.wait(TICK)
                 self.look(tell_slow)
-            self.is_leaky, self.taken = bool(open_pipes.get_map()), time.monotonic() - self.began
+            self.is_leaky, self.taken = bool(open_pipes.get_map()), self.clock.now() - self.began
         for pipe in self.wrote:
             pipe.close()
 
     def is_over(self, open_pipes):
-        is_waiting = self.ended is None or time.monotonic() < self.ended + self.options.leak_timeout
+        is_waiting = self.ended is None or self.clock.now() < self.ended + self.options.leak_timeout
         return self.ended is not None and not (open_pipes.get_map() and is_waiting)
 
     def read(self, pipe, open_pipes):
@@ -91,7 +115,7 @@ class Process:
 
     def look(self, tell_slow):
         """Looks at the clock, and whether it has ended."""
-        now = time.monotonic()
+        now = self.clock.now()
         if self.ended is None and self.child.poll() is not None:
             self.ended = now
         if self.ended is not None:

@@ -84,7 +84,7 @@ class Browser:
         """The next message."""
         while b"\0" not in self.held:
             if not select.select([self.of], [], [], max(0, until - time.monotonic()))[0]:
-                raise TimeoutError(f"{self.name} did not answer")
+                raise TimeoutError(f"{self.name} did not respond")
             piece = os.read(self.of, 1 << 16)
             if not piece:
                 raise EOFError(f"{self.name} ended")

@@ -8,6 +8,7 @@ import select
 import signal
 import subprocess
 import sys
+import tempfile
 import time
 
 NOT_BUILT, WRONG, FAILED = 1, 2, 3
@@ -18,6 +19,8 @@ GRACE = 10.0
 TICK = 0.02
 # The signals that came, and the standard descriptors that were closed.
 CAME, CLOSED = [], []
+# Those that end a script, and an entry for each part of it under way that none cuts.
+ENDING, UNCUT = (signal.SIGINT, signal.SIGTERM, signal.SIGHUP, signal.SIGQUIT), []
 
 
 class Bad(Exception):
@@ -39,24 +42,34 @@ class Signal(BaseException):
 def run(name, work):
     """Does the work of a script of this name and ends it: with what the work returns, or in one line."""
     fill_standard_descriptors()
-    on_signals(unwind)
     try:
-        status = work()
+        try:
+            on_signals(unwind)
+            status = status_of(name, work)
+        finally:
+            # What comes now comes too late to end anything.
+            on_signals(CAME.append)
     except Signal:
         status = 128 + CAME[0]
+    sys.exit(flushed(name, status))
+
+
+def status_of(name, work):
+    """Does the work, and returns its status; a fault is one line."""
+    try:
+        return work()
     except (Bad, RecursionError) as error:
-        status = fault(name, error if isinstance(error, Bad) else "its input is nested too deeply", WRONG)
+        return fault(name, error if isinstance(error, Bad) else "its input is nested too deeply", WRONG)
     except NotBuilt as error:
-        status = fault(name, error, NOT_BUILT)
+        return fault(name, error, NOT_BUILT)
     except MemoryError:
-        status = fault(name, "out of memory", FAILED)
+        return fault(name, "out of memory", FAILED)
     except NotWritten:
-        status = fault(name, "write failed", FAILED)
+        return fault(name, "write failed", FAILED)
     except OSError as error:
         # One that names no file is of an output.
         is_read = error.filename is not None
-        status = fault(name, *((unread(error.filename, error), WRONG) if is_read else ("write failed", FAILED)))
-    sys.exit(flushed(name, status))
+        return fault(name, *((unread(error.filename, error), WRONG) if is_read else ("write failed", FAILED)))
 
 
 def flushed(name, status):
@@ -72,7 +85,7 @@ def flushed(name, status):
 
 def on_signals(call):
     """Makes a call with the number of each signal that comes, but for one that is ignored, as by `nohup`."""
-    for number in (signal.SIGINT, signal.SIGTERM, signal.SIGHUP):
+    for number in ENDING:
         if signal.getsignal(number) is not signal.SIG_IGN:
             signal.signal(number, lambda number, _frame: call(number))
 
@@ -80,8 +93,29 @@ def on_signals(call):
 def unwind(number):
     """The first signal ends the script by way of all that it has to leave."""
     CAME.append(number)
-    if len(CAME) == 1:
+    if len(CAME) == 1 and not UNCUT:
         raise Signal
+
+
+@contextlib.contextmanager
+def uncut():
+    """A signal that comes in here ends the script behind it."""
+    came = len(CAME)
+    UNCUT.append(came)
+    try:
+        yield
+    finally:
+        UNCUT.pop()
+        if came == 0 < len(CAME) and not UNCUT:
+            raise Signal
+
+
+class Folder(tempfile.TemporaryDirectory):
+    """A temporary folder, of which a signal leaves nothing."""
+
+    def cleanup(self):
+        with uncut():
+            super().cleanup()
 
 
 def fill_standard_descriptors():
@@ -181,7 +215,8 @@ def started(command, **how):
         try:
             yield child
         except BaseException:
-            end(child)
+            with uncut():
+                end(child)
             raise
 
 

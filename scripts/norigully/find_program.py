@@ -1,7 +1,10 @@
 """The program that ./run and scripts/page start: the proved one of these sources, or else one without a proof, which is
 built once (unproved_program.py)."""
 
+import contextlib
+import os
 import sys
+import tempfile
 import threading
 import time
 
@@ -19,7 +22,10 @@ class Told:
     end."""
 
     def __init__(self, called, name):
-        self.line = f"{called}: building {name} without its proof, once for these sources"
+        how = "without its proof, once for these sources"
+        if not unproved_program.programs().is_there():
+            how = "without its proof, for this call only (no cache that nobody else can write)"
+        self.line = f"{called}: building {name} {how}"
         self.ended, self.teller = threading.Event(), threading.Thread(target=self.tell, daemon=True)
 
     def tell(self):
@@ -46,6 +52,8 @@ class Told:
 def build(called, name):
     """Has the kit build the program without its proof. A signal that ends this ends what the kit began."""
     kit.require(called)
+    check_mount(called, "TMPDIR", tempfile.gettempdir())
+    check_mount(called, "XDG_CACHE_HOME", unproved_program.programs().at)
     try:
         with Told(called, name):
             return unproved_program.build(name)
@@ -56,9 +64,22 @@ def build(called, name):
     fault(called, "the program was not built", NOT_BUILT)
 
 
+def check_mount(called, variable, folder):
+    """Ends this where no program can run from this folder, and says what helps. One that is not there yet will be in one
+    above."""
+    while folder and not os.path.exists(folder):
+        folder = os.path.dirname(folder)
+    with contextlib.suppress(OSError):
+        if folder and os.statvfs(folder).f_flag & os.ST_NOEXEC:
+            why = f"no program can run in {folder}, which is mounted noexec: let {variable} name another folder"
+            fault(called, why, NOT_BUILT)
+
+
 def find(called, name):
     """The path of the program. It ends this where there is none and none can be built."""
     sources = sum_of_sources(name)
     if is_of(name, sources) or take(name, sources):
         return program(name)
-    return unproved_program.find(name, sources) or build(called, name)
+    if found := unproved_program.find(name, sources):
+        check_mount(called, "XDG_CACHE_HOME", unproved_program.programs().at)
+    return found or build(called, name)

@@ -2,6 +2,7 @@
        norigully --follow [OPTIONS] [FILE]
        norigully --recorded [OPTIONS] DIR
        norigully --page [-o PAGE] FILE
+       norigully --summary|--annotations FILE
        norigully --junit|--libtest [OPTIONS] FILE..
 
 Prints the console report of a run that is written as text. FILE is the last word; - is standard input.
@@ -11,10 +12,15 @@ Prints the console report of a run that is written as text. FILE is the last wor
                     the captured output that the report shows
   --page            as the first word: makes an HTML page of the run, which goes to PAGE or standard output; --recorded
                     DIR is a recorded run, --title T its title, and --choices all or few says how many reports it has
-  --junit           as the first word, or behind --page: of JUnit XML, in FILEs
-  --libtest         as the first word, or behind --page: of libtest's JSON, in FILE
-  --color           with colours, which is the default on a terminal unless NO_COLOR is set
+  --summary         as the first word: a summary of the run in Markdown, as GitHub shows one of a job
+  --annotations     as the first word: GitHub's lines `::error ..`, one for each test that failed
+  --junit           as the first word, or behind one of these: of JUnit XML, in FILEs
+  --libtest         as the first word, or behind one of these: of libtest's JSON, in FILE
+  --color           with colours, which is the default on a terminal, and where CARGO_TERM_COLOR is `always` or
+                    CLICOLOR_FORCE or FORCE_COLOR is set; never if NO_COLOR is
   --no-color        without colours, also on a terminal
+  --no-stop-commands
+                    where GITHUB_ACTIONS is set, does not keep GitHub from taking what a test printed for a command
   --counter         a counter on the line of each test
   --replay          as nextest shows a recorded run
   --level L         lines from this status level on: none, fail, retry, slow, leak, pass (the default), skip, all
@@ -26,16 +32,14 @@ Prints the console report of a run that is written as text. FILE is the last wor
   --version         alone: the version
 
 Its status is 0; 2 where the words, FILE, DIR, PATH or a line are wrong; 3 where writing or memory failed; and 1 where
-the program is not beside it. With --follow or --recorded it is that of the run: 0, 100 where it failed or was
-cancelled, 4 where no test ran, and 3 where it did not end.
+the program is not beside it. With --follow, --recorded, --junit or --libtest it is that of the run: 0, 100 where it
+failed or was cancelled, 4 where no test ran, and 3 where it did not end. A page, a summary and annotations have status
+0 also where the run failed.
 """
 
-import os
 import pathlib
-import shutil
 import sys
-import tempfile
-import zipapp
+import zipfile
 
 from norigully import own_doc
 from norigully.front import start
@@ -44,11 +48,9 @@ from norigully.front import start
 MODULES = (
     *("__init__.py", "entry.py", "front.py", "installed.py", "words.py"),
     *("page.py", "page_scene.py", "page_table.py", "page_text.py"),
-    *("scene_lines.py", "junit.py", "libtest_json.py", "cargo.py"),
+    *("scene_lines.py", "junit.py", "libtest_json.py", "cargo.py", "ci_summary.py"),
 )
 HERE = pathlib.Path(__file__).parent
-# The earliest time that a zip file can hold, and a day for other time zones.
-TIME = 315_619_200
 MAIN = "from norigully.installed import main\n\nmain()\n"
 
 
@@ -58,19 +60,19 @@ def beside(name):
 
 
 def write(target):
-    """Writes the `norigully` that ./build installs: one file, which runs the programs that are beside it."""
-    with tempfile.TemporaryDirectory() as made:
-        made = pathlib.Path(made)
-        (made / "norigully").mkdir()
-        for module in MODULES:
-            shutil.copy(HERE / module, made / "norigully")
-        shutil.copytree(HERE / "page", made / "norigully/page")
-        (made / "__main__.py").write_text(MAIN)
-        for it in made.rglob("*"):
-            # The same sources give the same bytes.
-            it.chmod(0o755 if it.is_dir() else 0o644)
-            os.utime(it, (TIME, TIME))
-        zipapp.create_archive(made, target, "/usr/bin/env python3")
+    """Writes the `norigully` that ./build installs: one file, which runs the programs that are beside it. The same
+    sources give the same bytes, whatever Python and file system they are on."""
+    from norigully import page
+
+    files = {"__main__.py": MAIN.encode()}
+    for name in (*MODULES, *(f"page/{it}" for it in page.FILES)):
+        files[f"norigully/{name}"] = (HERE / name).read_bytes()
+    with open(target, "wb") as made:
+        made.write(b"#!/usr/bin/env python3\n")
+        with zipfile.ZipFile(made, "w") as archive:
+            for name, text in sorted(files.items()):
+                archive.writestr(zipfile.ZipInfo(name), text)
+    target.chmod(0o755)
 
 
 def program_of(name):

@@ -10,19 +10,24 @@ import os
 import pathlib
 import shutil
 import stat
-import tempfile
 import time
+
+from norigully import entry
 
 # What was not used for this many days is removed, and what is beyond the most entries of a folder, the longest unused first.
 DAYS = 30
 # What a killed run left of a file is removed after this many seconds.
 LEFT_OVER = 24 * 3600
+# The bytes of a sum behind an entry, and those that are read of one at a time.
+SUM, PIECE = 64, 1 << 20
 
 
 def folder(name):
-    """The folder of one kind of entries."""
-    cache = os.environ.get("XDG_CACHE_HOME") or "~/.cache"
-    return pathlib.Path(cache).expanduser() / "norigully" / name
+    """The folder of one kind of entries; None where this user has no home. A relative XDG_CACHE_HOME counts as none."""
+    for cache in (os.environ.get("XDG_CACHE_HOME", ""), os.path.expanduser("~/.cache")):
+        if os.path.isabs(cache):
+            return pathlib.Path(cache, "norigully", name)
+    return None
 
 
 def sum_of(*rests_on):
@@ -30,53 +35,87 @@ def sum_of(*rests_on):
     return hashlib.sha256(repr(rests_on).encode()).hexdigest()
 
 
+def is_own(seen):
+    """Whether what `stat` saw is this user's, and nobody else could write it."""
+    return seen.st_uid == os.geteuid() and not seen.st_mode & (stat.S_IWGRP | stat.S_IWOTH)
+
+
+def is_guarded(folder):
+    """Whether nobody but this user and root could put something else in the place of what is in this folder. A group of
+    the owner's own number has no other member."""
+    seen = folder.stat()
+    others = stat.S_IWOTH | (0 if seen.st_gid == seen.st_uid else stat.S_IWGRP)
+    return seen.st_uid in (0, os.geteuid()) and (seen.st_mode & stat.S_ISVTX or not seen.st_mode & others)
+
+
+def is_whole(opened):
+    """Whether an entry that is opened is this user's, and what it has in front of its sum is of that sum."""
+    seen = os.fstat(opened)
+    if not stat.S_ISREG(seen.st_mode) or not is_own(seen):
+        return False
+    found, rest = hashlib.sha256(), max(0, seen.st_size - SUM)
+    with open(opened, "rb", buffering=0, closefd=False) as file:
+        while rest and (piece := file.read(min(rest, PIECE))):
+            found.update(piece)
+            rest -= len(piece)
+        return file.read(SUM) == found.hexdigest().encode()
+
+
 class Kept:
-    """The entries of a folder, and the most that it may have: bytes by sums. What cannot be read or is not whole is not
-    there, and what cannot be written is found out anew. A folder that somebody else could write is not used."""
+    """The entries of a folder, and the most that it may have: bytes by sums, each with its own sum behind it. What
+    cannot be read or is not whole is not there, and what cannot be written is found out anew. A folder that somebody
+    else could write, or put another one in the place of, is not used."""
 
     def __init__(self, at, most):
         self.at, self.most = at, most
 
-    def is_private(self):
-        """Whether the folder, which is made if it is missing, is this user's, and nobody else could write it."""
+    @contextlib.contextmanager
+    def opened(self):
+        """The folder, which is made if it is missing, by its descriptor: it stays the one that was looked at, whatever
+        comes into its place. None where it is not used."""
+        opened = self.descriptor()
+        try:
+            yield None if opened is None else pathlib.Path(f"/proc/self/fd/{opened}")
+        finally:
+            if opened is not None:
+                os.close(opened)
+
+    def descriptor(self):
         with contextlib.suppress(OSError):
-            self.at.mkdir(mode=0o700, parents=True, exist_ok=True)
-            seen = self.at.lstat()
-            others = stat.S_IWGRP | stat.S_IWOTH
-            if stat.S_ISDIR(seen.st_mode) and seen.st_uid == os.geteuid() and not seen.st_mode & others:
-                self.at.chmod(0o700)
-                return True
-        return False
+            for it in reversed([self.at, *self.at.parents] if self.at else []):
+                it.mkdir(mode=0o700, exist_ok=True)
+            at = self.at and self.at.parent.resolve() / self.at.name
+            if at and all(map(is_guarded, at.parents)):
+                opened = os.open(at, os.O_RDONLY | os.O_DIRECTORY | os.O_NOFOLLOW)
+                if is_own(os.fstat(opened)):
+                    os.fchmod(opened, 0o700)
+                    return opened
+                os.close(opened)
+        return None
+
+    def is_there(self):
+        """Whether anything can be kept."""
+        with self.opened() as at:
+            return at is not None
 
     @contextlib.contextmanager
     def locked(self):
         """Keeps other runs that lock the folder waiting."""
-        with contextlib.ExitStack() as ends:
-            if self.is_private():
-                folder = os.open(self.at, os.O_RDONLY)
-                ends.callback(os.close, folder)
-                fcntl.flock(folder, fcntl.LOCK_EX)
+        with self.opened() as at:
+            if at:
+                fcntl.flock(int(at.name), fcntl.LOCK_EX)
             yield
 
     def open(self, name):
         """The file of an entry, opened, or None. It counts as used now."""
-        with contextlib.suppress(OSError):
-            if self.is_private():
-                opened = os.open(self.at / name, os.O_RDONLY | os.O_NOFOLLOW)
-                os.utime(opened)
-                return opened
+        with self.opened() as at, contextlib.suppress(OSError):
+            if at:
+                opened = os.open(at / name, os.O_RDONLY | os.O_NOFOLLOW)
+                if is_whole(opened):
+                    os.utime(opened)
+                    return opened
+                os.close(opened)
         return None
-
-    def keep_file(self, name, file):
-        """Keeps a copy of a file. No other run meets half of it."""
-        with contextlib.suppress(OSError):
-            if self.is_private():
-                with tempfile.TemporaryDirectory(dir=self.at) as made:
-                    new = pathlib.Path(made, name)
-                    shutil.copy(file, new)
-                    with open(new, "rb") as whole:
-                        os.fsync(whole.fileno())
-                    os.replace(new, self.at / name)
 
     def find(self, name):
         """The bytes of an entry, or None. It counts as used now."""
@@ -84,27 +123,36 @@ class Kept:
         if opened is None:
             return None
         with open(opened, "rb") as file:
-            whole, _, found = file.read().partition(b"\n")
-        return found if whole == sum_of(found).encode() else None
+            file.seek(0)
+            return file.read()[:-SUM]
 
-    def keep(self, name, found):
-        """Keeps these bytes below their own sum."""
-        with contextlib.suppress(OSError), tempfile.NamedTemporaryFile() as file:
-            file.write(sum_of(found).encode() + b"\n" + found)
-            file.flush()
-            self.keep_file(name, file.name)
+    def keep_file(self, name, file):
+        """Keeps a program. It runs with its sum behind it, too."""
+        self.keep(name, file.read_bytes(), 0o700)
+
+    def keep(self, name, found, mode=0o600):
+        """Keeps these bytes. No other run meets half of them."""
+        with self.opened() as at, contextlib.suppress(OSError):
+            if at:
+                with entry.Folder(dir=at) as made:
+                    new = pathlib.Path(made, name)
+                    with open(new, "xb", opener=lambda path, flags: os.open(path, flags, mode)) as file:
+                        file.write(found)
+                        file.write(hashlib.sha256(found).hexdigest().encode())
+                        file.flush()
+                        os.fsync(file.fileno())
+                    os.replace(new, at / name)
 
     def shrink(self):
         """Removes what was not used for long, and what a run left that was killed."""
         entries, now = [], time.time()
-        with contextlib.suppress(OSError):
-            for it in self.at.iterdir():
+        with self.opened() as at, contextlib.suppress(OSError):
+            for it in at.iterdir() if at else ():
                 if it.is_file():
                     entries.append((it.stat().st_mtime, it))
                 elif now - it.stat().st_mtime > LEFT_OVER:
                     shutil.rmtree(it, ignore_errors=True)
-        entries.sort(reverse=True, key=lambda it: it[0])
-        for place, (used, file) in enumerate(entries):
-            if used < now - DAYS * 24 * 3600 or place >= self.most:
-                with contextlib.suppress(OSError):
-                    file.unlink()
+            entries.sort(reverse=True, key=lambda it: it[0])
+            for place, (used, file) in enumerate(entries):
+                if used < now - DAYS * 24 * 3600 or place >= self.most:
+                    file.unlink(missing_ok=True)

@@ -33,6 +33,7 @@ PIECE = 3 << 16
 # What a page is made of: its scripts, the facts at its head in their order, and its data.
 SCRIPT = ("style.js", "colours.js", "page.js", "tests.js", "paper.js")
 WORKER, DATA = ("style.js", "worker.js"), ("about", "reports", "table")
+FILES = ("page.html", "page.css", *SCRIPT, WORKER[-1])
 FACTS = ("Profile", "Run", "Started", "Took")
 # The level of a run's own report, and how many reports are printed side by side.
 OWN_LEVEL, SIDE_BY_SIDE = "pass", 3
@@ -279,7 +280,7 @@ def main(words, find):
         raise Bad(f"usage: page {USAGE}")
     if asked.to is not None and (not can_be_written(asked.to) or any(is_same_file(asked.to, it) for it in asked.files)):
         raise Bad(f"cannot write {asked.to}")
-    with tempfile.TemporaryDirectory(prefix="norigully-") as folder:
+    with entry.Folder(prefix="norigully-") as folder:
         made = Path(folder, "page")
         with open(made, "wb") as file:
             make(Run(asked, Path(folder), find), file)

@@ -3,6 +3,7 @@
 import json
 import re
 import shutil
+import time
 
 from norigully import TOP
 from norigully.browser import OPTIONS
@@ -290,6 +291,38 @@ def check_keyboard(checks, folder, browser):
     checks.expect(stops == ["keyscase_001", "", ""], f"one stop of a list: {stops}")
 
 
+def check_many(checks, folder, browser):
+    """A press of Tab over 2,000 failures takes no half second, and 100,000 codes of one sequence take none either: no
+    text takes time in proportion to its square."""
+    file, scene, made = folder / "page.html", folder / "many.scene", []
+    of = Run(made.append, 2000, 1)
+    for number in range(2000):
+        of.done("many", f"case_{number:04}", [Attempt("fail:1", 0, b"", b"")])
+    of.end(1)
+    scene.write_text("".join(made))
+    make(checks, file, "--choices", "few", scene)
+    browser.resize(1200, 800)
+    browser.open(f"file://{file}")
+    taken = []
+    while len(taken) < 20 and browser.value(f"({WHERE})()")[1] != "manycase_0000":
+        taken.append(-time.monotonic())
+        for kind in ("rawKeyDown", "keyUp"):
+            browser.ask("Input.dispatchKeyEvent", type=kind, key=TAB[0], code=TAB[0], windowsVirtualKeyCode=TAB[1])
+        browser.value("document.activeElement.getBoundingClientRect().top")
+        taken[-1] += time.monotonic()
+    # Others may have the processor for one of them.
+    checks.expect(sum(taken) < 0.5 * len(taken) and len(taken) < 20, f"Tab over 2,000 failures: {taken}")
+    seconds = browser.value(CODES) / 1000
+    checks.expect(seconds < 2, f"100,000 codes of one sequence: {seconds:.1f} s")
+
+
+CODES = """(() => {
+  const codes = "38;".repeat(100000), began = performance.now();
+  restyled(PLAIN, codes);
+  return performance.now() - began;
+})()"""
+
+
 def lists_scene():
     """A recorded run with a failure in each form that its name may have, a flaky test, and slow ones."""
     made = [header((2024, 2, 29, 7, 5, 9), "ok")]
@@ -456,5 +489,5 @@ def check_long_paper(checks, folder, browser):
 
 CHECKS = (
     *(check_search, check_looks, check_long, check_pictures, check_colours, check_own_colours, check_stretches),
-    *(check_keyboard, check_lists, check_no_script, check_paper, check_long_paper),
+    *(check_keyboard, check_many, check_lists, check_no_script, check_paper, check_long_paper),
 )

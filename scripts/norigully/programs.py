@@ -7,12 +7,12 @@ proved.
 """
 
 import contextlib
+import errno
 import hashlib
 import os
 import pathlib
-import tempfile
 
-from norigully import TOP, kept, kit
+from norigully import TOP, entry, kept, kit
 from norigully.crate_list import lines_of, sources_of, with_those_below
 
 PROGRAMS = ("report", "follow", "replay")
@@ -83,12 +83,31 @@ def take(name, sources, top=TOP):
 
 def put(text, to, mode=0o755):
     """Puts a program or another file in its place at once: one that runs there keeps its file."""
-    to.parent.mkdir(parents=True, exist_ok=True)
-    with tempfile.TemporaryDirectory(dir=to.parent) as made:
-        new = pathlib.Path(made) / to.name
-        new.write_bytes(text)
-        new.chmod(mode)
-        os.replace(new, to)
+    put_all({to: (text, mode)})
+
+
+def put_all(files):
+    """Puts files of one folder in their places, each with its bytes and its mode: all of them or none. What is no file
+    stays."""
+    folder = next(iter(files)).parent
+    folder.mkdir(parents=True, exist_ok=True)
+    with entry.Folder(dir=folder) as made:
+        for to, (text, mode) in files.items():
+            check_place(to)
+            new = pathlib.Path(made, to.name)
+            new.write_bytes(text)
+            new.chmod(mode)
+        with entry.uncut():
+            for to in files:
+                os.replace(pathlib.Path(made, to.name), to)
+
+
+def check_place(file):
+    """Fails where a file cannot go because there is something that is none: a folder, a device or a pipe."""
+    if file.is_dir():
+        raise IsADirectoryError(errno.EISDIR, os.strerror(errno.EISDIR))
+    if file.exists() and not file.is_file():
+        raise FileExistsError(errno.EEXIST, "it is no regular file")
 
 
 def is_of(name, sources, top=TOP):

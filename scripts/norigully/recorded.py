@@ -10,7 +10,7 @@ import struct
 import sys
 from dataclasses import dataclass
 
-from norigully.entry import Bad, pieces_of, write
+from norigully.entry import Bad, NotWritten, pieces_of, write
 from norigully.scene_lines import stream, unescaped
 from norigully.words import FILES_OF_RUN
 
@@ -207,6 +207,13 @@ class Recorder:
             write(data, self.outputs.fileno())
             self.size += len(data)
         return b"\\@%d:%d:%b" % (offset, *key)
+
+    def end(self, ended=None):
+        """Writes how the run ended, where there is a header for that. It fails where the files are gone."""
+        if ended is not None:
+            self.write_header(ended)
+        if not all(os.fstat(it.fileno()).st_nlink for it in (self.lines, self.outputs)):
+            raise NotWritten(errno.ENOENT, "its files were removed")
 
     def write_header(self, ended):
         """Puts the header of a run that ended so into its room, if an event came."""

@@ -25,7 +25,7 @@ const restyled = (style, codes) => {
     else if (FLAGS[c]) on = on.replace(FLAGS[c], "") + FLAGS[c];
     else if (OFF[c]) on = [...on].filter(it => !OFF[c].includes(it)).join("");
     else if (c === 38 || c === 48) {
-      const [colour, count] = extended(list.slice(k + 1));
+      const [colour, count] = extended(list.slice(k + 1, k + 5));
       k += count;
       if (c === 38) fore = colour; else back = colour;
     } else if (c === 39) fore = "";

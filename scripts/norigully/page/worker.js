@@ -41,7 +41,9 @@ const linesOfTests = report => {
     if (number && lines[number - 1] < 0) lines[number - 1] = n;
   }
   for (const [k, [, , place]] of about.tests.entries()) {
-    if (place >= 0 && lines[k] < 0) others.set(keyOf(place), [...(others.get(keyOf(place)) ?? []), k]);
+    if (place < 0 || lines[k] >= 0) continue;
+    const key = keyOf(place), same = others.get(key);
+    if (same) same.push(k); else others.set(key, [k]);
   }
   for (let n = 0; others.size && n < report.length; n++) {
     for (const k of (isOwn(report[n]) && others.get(keyOf(report[n]))) || []) {

@@ -1,0 +1,210 @@
+"""Checks of ./run and ./build where something is in the way: descriptors, files and folders of others, no home, and
+signals that come early or late."""
+
+import array
+import contextlib
+import fcntl
+import hashlib
+import os
+import pathlib
+import resource
+import shutil
+import signal
+import stat
+import subprocess
+import sys
+import termios
+import time
+
+from norigully import TOP
+from norigully.run_checks import BUILDS, PATIENCE, SCENE, ran, shimmed, with_output
+
+
+def check_unblocked(checks, room, run, many, report):
+    """Pipes that do not block, as another program may leave them: they are waited for, and stay as they are."""
+    for words, name, status, scene, wanted in (
+        (["--follow", "-"], "follow", 100, SCENE, room.report),
+        ([many], "report", 0, b"", report),
+    ):
+        (input, feeds), (reads, output) = os.pipe(), os.pipe()
+        os.set_blocking(input, False)
+        os.set_blocking(output, False)
+        child = subprocess.Popen([run, *words], stdin=input, stdout=output, stderr=subprocess.PIPE)
+        comm, until = pathlib.Path("/proc", str(child.pid), "comm"), time.monotonic() + PATIENCE
+        # The program has begun, and has no byte to read, or no room to write.
+        while child.poll() is None and time.monotonic() < until:
+            if comm.read_text() == f"{name}\n" and not has_room(name, reads):
+                break
+            time.sleep(0.1)
+        time.sleep(0.5)
+        os.write(feeds, scene)
+        os.close(feeds)
+        checks.expect(not os.get_blocking(input) and not os.get_blocking(output), f"{words}: another's descriptors block")
+        os.close(input)
+        os.close(output)
+        with open(reads, "rb") as file:
+            ended = subprocess.CompletedProcess([], 0, file.read(), child.stderr.read())
+        ended.returncode = child.wait()
+        checks.expect_run(f"pipes that do not block, {words}", ended, status, wanted)
+
+
+def has_room(name, pipe):
+    """Whether there is still room in the pipe for the report of this program."""
+    size = array.array("i", [0])
+    fcntl.ioctl(pipe, termios.FIONREAD, size)
+    return name == "report" and size[0] < fcntl.fcntl(pipe, fcntl.F_GETPIPE_SZ) - 8192
+
+
+def check_places(checks, room, build, bare):
+    """What is no file stays where ./build writes, and a disk that is full leaves what was there."""
+    folder = room.folder / "places"
+    folder.mkdir()
+    os.mkfifo(folder / "pipe")
+    nodes = ["pipe"]
+    with contextlib.suppress(PermissionError):
+        os.mknod(folder / "null", stat.S_IFCHR | 0o666, os.makedev(1, 3))
+        nodes.append("null")
+    (folder / "link").symlink_to(nodes[-1])
+    for name in [*nodes, "link"]:
+        before = (folder / name).stat()
+        refused = ran([build, "--archive", folder / name], **bare)
+        said = f"build: cannot write {(folder / name).resolve()}: it is no regular file\n".encode()
+        checks.expect_line(f"--archive {name}", refused, 1, said)
+        checks.expect(os.path.samestat(before, (folder / name).stat()), f"--archive {name}: it was replaced")
+    os.mkfifo(folder / "norigully-follow")
+    told = f"build: cannot write {folder}: it is no regular file\n".encode()
+    checks.expect_line("--install and a pipe", ran([build, "--install", folder], **bare), 1, told)
+    checks.expect(not (folder / "norigully").exists(), "--install and a pipe: something is written")
+    (folder / "norigully-follow").unlink()
+    (folder / "norigully").write_text("an older one\n")
+    before = sorted(folder.iterdir())
+    # There is room for `norigully`, and for none of the programs.
+    full = {"preexec_fn": lambda: resource.setrlimit(resource.RLIMIT_FSIZE, (300_000, 300_000))}
+    told = f"build: cannot write {folder}: File too large\n".encode()
+    checks.expect_line("--install and a full disk", with_output(ran([build, "--install", folder], **bare, **full)), 1, told)
+    is_same = sorted(folder.iterdir()) == before and (folder / "norigully").read_text() == "an older one\n"
+    checks.expect(is_same, f"--install and a full disk: {sorted(folder.iterdir())}")
+
+
+# Puts another folder in the place of the kept programs as soon as one of them is opened.
+SWAPS = """import os
+opens = os.open
+def swapping(path, *how, **more):
+    if {name!r} in str(path) and os.path.isdir({theirs!r}):
+        os.rename({own!r}, {own!r} + " of before")
+        os.rename({theirs!r}, {own!r})
+    return opens(path, *how, **more)
+os.open = swapping
+"""
+# Nobody has a home; and a file system whose programs do not run.
+HOMELESS = """import os, pwd
+os.environ.pop("HOME", None)
+def getpwuid(number):
+    raise KeyError(number)
+pwd.getpwuid = getpwuid
+"""
+NOEXEC = """import os, types
+os.statvfs = lambda path: types.SimpleNamespace(f_flag=os.ST_NOEXEC if str(path).startswith({place!r}) else 0)
+"""
+
+
+def check_cache(checks, room, run, told):
+    """What is kept is run where it is whole, this user's, and of a folder that nobody else can write or replace; what
+    cannot be kept is built for one call."""
+    cache, words = pathlib.Path(told["XDG_CACHE_HOME"]), [run, room.scene]
+    expect = lambda what, said, words=words, env=told: checks.expect_run(what, ran(words, env=env), 0, room.report, said)  # noqa: E731
+    expect("a new cache", BUILDS)
+    own = cache / "norigully/programs"
+    (kept,) = own.iterdir()
+    whole = kept.read_bytes()
+    for what, text in ("half of a program", whole[: len(whole) // 2]), ("another byte", whole.replace(b"ELF", b"elf", 1)):
+        kept.write_bytes(text)
+        expect(what, BUILDS)
+        expect(f"{what}, and then", b"")
+    kept.chmod(0o770)
+    expect("a program that others can write", BUILDS)
+    theirs = room.folder / "theirs"
+    theirs.mkdir(mode=0o700)
+    true = pathlib.Path(shutil.which("true")).read_bytes()
+    (theirs / kept.name).write_bytes(true + hashlib.sha256(true).hexdigest().encode())
+    (theirs / kept.name).chmod(0o700)
+    swap = SWAPS.format(name=kept.name, own=str(own), theirs=str(theirs))
+    expect("a folder that is swapped", b"", shimmed(swap, *words))
+    checks.expect(not theirs.exists(), "a folder that is swapped: it is not")
+    for mode, said in (0o777, BUILDS), (0o1777, b""), (0o755, b""):
+        cache.chmod(mode)
+        shutil.rmtree(own)
+        expect(f"below a folder of mode {mode:o}", BUILDS)
+        expect(f"below a folder of mode {mode:o}, again", said)
+    for place, variable in (cache, "XDG_CACHE_HOME"), (room.folder / "barred", "TMPDIR"):
+        place.mkdir(exist_ok=True)
+        env = {**told, variable: str(place)}
+        barred = ran(shimmed(NOEXEC.format(place=str(place)), run, "--follow", room.scene), env=env)
+        what = f"{variable} on a mount without programs"
+        checks.expect_line(what, barred, 1, f"run: no program can run in {place}".encode())
+        checks.expect(f" noexec: let {variable} name another folder\n".encode() in barred.stderr, f"{what}: {barred}")
+
+
+def check_homeless(checks, room, run, build, told):
+    """Without a home nothing is kept or left, and a relative XDG_CACHE_HOME counts as none."""
+    place = room.folder / "homeless"
+    place.mkdir()
+    for cache in (None, "a cache"):
+        env = {key: it for key, it in told.items() if key not in ("HOME", "XDG_CACHE_HOME")}
+        env = env if cache is None else {**env, "XDG_CACHE_HOME": cache}
+        ended = ran(shimmed(HOMELESS, run, room.scene), env=env, cwd=place)
+        checks.expect_run(f"no home, XDG_CACHE_HOME={cache}", ended, 0, room.report, BUILDS)
+        checks.expect_line("no home", with_output(ended), 0, BUILDS)
+        ended = ran(shimmed(HOMELESS, build, "--install"), env=env, cwd=place)
+        checks.expect_line("--install without a home", ended, 2, b"build: this user has no home folder: --install needs a path")
+        checks.expect(not [*place.iterdir()], f"no home: left {[*place.iterdir()]}")
+
+
+# Stops at the first thing that a script imports, but for its own modules.
+IMPORTS = """import builtins, pkgutil, runpy, sys
+class Stop:
+    def find_spec(name, *_):
+        if name.partition(".")[0] != "norigully":
+            raise KeyboardInterrupt
+for name in ("pathlib", "functools", "contextlib", "re", "enum", "itertools"):
+    sys.modules.pop(name, None)
+sys.meta_path.insert(0, Stop)
+"""
+# A script that a signal meets while its folder is removed, or once its work is done.
+LEAVES = """import os, pathlib, signal, sys
+sys.path.insert(0, {scripts!r})
+from norigully import entry
+def hit():
+    os.kill(os.getpid(), signal.SIGTERM)
+def work():
+    with entry.Folder(dir={place!r}) as made:
+        for number in range(9):
+            pathlib.Path(made, str(number)).touch()
+        removes = os.unlink
+        def unlink(*words, **how):
+            if {when!r} == "while" and not entry.CAME:
+                hit()
+            removes(*words, **how)
+        os.unlink = unlink
+flushed = entry.flushed
+def late(*words):
+    if {when!r} == "behind":
+        hit()
+    return flushed(*words)
+entry.flushed = late
+entry.run("leaves", work)
+"""
+
+
+def check_signals(checks, room):
+    """A signal that comes early, late, or while a folder is removed: no traceback, and nothing is left."""
+    scripts = "page", "run-tests", "record-scene", "recorded-run", "scene-of-junit", "scene-of-libtest-json", "vendor"
+    for script in (TOP / "run", TOP / "build", *(TOP / "scripts" / it for it in scripts)):
+        stopped = ran(shimmed(IMPORTS, script), cwd=room.folder)
+        checks.expect_line(f"Ctrl-C while {script.name} imports", stopped, -signal.SIGINT, f"{script.name}: interrupted\n".encode())
+    place = room.folder / "left"
+    place.mkdir()
+    for when, status in ("never", 0), ("while", 128 + signal.SIGTERM), ("behind", 0):
+        ended = ran([sys.executable, "-c", LEAVES.format(scripts=str(TOP / "scripts"), place=str(place), when=when)])
+        checks.expect_run(f"a signal {when} a folder is removed", ended, status, b"")
+        checks.expect(not [*place.iterdir()], f"a signal {when} a folder is removed: left {[*place.rglob('*')]}")
