@@ -71,8 +71,7 @@ impl ThemeCharacters {
         if self.is_unicode { "█▉▊▋▌▍▎▏ " } else { "=> " }
     }
 
-    /// The branch to a child that is not the last one: `├─` or `
-    /// -`.
+    /// The branch to a child that is not the last one: `├─` or `|-`.
     pub fn tree_branch(&self) -> &'static str
         ensures { result.now ≡ tree_branch_text self.now.is_unicode }
     {
@@ -86,8 +85,7 @@ impl ThemeCharacters {
         if self.is_unicode { "└─" } else { "\\-" }
     }
 
-    /// The line below a child that is not the last one: `│ ` or `
-    ///  `.
+    /// The line below a child that is not the last one: `│ ` or `| `.
     pub fn tree_continuation(&self) -> &'static str
         ensures { result.now ≡ tree_continuation_text self.now.is_unicode }
     {

@@ -100,6 +100,8 @@ impl CapturedText {
     {
         let mut text = String::new(alloc);
         bytes.as_slice().to_str_lossy_into(&mut text)?;
+        // A copy: the block of a large line is up to four times as large.
+        let bytes = Bytes::copy_from_slice(alloc, bytes.as_slice())?;
         Ok(CapturedText {
             text: ByteStr::from_string(text)?,
             other_bytes: Some(Box::new(alloc, bytes)?),

@@ -1,12 +1,14 @@
 //! Names, which contracts see as the bytes of their texts.
 
-ghost use Rattle.std.specs.Prelude.{◌≡◌, ◌==◌, IfOk};
+ghost use Rattle.std.specs.Prelude.{◌≡◌, ◌==◌, [], IfOk, OnErr, OnOk, Some};
 ghost use Rattle.std.{specs.Ordering.as_partial_cmp, specs.Ordering.nat_cmp, specs.Cmp.partial_order_from_own_ties, specs.Cmp.Rules.comparing, specs.Cmp.Lexicographic.pointwise, specs.Cmp.Lexicographic.slice_cmp, proofs.Common.rules};
 ghost use Rattle.run_names.specs.{Instances.instance_cmp, Names.module_path_of, Names.last_name_of, Names.optional_text};
 
 use crate::memory::OutOfMemory;
 use std::alloc::Global;
 use std::cmp::Ordering;
+use std::fmt;
+use std::fmt::Formatter;
 use std::marker::{Model, PhantomData};
 
 /// A name of one kind, in memory of its own. Names have an order, by the bytes of their texts.
@@ -45,6 +47,39 @@ impl<K> Name<K> {
         ensures { result.now ≡ self.now }
     {
         self.text.as_str()
+    }
+
+    /// A name without a text, which holds no memory.
+    pub fn empty(alloc: Global) -> Self
+        ensures { result ≡ [] }
+    {
+        Name {
+            text: String::new(alloc),
+            kind: PhantomData,
+        }
+    }
+
+    /// Makes this its text, in the memory that the name has if that suffices. If memory is refused the name is empty.
+    pub fn replace(&mut self, text: &str) -> Result<(), OutOfMemory>
+        ensures replaced { OnOk result (self.new ≡ text.now) }
+        ensures emptied { OnErr result (self.new ≡ []) }
+    {
+        self.text.clear();
+        self.text.push_str(text)?;
+        Ok(())
+    }
+}
+
+/// The text.
+///
+/// ```
+/// assert_eq!(ProfileName::new(alloc, "ci")?.to_string(alloc)?.as_str(), "ci");
+/// ```
+impl<K> fmt::Display for Name<K> {
+    ghost output = { λ name. Some name };
+
+    fn fmt<W: fmt::Write>(&self, f: &mut Formatter<W>) -> fmt::Result {
+        f.write_str(self.as_str())
     }
 }
 

@@ -1,6 +1,9 @@
 //! Durations.
 
 ghost use Rattle.std.specs.Prelude.{◌≡◌, ◌*◌};
+ghost use Rattle.std.specs.Duration.{as_nanos};
+
+use std::time::Duration;
 
 /// A duration in nanoseconds. It holds every `u128`, which is more than std's `Duration` does.
 ///
@@ -27,5 +30,19 @@ impl Nanos {
         ensures { result.0 ≡ milliseconds * 1000000 }
     {
         Nanos(milliseconds as u128 * 1_000_000)
+    }
+}
+
+/// Every `Duration` fits.
+///
+/// ```
+/// use std::time::Duration;
+/// assert_eq!(Nanos::from(Duration::from_millis(1_500)), Nanos(1_500_000_000));
+/// ```
+impl From<Duration> for Nanos {
+    ghost from_gives = { λ duration nanos. nanos.0 ≡ as_nanos duration };
+
+    fn from(duration: Duration) -> Self {
+        Nanos(duration.as_nanos())
     }
 }

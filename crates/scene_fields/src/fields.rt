@@ -1,6 +1,6 @@
 //! A line of a scene, taken apart from left to right.
 
-ghost use Rattle.std.specs.Prelude.{◌≡◌, ◌+◌, ◌++◌, ◌≤◌, ◌%◌, ◌^◌, ◌==◌, ◌&&◌, [], ◌∷◌, MatchOption, MatchResult, None, OnOk, Some, drop, length, nat_le, Ok};
+ghost use Rattle.std.specs.Prelude.{◌≡◌, ◌+◌, ◌-◌, ◌++◌, ◌≤◌, ◌%◌, ◌^◌, ◌==◌, ◌&&◌, [], ◌∷◌, MatchOption, MatchResult, None, OnOk, Some, drop, length, nat_le, Ok};
 ghost use Rattle.{std.specs.Option.ForSome, std.specs.Option.is_some, scene_fields.specs.Split.split_on, scene_fields.specs.Split.field_texts, scene_fields.specs.declared.fault.LineFault.LineFault};
 ghost use Rattle.scene_fields.specs.Fields.{IsRightNumber, Noted, Place, ReadsBy, TriesBy, answered, next, next_stored, none_noted, noting, noted_outputs, taken_text, with_noted};
 
@@ -89,17 +89,18 @@ pub struct Fields<'a> {
     left: &'a [&'a str],
     // The fields of a large line. Borrowed fields are never followed by owned ones.
     owned: &'a mut [OwnedText],
-    number: usize,
+    // How many fields the line has.
+    total: usize,
     // Where outputs may be stored. No field of such a line has its own memory.
     noted: Option<NotedOutputs>,
-    ghost counted: { number + length left.now + length owned.now ≤ 2 ^ 63 },
+    ghost counted: { length left.now + length owned.now ≤ total × total ≤ 2 ^ 63 },
     ghost borrowed: { ForSome noted (λ _. owned.now ≡ []) },
 }
 
 impl<'a> Model for Fields<'a> {
     ghost Value = { Place };
 
-    ghost view = { λ f. record { number = f.number; left = field_texts f.left.now ++ f.owned.now; noted = f.noted } };
+    ghost view = { λ f. record { number = f.total - (length f.left.now + length f.owned.now); left = field_texts f.left.now ++ f.owned.now; noted = f.noted } };
 }
 
 impl<'a> Fields<'a> {
@@ -110,7 +111,7 @@ impl<'a> Fields<'a> {
         Fields {
             left: fields,
             owned: &mut [],
-            number: 0,
+            total: fields.len(),
             noted: None,
         }
     }
@@ -125,7 +126,7 @@ impl<'a> Fields<'a> {
         Fields {
             left: fields,
             owned: &mut [],
-            number: 0,
+            total: fields.len(),
             noted: Some(NotedOutputs { outputs: 0, stored }),
         }
     }
@@ -136,8 +137,8 @@ impl<'a> Fields<'a> {
     {
         Fields {
             left: &[],
+            total: fields.len(),
             owned: fields,
-            number: 0,
             noted: None,
         }
     }
@@ -196,7 +197,7 @@ impl<'a> Fields<'a> {
         ensures { OnOk result (self.new ≡ noting output self.old) }
     {
         match &mut self.noted {
-            Some(noted) => noted.add(self.number + 2, output),
+            Some(noted) => noted.add(self.total - self.left.len() - self.owned.len() + 2, output),
             None => Ok(()),
         }
     }
@@ -237,7 +238,6 @@ impl<'a> Fields<'a> {
         self.left = &self.left[here..];
         let owned = mem::take(&mut self.owned);
         self.owned = &mut owned[count - here..];
-        self.number += count;
     }
 
     /// Takes a field.
@@ -248,11 +248,9 @@ impl<'a> Fields<'a> {
         let [field, left @ ..] = self.left else {
             let (field, owned) = first_text(mem::take(&mut self.owned))?;
             self.owned = owned;
-            self.number += 1;
             return Ok(field);
         };
         self.left = left;
-        self.number += 1;
         Ok(field)
     }
 
@@ -271,7 +269,6 @@ impl<'a> Fields<'a> {
         }
         let (field, left) = owned.split_first_mut()?;
         self.owned = left;
-        self.number += 1;
         Some(field.take_memory(alloc))
     }
 
@@ -279,7 +276,7 @@ impl<'a> Fields<'a> {
     pub fn bad_field(&self) -> LineFault
         ensures { result ≡ LineFault.BadField self.now.number }
     {
-        LineFault::BadField(self.number)
+        LineFault::BadField(self.total - self.len())
     }
 
     /// Takes a field, and reads it with a function that returns None for a bad field.
@@ -294,7 +291,7 @@ impl<'a> Fields<'a> {
         let field = self.take()?;
         match read(field) {
             Some(value) => Ok(value),
-            None => Err(LineFault::BadField(self.number)),
+            None => Err(self.bad_field()),
         }
     }
 
@@ -310,7 +307,7 @@ impl<'a> Fields<'a> {
         let field = self.take()?;
         match read(field)? {
             Some(value) => Ok(value),
-            None => Err(LineError::Fault(LineFault::BadField(self.number))),
+            None => Err(LineError::Fault(self.bad_field())),
         }
     }
 }

@@ -27,6 +27,11 @@ pub fn unescape_in_place(bytes: &mut [u8]) -> Option<usize>
             bytes[to] = byte;
             to += 1;
             from += 1 + len;
+        } else if from + 1 < bytes.len() && bytes[from + 1] == b'\\' {
+            // a byte between two escapes needs no block
+            bytes[to] = bytes[from];
+            to += 1;
+            from += 1;
         } else {
             let count = move_plain(bytes, from, to);
             from += count;

@@ -1,7 +1,7 @@
 //! The lines of tests and of setup scripts, their output, and the responses of both when they are asked for their state.
 
 ghost use Rattle.scene_fields.specs.Fields.{Gives, answered, field};
-ghost use Rattle.{scene_fields.specs.Lists.errors_in, scene_fields.specs.Split.field_texts, scene_fields.specs.Texts.bytes_in};
+ghost use Rattle.{scene_fields.specs.Counts.stats_in, scene_fields.specs.Lists.errors_in, scene_fields.specs.Split.field_texts, scene_fields.specs.Texts.bytes_in};
 ghost use Rattle.unit_lines.specs.Lines.{TakesEmptyOutput, TakesStoredOutput, after_streams, all_attempts, answer_fields, answer_script_line_fields, answer_test_line_fields, attempt_fields};
 ghost use Rattle.unit_lines.specs.Lines.{attempts_behind, done_line_fields, empty_output_fields, output_fields, retry_fields, retry_line_fields, retry_start_line_fields, script_fields, setup_done_line_fields};
 ghost use Rattle.unit_lines.specs.Lines.{setup_line_fields, setup_slow_line_fields, slow_line_fields, spelled_output_fields, start_line_fields, state_fields, stream_in, test_fields};
@@ -51,7 +51,7 @@ pub fn read_start(alloc: Global, ids: &mut BinaryIds, fields: &mut Fields<'_>) -
 {
     let start = TestStart {
         test: read_test(alloc, ids, fields)?,
-        current_stats: PackedStats::new(alloc, fields.read(read_stats)?)?,
+        current_stats: fields.try_read(|field| read_packed_stats(alloc, field))?,
         command_line: fields.try_read(|field| read_command_line(alloc, field))?,
     };
     Ok(SceneEvent::TestStarted(Boxed::new(alloc, start)?))
@@ -107,7 +107,10 @@ pub fn read_done(alloc: Global, ids: &mut BinaryIds, fields: &mut Fields<'_>) ->
     let success_output = fields.read(read_display)?;
     let failure_output = fields.read(read_display)?;
     let flaky_result = fields.read(read_flaky_result)?;
-    let current_stats = PackedStats::new(alloc, fields.read(read_stats)?)?;
+    let field = fields.take()?;
+    let Some(current_stats) = read_packed_stats(alloc, field)? else {
+        return Err(LineError::Fault(fields.bad_field()));
+    };
     let total_attempts = fields.read(read_small_count)?;
     let attempts = read_attempts(alloc, fields, flaky_result, total_attempts)?;
     let finish = TestFinish {
@@ -118,6 +121,17 @@ pub fn read_done(alloc: Global, ids: &mut BinaryIds, fields: &mut Fields<'_>) ->
         attempts,
     };
     Ok(SceneEvent::TestFinished(Boxed::new(alloc, finish)?))
+}
+
+// Reads statistics in their short form.
+#[inline(always)]
+fn read_packed_stats(alloc: Global, field: &str) -> Field<PackedStats>
+    ensures { IfOk result (λ stats. stats ≡ stats_in field.now) }
+{
+    match read_stats(field) {
+        Some(stats) => Ok(Some(PackedStats::new(alloc, stats)?)),
+        None => Ok(None),
+    }
 }
 
 /// Reads which test it is: stress index, binary id and name.

@@ -34,7 +34,7 @@ pub enum ProgressDisplay {
 }
 
 /// The levels of a report.
-#[derive(Clone, Copy, PartialEq, Eq)]
+#[derive(Clone, Copy, Debug, PartialEq, Eq)]
 pub struct StatusLevels {
     /// The level during the run.
     pub status_level: StatusLevel,
@@ -43,7 +43,7 @@ pub struct StatusLevels {
 }
 
 /// The progress display and the levels of a report.
-#[derive(Clone, Copy, PartialEq, Eq)]
+#[derive(Clone, Copy, Debug, PartialEq, Eq)]
 pub struct ResolvedDisplay {
     /// How progress is shown.
     pub progress_display: ProgressDisplay,

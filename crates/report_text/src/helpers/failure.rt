@@ -12,7 +12,7 @@ use writers::text::WriteText;
 use writers::write_str::{WriteFault, WriteStr};
 
 /// How a process ended.
-#[derive(Drop)]
+#[derive(Debug, Drop)]
 pub enum ExitDescription {
     /// With a code.
     Code(i32),

@@ -25,7 +25,7 @@ use writers::write_str::{WriteFault, WriteStr};
 /// let shown = DisplayTestInstance::new(None, Some(counter), test.as_ref(), &styles.list_styles);
 /// assert_eq!(shown.to_string(alloc)?.as_str(), "(1/2) alpha t1");
 /// ```
-#[derive(Clone, Copy)]
+#[derive(Clone, Copy, Debug)]
 pub struct DisplayTestInstance<'a> {
     stress_index: Option<StressIndex>,
     counter_index: Option<DisplayCounterIndex>,
@@ -156,7 +156,7 @@ impl fmt::Display for DisplayTestInstance<'_> {
 /// let shown = DisplayStressIndex { stress_index, count_style: styles.count };
 /// assert_eq!(shown.to_string(alloc)?.as_str(), " 3/10");
 /// ```
-#[derive(Clone, Copy)]
+#[derive(Clone, Copy, Debug)]
 pub struct DisplayStressIndex {
     /// The iteration.
     pub stress_index: StressIndex,
@@ -249,7 +249,7 @@ fn write_id<W: WriteStr>(w: &mut W, style: Style, binary_id: &str) -> Result<(),
 /// assert_eq!(DisplayCounterIndex::new_counter(20, 5000).to_string(alloc)?.as_str(), "(  20/5000)");
 /// assert_eq!(DisplayCounterIndex::new_padded('-', 4).to_string(alloc)?.as_str(), "(---------)");
 /// ```
-#[derive(Clone, Copy, PartialEq, Eq)]
+#[derive(Clone, Copy, Debug, PartialEq, Eq)]
 pub enum DisplayCounterIndex {
     /// A number and its total.
     Counter {
@@ -354,7 +354,7 @@ fn write_counter<W: WriteStr>(
 /// let shown = DisplayTestName::new(&name, &styles.list_styles);
 /// assert_eq!(shown.to_string(alloc)?.as_str(), "mod::t2");
 /// ```
-#[derive(Clone, Copy)]
+#[derive(Clone, Copy, Debug)]
 pub struct DisplayTestName<'a> {
     name: &'a TestCaseName,
     styles: ListStyles,

@@ -29,7 +29,7 @@ use writers::write_str::{WriteFault, WriteStr};
 /// let shown = DisplayScriptInstance::new(alloc, None, id, "cmd", &args, styles.script_id, styles.count)?;
 /// assert_eq!(shown.to_string(alloc)?.as_str(), "s1: cmd 'an argument'");
 /// ```
-#[derive(Drop)]
+#[derive(Debug, Drop)]
 pub struct DisplayScriptInstance {
     stress_index: Option<StressIndex>,
     script_id: ScriptId,

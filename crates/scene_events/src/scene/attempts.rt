@@ -1,6 +1,6 @@
 //! The attempts of a test in a short form: most are one attempt that wrote nothing, and a scene may hold a million.
 
-ghost use Rattle.std.specs.Prelude.{◌≡◌, IfOk, IsTrue, OnErr, OnOk, length};
+ghost use Rattle.std.specs.Prelude.{[], ◌≡◌, IfOk, IsTrue, OnErr, OnOk, length};
 ghost use Rattle.std.specs.{Option.option_copied, Option.unwrap_or};
 ghost use Rattle.scene_events.specs.{SceneAttempts.attempt_of, SceneAttempts.before_last, SceneAttempts.marks_of, SceneOutputs.no_output};
 
@@ -92,6 +92,24 @@ impl Model for SceneAttempts {
 
 impl SceneAttempts {
     ghost use Rattle.{run_model.specs.Outputs.has_loaded_output, scene_events.specs.Loads.attempts_with};
+
+    /// The only attempt, and what a success after earlier attempts would count as.
+    #[inline(always)]
+    pub fn only(last: SceneAttempt, flaky_result: FlakyResult) -> Self
+        ensures { result ≡ record { earlier = []; last = last; flaky_result = flaky_result } }
+    {
+        let ended = last.ended;
+        let written = last.written;
+        let marks = Marks {
+            is_slow: written.is_slow(),
+            flaky_result,
+        };
+        let more = match written.into_output().output {
+            None => MoreAttempts::Nothing { marks },
+            Some(output) => MoreAttempts::Output { marks, output },
+        };
+        SceneAttempts { last: ended, more }
+    }
 
     /// The attempts before the last one, in order, and the last; and what a success after earlier attempts counts as. It allocates
     /// only if there are earlier ones.

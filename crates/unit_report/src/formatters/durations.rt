@@ -19,7 +19,7 @@ use writers::write_str::{WriteFault, WriteStr};
 /// ```
 /// assert_eq!(DisplayBracketedDuration(Nanos(5_000_000)).to_string(alloc)?.as_str(), "[   0.005s] ");
 /// ```
-#[derive(Clone, Copy)]
+#[derive(Clone, Copy, Debug)]
 pub struct DisplayBracketedDuration(pub Nanos);
 
 impl WriteText for DisplayBracketedDuration {
@@ -47,7 +47,7 @@ impl fmt::Display for DisplayBracketedDuration {
 /// ```
 /// assert_eq!(DisplayBracketedHhMmSs(Nanos(12_000_000_000)).to_string(alloc)?.as_str(), "[ 00:00:12] ");
 /// ```
-#[derive(Clone, Copy)]
+#[derive(Clone, Copy, Debug)]
 pub struct DisplayBracketedHhMmSs(pub Nanos);
 
 impl WriteText for DisplayBracketedHhMmSs {
@@ -73,7 +73,7 @@ impl fmt::Display for DisplayBracketedHhMmSs {
 /// ```
 /// assert_eq!(DisplayDurationBy(Nanos(1_000_000_000)).to_string(alloc)?.as_str(), "by   1.000s ");
 /// ```
-#[derive(Clone, Copy)]
+#[derive(Clone, Copy, Debug)]
 pub struct DisplayDurationBy(pub Nanos);
 
 impl WriteText for DisplayDurationBy {
@@ -99,7 +99,7 @@ impl fmt::Display for DisplayDurationBy {
 /// ```
 /// assert_eq!(DisplaySlowDuration(Nanos(60_000_000_000)).to_string(alloc)?.as_str(), "[> 60.000s] ");
 /// ```
-#[derive(Clone, Copy)]
+#[derive(Clone, Copy, Debug)]
 pub struct DisplaySlowDuration(pub Nanos);
 
 impl WriteText for DisplaySlowDuration {

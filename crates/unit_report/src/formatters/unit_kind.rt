@@ -18,7 +18,7 @@ use writers::write_str::{WriteFault, WriteStr};
 /// let kind = DisplayUnitKind::new(NextestRunMode::Benchmark, UnitKind::Test);
 /// assert_eq!(kind.to_string(alloc)?.as_str(), "benchmark");
 /// ```
-#[derive(Clone, Copy)]
+#[derive(Clone, Copy, Debug)]
 pub struct DisplayUnitKind {
     mode: NextestRunMode,
     kind: UnitKind,

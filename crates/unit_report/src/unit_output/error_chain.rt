@@ -17,7 +17,7 @@ use writers::write_str::{WriteFault, WriteStr};
 /// DisplayErrorChain(&chain).write_to(&mut out)?;
 /// assert_eq!(out.as_str(), "cannot spawn\n  caused by:\n  - no such file");
 /// ```
-#[derive(Clone, Copy)]
+#[derive(Clone, Copy, Debug)]
 pub struct DisplayErrorChain<'a>(pub &'a ErrorChain);
 
 impl WriteText for DisplayErrorChain<'_> {

@@ -12,7 +12,7 @@ use styled_text::style::Style;
 /// use styled_text::style::Style;
 /// assert_eq!(FmtPrefix(Style::BoldRed).to_string(alloc)?.as_str(), "\x1b[31;1m");
 /// ```
-#[derive(Clone, Copy, PartialEq, Eq)]
+#[derive(Clone, Copy, Debug, PartialEq, Eq)]
 pub struct FmtPrefix(pub Style);
 
 impl fmt::Display for FmtPrefix {
@@ -24,7 +24,7 @@ impl fmt::Display for FmtPrefix {
 }
 
 /// Displays the suffix of a style: ESC `[0m`, or nothing.
-#[derive(Clone, Copy, PartialEq, Eq)]
+#[derive(Clone, Copy, Debug, PartialEq, Eq)]
 pub struct FmtSuffix(pub Style);
 
 impl fmt::Display for FmtSuffix {

@@ -40,7 +40,7 @@ pub struct ChildOutputSpec {
 }
 
 /// Shows the output of tests and setup scripts.
-#[derive(Clone, Copy)]
+#[derive(Clone, Copy, Debug)]
 pub struct UnitOutputReporter {
     overrides: OutputDisplayOverrides,
     displayer_kind: DisplayerKind,

@@ -1,5 +1,5 @@
-use Rattle.std.proofs.Common.{◌≡◌, ◌<◌, ◌+◌, ◌++◌, ◌∷◌, ℕ, List, [], None, Some, slice_set, drop, length, get_or, take, ap, sym, ◌∙◌, length-drop, length-set, arith, append-nil, drop-drop, drop-set-lt, take-append-drop}
-use Rattle.{std.specs.Option.option_map, scene_fields.proofs.lemmas.Cuts.rest_is, std.proofs.lemmas.List.at_drop_more, std.proofs.lemmas.List.drop_all, std.proofs.lemmas.List.take_more_set}
+use Rattle.std.proofs.Common.{◌≡◌, ◌<◌, ◌==◌, false, ◌+◌, ◌++◌, ◌∷◌, ℕ, List, [], None, Some, slice_set, drop, length, get_or, take, ap, sym, ◌∙◌, length-drop, length-set, arith, append-nil, drop-drop, drop-set-lt, take-append-drop}
+use Rattle.{std.proofs.lemmas.Bool.Decides.nat_tests, std.specs.Option.option_map, scene_fields.proofs.lemmas.Cuts.rest_is, std.proofs.lemmas.List.at_drop_more, std.proofs.lemmas.List.drop_all, std.proofs.lemmas.List.take_more_set}
 use Rattle.scene_fields.specs.Texts.{bytes_in, escape_byte, escape_len, unescaped}
 use Rattle.scene_fields.proofs.lemmas.Unescaped.{read_bad_escape, read_escape_next, read_plain_next, read_to_end}
 use Rattle.scene_fields.proofs.unescape.unescape_in_place.Goals as goal
@@ -62,3 +62,20 @@ returns c =
     let nothing : drop c.loop-from.from b ≡ [] = drop_all c.loop-from.from b (omega arith) in
     let all = c.loop-from.invariant.read ∙ ap (λ u. option_map (λ t. text ++ t) (unescaped 255 u)) nothing in
     sym (read_to_end 255 _ _ [] all tt ∙ ap (λ t. Some t) (append-nil text))
+
+pub loop-from-preserved-then-bytes-from-eq92-2 : goal.loop-from-preserved-then-bytes-from-eq92-2
+loop-from-preserved-then-bytes-from-eq92-2 c =
+    let b = c.loop-from.bytes in
+    let from = c.loop-from.from in
+    let to = c.loop-from.to in
+    let byte = get_or b from 0 in
+    let so_far = c.loop-from.invariant in
+    let other : (byte == 92) ≡ false = grind (arith, nat_tests, c.if-bytes-from-eq92.false) in
+    let behind = drop-set-lt (from + 1) b to byte (omega (arith, so_far.low)) in
+    let here : drop from b ≡ (byte ∷ []) ++ drop (from + 1) (slice_set b to byte) = at_drop_more (λ u. u) b from 0 (omega arith) ∙ ap (λ u. byte ∷ u) (sym behind) in
+    record {
+      long = length-set b to byte ∙ so_far.long;
+      within = omega (arith, length-set b to byte);
+      low = omega (arith, so_far.low);
+      read = read_plain_next 255 _ _ _ so_far.read _ _ here (other, tt) ∙ ap (λ x. option_map (λ t. x ++ t) (unescaped 255 (drop (from + 1) (slice_set b to byte)))) (sym (take_more_set b to byte (omega (arith, so_far.low))));
+    }
