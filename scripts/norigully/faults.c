@@ -1,10 +1,12 @@
-/* Loaded before the C library, it makes one call of a program fail: the growth of memory, the write to standard output or to a file that
-   was opened, the read, the seek, or the look at what a file is (`look`). FAULT_KIND names the kind, and FAULT_AT says which call of it. A
-   short write takes one byte; what is interrupted takes or gives none, and may be tried again. It creates the file FAULT_TOLD where the call
-   came. Six kinds change many calls. With `one-number` every file has the number 1 on its device. With `one-byte` every read gives a byte. With `random` reads and writes are interrupted or short, as
-   FAULT_AT seeds it. With `interrupted-line` so many writes to standard error are interrupted. With `paced` each read of a file run.scene
-   waits for a byte of the descriptor FAULT_AT, and ends behind a line feed. With `no-root` the folder `/` cannot be opened. `scripts/check-faults`, `scripts/check-process` and
-   `scripts/check-replay` use it. */
+/* Loaded before the C library, it makes one call of a program fail: the growth of memory, the write to standard
+   output or to a file that was opened, the read, the read at a place of a file (`read-at`), or the look at what a file
+   is (`look`). FAULT_KIND names the kind, and FAULT_AT says which call of it. A short write takes one byte; what is
+   interrupted takes or gives none, and may be tried again. It creates the file FAULT_TOLD where the call came. Six
+   kinds change many calls, the first of which creates that file. With `one-number` every file has the number 1 on its
+   device. With `one-byte` every read gives a byte. With `random` reads and writes are interrupted or short, as FAULT_AT
+   seeds it. With `interrupted-line` so many writes to standard error are interrupted. With `paced` each read of a file
+   run.scene waits for a byte of the descriptor FAULT_AT, and ends behind a line feed. With `no-root` the folder `/`
+   cannot be opened. `scripts/check-faults`, `scripts/check-process` and `scripts/check-replay` use it. */
 #define _GNU_SOURCE
 #include <dlfcn.h>
 #include <errno.h>
@@ -28,6 +30,17 @@ __attribute__((constructor)) static void begin(void)
     }
 }
 
+/* Creates the file FAULT_TOLD, once. */
+static void tell(void)
+{
+    static int is_told;
+    if (is_told++ || !getenv("FAULT_TOLD"))
+        return;
+    int told = open(getenv("FAULT_TOLD"), O_CREAT | O_WRONLY, 0600);
+    if (told >= 0)
+        close(told);
+}
+
 /* Whether this call, of this kind, or of it with `short-` or `interrupted-` before, is the one. */
 static int fails(const char *plain)
 {
@@ -37,15 +50,17 @@ static int fails(const char *plain)
         return 0;
     if (calls_before-- > 0)
         return 0;
-    int told = open(getenv("FAULT_TOLD"), O_CREAT | O_WRONLY, 0600);
-    if (told >= 0)
-        close(told);
+    tell();
     return 1;
 }
 
+/* Whether calls of this kind change, of which this is one. */
 static int is(const char *name)
 {
-    return !strcmp(kind, name);
+    if (strcmp(kind, name))
+        return 0;
+    tell();
+    return 1;
 }
 
 /* A number below the limit, by a generator with 64 bits of state. */
@@ -125,7 +140,7 @@ ssize_t write(int file, const void *bytes, size_t count)
     static ssize_t (*real)(int, const void *, size_t);
     if (!real)
         real = next("write");
-    if (is("random") && count) {
+    if (count && is("random")) {
         size_t some = some_of(count);
         if (some)
             return real(file, bytes, some);
@@ -152,9 +167,9 @@ ssize_t read(int file, void *bytes, size_t count)
         real = next("read");
     if (is("one-byte"))
         return real(file, bytes, count ? 1 : 0);
-    if (is("paced") && is_lines(file))
+    if (is_lines(file) && is("paced"))
         return read_line(real, file, bytes, count);
-    if (is("random") && count) {
+    if (count && is("random")) {
         size_t some = some_of(count);
         if (some)
             return real(file, bytes, some);
@@ -180,23 +195,23 @@ int open(const char *path, int flags, ...)
     }
     if (!real)
         real = next("open");
-    if (is("no-root") && !strcmp(path, "/")) {
+    if (!strcmp(path, "/") && is("no-root")) {
         errno = EACCES;
         return -1;
     }
     return real(path, flags, mode);
 }
 
-off_t lseek(int file, off_t offset, int whence)
+ssize_t pread(int file, void *bytes, size_t count, off_t offset)
 {
-    static off_t (*real)(int, off_t, int);
+    static ssize_t (*real)(int, void *, size_t, off_t);
     if (!real)
-        real = next("lseek");
-    if (fails("seek")) {
+        real = next("pread");
+    if (fails("read-at")) {
         errno = EIO;
         return -1;
     }
-    return real(file, offset, whence);
+    return real(file, bytes, count, offset);
 }
 
 int statx(int folder, const char *path, int flags, unsigned int mask, struct statx *told)

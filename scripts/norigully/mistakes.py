@@ -2,6 +2,7 @@
 scripts/check-mistakes, whose head says how they are tried.
 """
 
+import copy
 import functools
 import re
 import shutil
@@ -22,11 +23,12 @@ class DoesNotApply(Exception):
 
 
 class Mistake:
-    """A mistake: its crate, its name, the functions that are wrong by it, and each `old:` and `new:` with its file."""
+    """A mistake: its crate, its name, the functions that are wrong by it, and each `old:` and `new:` with its file.
+    Where it has a line `right:`, the edits of its twin have that text in the place of the `new:` above it."""
 
     def __init__(self, crate, edit):
         self.crate, self.name, self.edits, self.functions = crate, f"{crate.name}/{edit.stem}", [], set()
-        self.text, path, old = edit.read_bytes(), None, None
+        self.text, self.right_edits, path, old = edit.read_bytes(), [], None, None
         for line in self.text.decode().splitlines():
             kind, _, rest = line.partition(":")
             if kind == "file":
@@ -37,6 +39,9 @@ class Mistake:
                 old = rest.removeprefix(" ")
             elif kind == "new" and path and old:
                 self.edits.append((path, old, rest.removeprefix(" ")))
+                self.right_edits.append(self.edits[-1])
+            elif kind == "right" and self.edits:
+                self.right_edits[-1] = (*self.edits[-1][:2], rest.removeprefix(" "))
             elif line.strip():
                 raise DoesNotApply(f"{self.name}: no mistake has this line: {line}")
         found = set()
@@ -44,6 +49,14 @@ class Mistake:
         self.functions = self.functions or {self.known(it) for it in found}
         # The copy of its function that it is made in, if it is not made in the function itself.
         self.copy = None
+
+    def twin(self):
+        """The same change with the right text, by which no function is wrong; None where no line says it."""
+        if self.right_edits == self.edits:
+            return None
+        twin = copy.copy(self)
+        twin.name, twin.edits, twin.copy = f"{self.name}, right", self.right_edits, None
+        return twin
 
     def tried(self):
         """The functions of which the prover is to refuse one."""

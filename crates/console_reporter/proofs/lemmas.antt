@@ -1,5 +1,6 @@
 pub mod Calls
 pub mod Earlier
+pub mod EndsWell
 pub mod Exactness
 pub mod Independence
 pub mod Isolation

@@ -2,6 +2,7 @@ pub mod Accepted
 pub mod Uninterrupted
 pub mod ColourLaw
 pub mod Configuration
+pub mod EndsWell
 pub mod Exactness
 pub mod HeldState
 pub mod Isolation

@@ -9,7 +9,7 @@ pub use Rattle.console_reporter.specs.declared.{error.ReportError.ReportError, i
 pub use Rattle.console_reporter.specs.Accepted.{AreAccepted, IsAccepted, decider_of, refusal_at}
 pub use Rattle.console_reporter.specs.Stored.{record_of, records, stored, stored_at, stored_text}
 pub use Rattle.console_reporter.specs.{ReportErrors.error_of_io, ReportErrors.error_of_run, ReportErrors.error_of_write}
-pub use Rattle.console_reporter.specs.{ColourLaw.ColourLaw, ColourLaw.in_colour, Isolation.IsIsolated, Runs.Runs, Runs.absent, PlainLaw.IsPlainReport, PlainLaw.PlainLaw, Statistics.IsStatsIndependent, Statistics.with_stats}
+pub use Rattle.console_reporter.specs.{ColourLaw.ColourLaw, ColourLaw.in_colour, EndsWell.EndsWell, Isolation.IsIsolated, Runs.Runs, Runs.absent, PlainLaw.IsPlainReport, PlainLaw.PlainLaw, Statistics.IsStatsIndependent, Statistics.with_stats}
 pub use Rattle.console_reporter.specs.Outcomes.{HasFront, IsOfConsole, Side, Stops, error_for}
 pub use Rattle.console_reporter.specs.{OrderIndependence.AreOfOneKey, OrderIndependence.IsOrderIndependent, OrderIndependence.entry_after, Outcomes.Side.Records, Outcomes.Side.Report}
 pub use Rattle.console_reporter.specs.PlainCalls.{ArePlain, IsPlainCall, IsPlainConfiguration, IsPlainKind}

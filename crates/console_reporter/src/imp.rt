@@ -17,7 +17,10 @@ pub use reporter::{ConsoleReporter, DisplayReporter};
 pub use reporter_state::decider::{OutputLoadDecider, first_refused};
 pub use reporter_state::faults::{RunFault, WriteEventError};
 pub use reporter_state::kept::one_final_order;
-pub use run::{give_back, run_report, run_report_with_store, texts_make_the_report};
+pub use run::{
+    give_back, run_report, run_report_with_store, runs_end_well, runs_with_store_end_well,
+    texts_make_the_report,
+};
 pub use run_model::call::ReportCall;
 pub use store::Store;
 pub use store_text::config::StoreConfig;

@@ -1,6 +1,6 @@
 //! The tests of lines that no scene reaches: a scene cannot spell them, or the program never asks for them. Lines that a scene
 //! reaches are cases of `cases/printed`, with the bytes that nextest printed. The tests are of the crates `text_parts` and `test_text` (in
-//! `event`) and `info_text` (in `info`), a file for each of their modules. They have their own crate because a crate with tests is
+//! `event`), `info_text` (in `info`) and `run_text` (in `run`), a file for each of their modules. They have their own crate because a crate with tests is
 //! proved twice.
 #![tactic(auto)]
 
@@ -8,5 +8,7 @@
 mod event;
 #[cfg(test)]
 mod info;
+#[cfg(test)]
+mod run;
 #[cfg(test)]
 mod testing;

@@ -1,9 +1,10 @@
-//! What the tests share: what a reporter goes by.
+//! What the tests share: what a reporter goes by, and the assertion, which is proved anew wherever it stands.
 
 use run_model::config::{CompiledDefaultFilter, CompiledDefaultFilterSection, NextestRunMode};
 use run_model::level::{FinalStatusLevel, StatusLevel};
 use run_model::name::ProfileName;
 use std::alloc::Global;
+use std::process::Abort;
 use std::test::Fail;
 use text_parts::settings::{Settings, overrides_for, styles_for, theme_for};
 use unit_report::config::StatusLevels;
@@ -33,4 +34,9 @@ pub fn settings(alloc: Global, should_colorize: bool) -> Result<Settings, Fail> 
         no_capture: false,
         verbose: false,
     })
+}
+
+/// A text is the wanted one.
+pub fn expect_text(rt: &impl Abort, shown: &str, want: &str) {
+    assert_eq!(rt; shown, want);
 }

@@ -1,5 +1,6 @@
 //! Lines of a recorded run, the outputs that are stored of them, and their loading.
 
+use crate::testing::{expect_bytes, expect_count, expect_row, expect_text};
 use recorded::{LoadFault, Metered, RecordedOutputs, StreamFault};
 use run_model::output::{ChildOutputDescription, ChildSingleOutput};
 use scene_fields::stored::{PlacedOutput, StoredOutput, StreamField};
@@ -76,14 +77,10 @@ fn notes_references_of_lines(rt: HostRuntime) -> Result<(), Fail> {
         let value = read.read_recorded(alloc, line.as_str().as_bytes())?;
         read.push(value)?;
         let outputs = &read.stored;
-        assert_eq!(rt; (read.run.events.len(), read.next), (1, 2), "of {short}");
-        assert_eq!(rt; outputs.len(), places.len(), "of {short}");
+        let is_pushed = read.run.events.len() == 1 && read.next == 2;
+        expect_row(&rt, is_pushed && outputs.len() == places.len(), short);
         for (output, (place, field)) in outputs.iter().zip(places.iter()) {
-            assert_eq!(rt;
-                (output.place, output.field),
-                (*place, *field),
-                "of {short}"
-            );
+            expect_row(&rt, output.place == *place && output.field == *field, short);
         }
     }
     Ok(())
@@ -105,13 +102,9 @@ fn reads_other_lines_as_those_of_a_scene(rt: HostRuntime) -> Result<(), Fail> {
             }
             Err(fault) => Err(fault),
         };
-        assert_eq!(rt; told, plain.read_more(alloc, line), "of {short}");
-        assert!(rt; recorded.stored.is_empty(), "of {short}");
-        assert_eq!(rt;
-            recorded.run.events.len(),
-            plain.run.events.len(),
-            "of {short}"
-        );
+        expect_row(&rt, told == plain.read_more(alloc, line), short);
+        let is_same = recorded.run.events.len() == plain.run.events.len();
+        expect_row(&rt, recorded.stored.is_empty() && is_same, short);
     }
     Ok(())
 }
@@ -140,12 +133,12 @@ fn loads_outputs(rt: HostRuntime) -> Result<(), Fail> {
             }
             _ => return Err(Fail::from("two streams")),
         }
-        assert_eq!(rt; outputs.bytes_read(), count);
+        expect_count(&rt, outputs.bytes_read(), count, first);
     }
     let stored = StoredOutput::read("comb", FAILED, "-").ok_or("an output")?;
     match RecordedOutputs::new(Metered::new(OUTPUTS))?.load_output(alloc, &stored) {
         Ok(ChildOutputDescription::Combined { output }) => {
-            assert_eq!(rt; output.as_bytes(), b"failed\n".as_slice());
+            expect_bytes(&rt, output.as_bytes(), b"failed\n", FAILED);
         }
         _ => return Err(Fail::from("one stream")),
     }
@@ -202,15 +195,19 @@ fn tells_which_stream_is_damaged(rt: HostRuntime) -> Result<(), Fail> {
         let output = StoredOutput::read(form, first, second).ok_or("an output")?;
         let mut outputs = RecordedOutputs::new(Metered::new(OUTPUTS))?;
         let loaded = outputs.load_output(rt.alloc(), &output);
-        assert_eq!(rt; loaded.err(), Some(StreamFault { stream, fault }));
-        assert_eq!(rt; outputs.bytes_read(), count);
+        expect_row(
+            &rt,
+            loaded.err() == Some(StreamFault { stream, fault }),
+            first,
+        );
+        expect_count(&rt, outputs.bytes_read(), count, first);
         let placed = PlacedOutput {
             place: 0,
             field: 14,
             output,
         };
         let field = if stream == StreamField::First { 14 } else { 15 };
-        assert_eq!(rt; placed.field_of(stream), field);
+        expect_row(&rt, placed.field_of(stream) == field, first);
     }
     Ok(())
 }
@@ -225,7 +222,7 @@ fn a_fault_of_a_stream_has_the_words_of_its_fault(rt: HostRuntime) -> Result<(),
     for (fault, words) in faults {
         for stream in [StreamField::First, StreamField::Second] {
             let told = StreamFault { stream, fault };
-            assert_eq!(rt; told.to_string(rt.alloc())?.as_str(), words);
+            expect_text(&rt, told.to_string(rt.alloc())?.as_str(), words);
         }
     }
     Ok(())

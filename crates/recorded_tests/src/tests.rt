@@ -2,6 +2,7 @@
 
 pub mod sources;
 
+use crate::testing::{expect_bytes, expect_count, expect_row, expect_text};
 use recorded::{LoadFault, Metered, ReadAt, RecordedOutputs, Source};
 use scene_fields::reference::{Reference, read_reference};
 use sources::{Failing, Growing, Shortened};
@@ -49,14 +50,23 @@ fn reference(field: &str) -> Result<Reference, Fail> {
 
 #[test]
 fn reads_references(rt: HostRuntime) -> Result<(), Fail> {
-    let first = reference(STREAMS[0].0)?;
-    assert_eq!(rt; (first.offset, first.len), (0, 7));
-    assert_eq!(rt; &first.sum, b"\x62\xcd\x0a\x58\x5d\xc2\xfe\x91");
-    let zeros = reference("\\@0070:007:0000000000000000")?;
-    assert_eq!(rt; (zeros.offset, zeros.len), (70, 7));
-    assert_eq!(rt; &zeros.sum, &[0; 8]);
-    let greatest = reference(PAST_END[4])?;
-    assert_eq!(rt; (greatest.offset, greatest.len), (u64::MAX, usize::MAX));
+    for (field, offset, len, sum) in [
+        (STREAMS[0].0, 0, 7, b"\x62\xcd\x0a\x58\x5d\xc2\xfe\x91"),
+        ("\\@0070:007:0000000000000000", 70, 7, &[0; 8]),
+        (
+            PAST_END[4],
+            u64::MAX,
+            usize::MAX,
+            b"\xd1\xfb\xa7\x62\x15\x0c\x53\x2c",
+        ),
+    ] {
+        let read = reference(field)?;
+        expect_row(
+            &rt,
+            read.offset == offset && read.len == len && read.sum == *sum,
+            field,
+        );
+    }
     Ok(())
 }
 
@@ -93,49 +103,64 @@ fn refuses_what_is_no_reference(rt: HostRuntime) {
         "\\@0:0:0:d1fba762150c532c",
     ];
     for field in fields {
-        assert_eq!(rt; read_reference(field), None, "of {field}");
+        expect_row(&rt, read_reference(field).is_none(), field);
     }
 }
 
-// The results of loading each of these references from the outputs, and that the reads are counted.
+// A reference that is loaded from the outputs, and that the reads are counted.
+fn expect_stream<O: ReadAt + Drop>(
+    rt: &impl Abort,
+    alloc: Global,
+    outputs: &mut RecordedOutputs<O>,
+    field: &str,
+    stream: &[u8],
+) -> Result<(), Fail> {
+    let reference = reference(field)?;
+    expect_row(rt, outputs.holds(&reference)?, field);
+    let before = outputs.bytes_read();
+    let loaded = outputs.load(alloc, &reference)?;
+    expect_bytes(rt, loaded.as_slice(), stream, field);
+    let read = outputs.bytes_read().saturating_sub(before);
+    expect_count(rt, read, stream.len() as u64, field);
+    Ok(())
+}
+
+// One that is not: nothing is read past the end, and all of what has another sum.
+fn expect_no_stream<O: ReadAt + Drop>(
+    rt: &impl Abort,
+    alloc: Global,
+    outputs: &mut RecordedOutputs<O>,
+    field: &str,
+    fault: LoadFault,
+) -> Result<(), Fail> {
+    let reference = reference(field)?;
+    let before = outputs.bytes_read();
+    let is_past = fault == LoadFault::PastEnd;
+    expect_row(rt, outputs.holds(&reference)? != is_past, field);
+    expect_row(
+        rt,
+        fault_of(alloc, outputs, &reference) == Some(fault),
+        field,
+    );
+    let want = if is_past { 0 } else { reference.len as u64 };
+    expect_count(rt, outputs.bytes_read().saturating_sub(before), want, field);
+    Ok(())
+}
+
+// The results of loading each of these references from the outputs.
 fn check_loads<O: ReadAt + Drop>(
     rt: &impl Abort,
     alloc: Global,
     outputs: &mut RecordedOutputs<O>,
 ) -> Result<(), Fail> {
     for (field, stream) in STREAMS {
-        let reference = reference(field)?;
-        assert!(rt; outputs.holds(&reference)?, "of {field}");
-        let before = outputs.bytes_read();
-        let loaded = outputs.load(alloc, &reference)?;
-        assert_eq!(rt; loaded.as_slice(), stream);
-        assert_eq!(rt;
-            outputs.bytes_read().checked_sub(before),
-            Some(stream.len() as u64)
-        );
+        expect_stream(rt, alloc, outputs, field, stream)?;
     }
     for field in PAST_END {
-        let reference = reference(field)?;
-        let before = outputs.bytes_read();
-        assert!(rt; !outputs.holds(&reference)?, "of {field}");
-        assert_eq!(rt;
-            fault_of(alloc, outputs, &reference),
-            Some(LoadFault::PastEnd)
-        );
-        assert_eq!(rt; outputs.bytes_read(), before);
+        expect_no_stream(rt, alloc, outputs, field, LoadFault::PastEnd)?;
     }
     for field in WRONG_SUM {
-        let reference = reference(field)?;
-        let before = outputs.bytes_read();
-        assert!(rt; outputs.holds(&reference)?, "of {field}");
-        assert_eq!(rt;
-            fault_of(alloc, outputs, &reference),
-            Some(LoadFault::WrongSum)
-        );
-        assert_eq!(rt;
-            outputs.bytes_read().checked_sub(before),
-            Some(reference.len as u64)
-        );
+        expect_no_stream(rt, alloc, outputs, field, LoadFault::WrongSum)?;
     }
     Ok(())
 }
@@ -180,7 +205,8 @@ fn loads_from_a_file(rt: HostRuntime) -> Result<(), Fail> {
     // What was cut off is missed by the read: the length is asked for no more.
     written.set_len(9)?;
     let cut = fault_of(alloc, &mut outputs, &reference(STREAMS[1].0)?);
-    assert_eq!(rt; cut, Some(LoadFault::CannotRead(ErrorKind::UnexpectedEof)));
+    let is_missed = cut == Some(LoadFault::CannotRead(ErrorKind::UnexpectedEof));
+    expect_row(&rt, is_missed, "a file that was cut off");
     Ok(())
 }
 
@@ -199,12 +225,13 @@ fn a_folder_gives_no_stream(rt: HostRuntime) -> Result<(), Fail> {
     let folder = File::open(&rt, env::temp_dir(&rt)?.as_path())?;
     let mut outputs = RecordedOutputs::new(Metered::new(folder))?;
     for field in [STREAMS[0].0, STREAMS[2].0, PAST_END[2], PAST_END[3]] {
-        assert!(rt;
+        expect_row(
+            &rt,
             outputs.load(rt.alloc(), &reference(field)?).is_err(),
-            "of {field}"
+            field,
         );
     }
-    assert_eq!(rt; outputs.bytes_read(), 0);
+    assert!(rt; outputs.bytes_read() == 0);
     Ok(())
 }
 
@@ -215,7 +242,13 @@ fn asks_anew_how_many_bytes_there_are(rt: HostRuntime) -> Result<(), Fail> {
     assert!(rt; outputs.holds(&first)?);
     // It knows by now that the first is there, and asks for the second alone.
     assert!(rt; outputs.holds(&first)? && !outputs.holds(&second)?);
-    assert_eq!(rt; outputs.load(rt.alloc(), &second)?.as_slice(), STREAMS[1].1);
+    let (field, stream) = STREAMS[1];
+    expect_bytes(
+        &rt,
+        outputs.load(rt.alloc(), &second)?.as_slice(),
+        stream,
+        field,
+    );
     assert!(rt; outputs.holds(&first)? && outputs.holds(&second)?);
     Ok(())
 }
@@ -237,25 +270,23 @@ fn use_failing(
 #[test]
 fn tells_of_each_call_that_fails(rt: HostRuntime) -> Result<(), Fail> {
     let [first, past] = [reference(STREAMS[0].0)?, reference(PAST_END[0])?];
-    for kind in [
-        ErrorKind::Other,
-        ErrorKind::OutOfMemory,
-        ErrorKind::Interrupted,
+    for (kind, row) in [
+        (ErrorKind::Other, "other"),
+        (ErrorKind::OutOfMemory, "out of memory"),
+        (ErrorKind::Interrupted, "interrupted"),
     ] {
         // There are four calls: two questions and two reads.
-        for calls in 0..5 {
+        for calls in 0..4 {
             let source = Failing::new(OUTPUTS, calls, kind);
-            let want = if calls < 4 {
-                Err(LoadFault::CannotRead(kind))
-            } else {
-                Ok(14)
-            };
-            assert_eq!(rt;
-                use_failing(rt.alloc(), source, &first, &past),
-                want,
-                "after {calls}"
-            );
+            let used = use_failing(rt.alloc(), source, &first, &past);
+            expect_row(&rt, used == Err(LoadFault::CannotRead(kind)), row);
         }
+        let source = Failing::new(OUTPUTS, 4, kind);
+        expect_row(
+            &rt,
+            use_failing(rt.alloc(), source, &first, &past) == Ok(14),
+            row,
+        );
     }
     Ok(())
 }
@@ -269,20 +300,21 @@ fn a_call_that_fails_leaves_the_outputs_as_they_were(rt: HostRuntime) -> Result<
         ErrorKind::Other,
     )))?;
     assert!(rt; outputs.load(rt.alloc(), &first).is_err());
-    assert_eq!(rt; outputs.bytes_read(), 0);
+    assert!(rt; outputs.bytes_read() == 0);
     check_loads(&rt, rt.alloc(), &mut outputs)
 }
 
 #[test]
 fn bytes_that_are_told_and_missing_are_an_error(rt: HostRuntime) -> Result<(), Fail> {
+    let (field, missing) = (
+        STREAMS[0].0,
+        LoadFault::CannotRead(ErrorKind::UnexpectedEof),
+    );
     for there in 0..7 {
         let mut outputs = RecordedOutputs::new(Metered::new(Shortened::new(OUTPUTS, there)))?;
-        let fault = fault_of(rt.alloc(), &mut outputs, &reference(STREAMS[0].0)?);
-        assert_eq!(rt;
-            fault,
-            Some(LoadFault::CannotRead(ErrorKind::UnexpectedEof))
-        );
-        assert_eq!(rt; outputs.bytes_read(), 0);
+        let fault = fault_of(rt.alloc(), &mut outputs, &reference(field)?);
+        expect_row(&rt, fault == Some(missing), field);
+        expect_count(&rt, outputs.bytes_read(), 0, field);
     }
     Ok(())
 }
@@ -299,7 +331,7 @@ fn a_fault_has_its_words(rt: HostRuntime) -> Result<(), Fail> {
         (LoadFault::OutOfMemory, "out of memory"),
     ];
     for (fault, words) in faults {
-        assert_eq!(rt; fault.to_string(rt.alloc())?.as_str(), words);
+        expect_text(&rt, fault.to_string(rt.alloc())?.as_str(), words);
     }
     Ok(())
 }

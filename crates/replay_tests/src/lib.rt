@@ -3,3 +3,5 @@
 
 #[cfg(test)]
 mod runs;
+#[cfg(test)]
+mod testing;

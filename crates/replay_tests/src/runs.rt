@@ -1,5 +1,6 @@
 //! Recorded runs that are replayed, with what is read of their outputs.
 
+use crate::testing::{expect_bytes, expect_row, expect_text};
 use recorded::{Metered, RecordedOutputs, RecordedRun, Source};
 use run_model::level::StatusLevel;
 use scenes::args::{Options, StoreOptions};
@@ -103,9 +104,9 @@ fn reads_what_is_shown_or_stored(rt: HostRuntime) -> Result<(), Fail> {
     ];
     let lines = lines_with(alloc, PASSED, FAILED)?;
     let inline = lines_with(alloc, "passed\\n", "failed\\n")?;
-    for (options, bytes_read) in rows {
+    for (row, (options, bytes_read)) in rows.into_iter().enumerate() {
         let replayed = replay(alloc, &options, lines.as_str(), OUTPUTS)?;
-        assert_eq!(rt; replayed.bytes_read, bytes_read);
+        expect_row(&rt, replayed.bytes_read == bytes_read, row);
         let shown = Options {
             is_replay: true,
             ..options
@@ -117,9 +118,10 @@ fn reads_what_is_shown_or_stored(rt: HostRuntime) -> Result<(), Fail> {
             Vec::new(alloc),
             Vec::new(alloc),
         );
-        assert!(rt; outcome? == RunOutcome::Failed && replayed.outcome? == RunOutcome::Failed);
-        assert_eq!(rt; replayed.printed.as_slice(), printed.as_slice());
-        assert_eq!(rt; replayed.stored.as_slice(), stored.as_slice());
+        let is_failed = outcome? == RunOutcome::Failed && replayed.outcome? == RunOutcome::Failed;
+        expect_row(&rt, is_failed, row);
+        expect_bytes(&rt, replayed.printed.as_slice(), printed.as_slice());
+        expect_bytes(&rt, replayed.stored.as_slice(), stored.as_slice());
     }
     Ok(())
 }
@@ -143,7 +145,7 @@ fn tells_damaged_outputs_by_line_and_field(rt: HostRuntime) -> Result<(), Fail> 
     ];
     let whole = lines_with(alloc, PASSED, FAILED)?;
     let report = replay(alloc, &OPTIONS, whole.as_str(), OUTPUTS)?.printed;
-    for (passed, failed, bad) in rows {
+    for (row, (passed, failed, bad)) in rows.into_iter().enumerate() {
         let lines = lines_with(alloc, passed, failed)?;
         let replayed = replay(alloc, &OPTIONS, lines.as_str(), OUTPUTS)?;
         let fault = match replayed.outcome {
@@ -156,10 +158,8 @@ fn tells_damaged_outputs_by_line_and_field(rt: HostRuntime) -> Result<(), Fail> 
             ) => Some((line, field)),
             Err(_) => return Err(Fail::from("another fault")),
         };
-        assert_eq!(rt; fault, bad);
-        if bad.is_some() {
-            assert!(rt; report.as_slice().starts_with(replayed.printed.as_slice()));
-        }
+        let is_front = report.as_slice().starts_with(replayed.printed.as_slice());
+        expect_row(&rt, fault == bad && (is_front || bad.is_none()), row);
     }
     Ok(())
 }
@@ -178,16 +178,13 @@ fn takes_a_line_that_was_cut_for_none(rt: HostRuntime) -> Result<(), Fail> {
         };
         let replayed = replay(alloc, &OPTIONS, cut, OUTPUTS)?;
         let of_whole_lines = replay(alloc, &OPTIONS, kept, OUTPUTS)?;
-        assert!(rt; replayed.outcome? == RunOutcome::NotEnded);
-        assert_eq!(rt;
-            replayed.printed.as_slice(),
-            of_whole_lines.printed.as_slice()
-        );
-        assert!(rt;
-            whole
-                .printed
-                .as_slice()
-                .starts_with(replayed.printed.as_slice())
+        let printed = replayed.printed.as_slice();
+        let is_front = whole.printed.as_slice().starts_with(printed);
+        expect_bytes(&rt, printed, of_whole_lines.printed.as_slice());
+        expect_row(
+            &rt,
+            is_front && replayed.outcome? == RunOutcome::NotEnded,
+            end,
         );
     }
     Ok(())
@@ -221,15 +218,18 @@ fn tells_that_outputs_cannot_be_read(rt: HostRuntime) -> Result<(), Fail> {
         (ErrorKind::UnexpectedEof, "report: cannot read DIR", 2),
         (ErrorKind::OutOfMemory, "report: out of memory", 3),
     ];
-    for (kind, line, status) in kinds {
+    for (row, (kind, line, status)) in kinds.into_iter().enumerate() {
         let replayed = replay(alloc, &OPTIONS, lines.as_str(), Unreadable { kind })?;
         let Err(fault) = replayed.outcome else {
             return Err(Fail::from("the read fails"));
         };
-        assert_eq!(rt; fault.to_string(alloc)?.as_str(), line);
-        assert_eq!(rt; fault.status(), status);
-        assert!(rt; report.as_slice().starts_with(replayed.printed.as_slice()));
-        assert_eq!(rt; replayed.bytes_read, 0);
+        let is_front = report.as_slice().starts_with(replayed.printed.as_slice());
+        expect_text(&rt, fault.to_string(alloc)?.as_str(), line);
+        expect_row(
+            &rt,
+            fault.status() == status && is_front && replayed.bytes_read == 0,
+            row,
+        );
     }
     Ok(())
 }
@@ -273,7 +273,7 @@ fn replays_lines_of_much_of_everything(rt: HostRuntime) -> Result<(), Fail> {
         Vec::new(alloc),
     );
     assert!(rt; outcome? == RunOutcome::Failed && replayed.outcome? == RunOutcome::Failed);
-    assert_eq!(rt; replayed.printed.as_slice(), printed.as_slice());
-    assert_eq!(rt; replayed.bytes_read, 7);
+    expect_bytes(&rt, replayed.printed.as_slice(), printed.as_slice());
+    assert!(rt; replayed.bytes_read == 7);
     Ok(())
 }

@@ -3,4 +3,6 @@
 #![tactic(auto)]
 
 #[cfg(test)]
+mod testing;
+#[cfg(test)]
 mod tests;

@@ -1,6 +1,7 @@
 //! The program over scenes and writers in memory.
 
 use self::pieces::push_often;
+use crate::testing::{expect_row, expect_text};
 use run_model::level::StatusLevel;
 use scenes::args::{Options, StoreOptions, words};
 use scenes::fault::{Fault, FaultLine, LineFault, ReadFault, ReportProgram};
@@ -8,6 +9,7 @@ use scenes::follow::{RunOutcome, follow_scene};
 use scenes::report::{judge, report_scene, write_report};
 use std::alloc::{AllocError, Global};
 use std::io::{ErrorKind, Read, Write};
+use std::process::Abort;
 use std::test::Fail;
 use std::{io, mem};
 use store_text::config::StoreConfig;
@@ -17,6 +19,7 @@ mod growths;
 mod pieces;
 mod plain;
 mod stores;
+mod worked;
 
 const DONE: &str =
     "done\t-\talpha\tt1\tnever\tnever\tpass\tinitial=2 finished=1 passed=1\t1\tpass\t5000000\t0\tsplit\t\t\t-\t-";
@@ -148,6 +151,19 @@ fn fault_of_judging<R: Read + Drop>(alloc: Global, reader: R) -> Option<Fault<'s
     }
 }
 
+// The status of a fault, and the line that reports it.
+fn expect_fault(
+    rt: &impl Abort,
+    alloc: Global,
+    fault: &Fault<'_>,
+    status: u8,
+    line: &str,
+) -> Result<(), Fail> {
+    expect_text(rt, fault.to_string(alloc)?.as_str(), line);
+    expect_row(rt, fault.status() == status, line);
+    Ok(())
+}
+
 #[test]
 fn writes_the_report_and_stops_where_the_device_fails(rt: HostRuntime) -> Result<(), Fail> {
     let alloc = rt.alloc();
@@ -163,8 +179,7 @@ fn writes_the_report_and_stops_where_the_device_fails(rt: HostRuntime) -> Result
     let Err(fault) = judge_and_write(alloc, &STORING, TWO_TESTS, &mut device, &mut unstored) else {
         return Err(Fail::from("the device failed"));
     };
-    assert_eq!(rt; fault.to_string(alloc)?.as_str(), "report: write failed");
-    assert_eq!(rt; fault.status(), 3);
+    expect_fault(&rt, alloc, &fault, 3, "report: write failed")?;
     assert!(rt; device.taken() == b"----------".as_slice() && unstored.taken().is_empty());
     Ok(())
 }
@@ -287,12 +302,14 @@ fn tells_why_a_file_is_not_read(rt: HostRuntime) -> Result<(), Fail> {
             let judged = fault_of_judging(alloc, reader());
             // It says once behind the last byte, and once more, that nothing is left.
             let is_read = reads_before > text.len().div_ceil(7) + 1;
-            assert_eq!(rt; outcome.is_ok(), is_read);
-            assert_eq!(rt; judged.is_none(), is_read);
+            expect_row(
+                &rt,
+                outcome.is_ok() == is_read && judged.is_none() == is_read,
+                line,
+            );
             for fault in [outcome.err(), judged].into_iter().flatten() {
-                assert_eq!(rt; fault.to_string(alloc)?.as_str(), line);
-                assert_eq!(rt; fault.status(), status);
-                assert!(rt; printed.is_empty() && stored.is_empty());
+                expect_fault(&rt, alloc, &fault, status, line)?;
+                expect_row(&rt, printed.is_empty() && stored.is_empty(), line);
             }
         }
     }
@@ -429,16 +446,16 @@ fn tells_each_fault(rt: HostRuntime) -> Result<(), Fail> {
         (Fault::OutOfMemory, 3, "report: out of memory"),
     ];
     for (fault, status, line) in faults {
-        assert_eq!(rt; fault.to_string(rt.alloc())?.as_str(), line);
-        assert_eq!(rt; fault.status(), status);
+        expect_fault(&rt, rt.alloc(), &fault, status, line)?;
     }
     let follow = FaultLine {
         program: ReportProgram::Follow,
         fault: Fault::Usage,
     };
-    assert_eq!(rt;
+    expect_text(
+        &rt,
         follow.to_string(rt.alloc())?.as_str(),
-        "follow: usage: follow [--color] [--counter] [--replay] [--unload] [--level L] [--store PATH] [--store-success] [--store-failure] [FILE]"
+        "follow: usage: follow [--color] [--counter] [--replay] [--unload] [--level L] [--store PATH] [--store-success] [--store-failure] [FILE]",
     );
     Ok(())
 }
@@ -462,13 +479,15 @@ fn tells_what_is_wrong_with_a_line(rt: HostRuntime) -> Result<(), Fail> {
     ];
     for (fault, line) in faults {
         let read = ReadFault::Line { line: 3, fault };
-        assert_eq!(rt; read.to_string(rt.alloc())?.as_str(), line);
+        expect_text(&rt, read.to_string(rt.alloc())?.as_str(), line);
         let shown = Fault::from(read).to_string(rt.alloc())?;
-        assert_eq!(rt; shown.as_str().strip_prefix("report: "), Some(line));
+        expect_text(
+            &rt,
+            shown.as_str().strip_prefix("report: ").unwrap_or(""),
+            line,
+        );
     }
-    assert_eq!(rt;
-        ReadFault::OutOfMemory.to_string(rt.alloc())?.as_str(),
-        "out of memory"
-    );
+    let refused = ReadFault::OutOfMemory.to_string(rt.alloc())?;
+    expect_text(&rt, refused.as_str(), "out of memory");
     Ok(())
 }

@@ -1,4 +1,5 @@
 pub mod Devices
+pub mod EndsWell
 pub mod FollowedRuns
 pub mod NothingStored
 pub mod PlainReports

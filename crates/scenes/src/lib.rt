@@ -3,6 +3,7 @@
 //! One module a concern:
 //!
 //! - `report` is the whole way from a file's bytes to those of its report and its records; `follow` is the same line by line.
+//! - `ends_well` says what is left to stop a report of which no line is wrong.
 //! - `read` reads the lines of a source, `scene` is a run that was read, and `plain` is its report without a check of its own.
 //! - `reporter` builds the reporter of a scene, `scene_reporter` makes its calls, and `outcome` is what they say of the run.
 //! - `devices` puts a buffer before each device, and `deferred` delivers at the end what a buffer still holds.
@@ -13,6 +14,7 @@
 
 mod deferred;
 mod devices;
+pub mod ends_well;
 pub mod follow;
 mod outcome;
 mod plain;

@@ -7,6 +7,8 @@
 #[cfg(test)]
 mod model;
 #[cfg(test)]
+mod testing;
+#[cfg(test)]
 mod text;
 #[cfg(test)]
 mod unit;

@@ -27,7 +27,7 @@ use writers::write_str::WriteStr;
 /// let surroundings = Surroundings { use_unicode: true, ..Surroundings::default() };
 /// assert!(!surroundings.is_terminal);
 /// ```
-#[derive(Clone, Copy, Default, PartialEq, Eq)]
+#[derive(Clone, Copy, Debug, Default, PartialEq, Eq)]
 pub struct Surroundings {
     /// Whether bars are drawn with characters beyond ASCII.
     pub use_unicode: bool,

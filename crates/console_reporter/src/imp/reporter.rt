@@ -455,7 +455,7 @@ fn deliver_header<W: WriteStr>(
     ensures delivered { OnOk result (W.meaning.is_delivered w.new) }
 {
     write_replay_header(w, &settings.styles, header)?;
-    w.write_str_flush()
+    deliver(w)
 }
 
 fn write_delivered<W: WriteStr>(
@@ -470,5 +470,12 @@ fn write_delivered<W: WriteStr>(
     ensures delivered { OnOk result (W.meaning.is_delivered w.new) }
 {
     write_event_text(w, state, event, finished)?;
+    deliver(w)
+}
+
+fn deliver<W: WriteStr>(w: &mut W) -> Result<(), WriteFault>
+    ensures text { Puts W.meaning w.old [] result w.new }
+    ensures delivered { OnOk result (W.meaning.is_delivered w.new) }
+{
     w.write_str_flush()
 }

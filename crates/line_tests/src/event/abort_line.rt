@@ -1,5 +1,7 @@
 //! The line after the line of a test that was ended from outside. A status of a scene always has a message.
 
+use crate::testing::expect_text;
+use report_text::helpers::display_abort_status;
 use run_model::abort::AbortDescription;
 use run_model::boxed::Boxed;
 use run_model::status::{ExecutionResultDescription, FailureDescription};
@@ -14,6 +16,8 @@ fn a_status_may_have_no_message(rt: HostRuntime) -> Result<(), Fail> {
         code: -1_073_741_510,
         message: None,
     };
+    let told = display_abort_status(alloc, &abort)?;
+    expect_text(&rt, told.as_str(), "aborted with code 0xc000013a");
     let outcome = ExecutionResultDescription::Fail {
         failure: FailureDescription::Abort {
             abort: Boxed::new(alloc, abort)?,
@@ -22,6 +26,6 @@ fn a_status_may_have_no_message(rt: HostRuntime) -> Result<(), Fail> {
     };
     let mut text = String::new(alloc);
     write_abort_line(&mut text, &Styles::default(), &outcome)?;
-    assert_eq!(rt; text.as_str(), "           - with code 0xc000013a\n");
+    expect_text(&rt, text.as_str(), "           - with code 0xc000013a\n");
     Ok(())
 }

@@ -3,7 +3,7 @@
 ghost use Rattle.std.specs.Prelude.{◌≡◌, IfOk, true};
 ghost use Rattle.run_model.specs.Outputs.{has_loaded_output};
 
-use crate::testing::settings;
+use crate::testing::{expect_text, settings};
 use bytes::Bytes;
 use run_model::abort::{AbortDescription, DescriptionText};
 use run_model::boxed::Boxed;
@@ -46,9 +46,10 @@ fn a_signal_has_its_name_and_its_leak(rt: HostRuntime) -> Result<(), Fail> {
     };
     let mut text = String::new(alloc);
     write_test_execute_status(&mut text, &settings, false, &outcome, &written(alloc)?)?;
-    assert_eq!(rt;
+    expect_text(
+        &rt,
         text.as_str(),
-        "-- output --\nboom\n\n    (test aborted with signal 9: SIGKILL (leaked handles))\n\n"
+        "-- output --\nboom\n\n    (test aborted with signal 9: SIGKILL (leaked handles))\n\n",
     );
     Ok(())
 }

@@ -1,5 +1,6 @@
 //! The line of a finished test in the summary. No scene reaches one with a bar in the place of its counter.
 
+use crate::testing::expect_text;
 use report_text::helpers::DisplayCounterIndex;
 use run_model::name::{RustBinaryId, TestCaseName, TestInstanceId};
 use run_model::status::{
@@ -56,9 +57,10 @@ fn an_iteration_stands_before_a_bar(rt: HostRuntime) -> Result<(), Fail> {
         &test,
         line,
     )?;
-    assert_eq!(rt;
+    expect_text(
+        &rt,
         text.as_str(),
-        "   FLAKY 2/2 [   2.000s] [2] (\u{2500}\u{2500}\u{2500}\u{2500}\u{2500}\u{2500}\u{2500}\u{2500}\u{2500}) my-binary-id test1\n"
+        "   FLAKY 2/2 [   2.000s] [2] (\u{2500}\u{2500}\u{2500}\u{2500}\u{2500}\u{2500}\u{2500}\u{2500}\u{2500}) my-binary-id test1\n",
     );
     Ok(())
 }

@@ -1,6 +1,6 @@
 //! The line of a unit that waits for its next attempt. In the response of a test its attempt is shown; here it is not.
 
-use crate::testing::settings;
+use crate::testing::{expect_text, settings};
 use info_text::state::{InfoUnit, write_state};
 use run_model::config::NextestRunMode;
 use run_model::info::UnitState;
@@ -33,7 +33,7 @@ fn the_style_of_a_delay_goes_by_its_own_flag(rt: HostRuntime) -> Result<(), Fail
 \x1b[1mnote\x1b[0m:   waited 0.200s so far, will wait another 0.800s before retrying benchmark
 "
         )?;
-        assert_eq!(rt; text.as_str(), want.as_str());
+        expect_text(&rt, text.as_str(), want.as_str());
     }
     Ok(())
 }

@@ -87,8 +87,8 @@ fn each_line_is_read_once(rt: HostRuntime) -> Result<(), Fail> {
                     assert!(rt; is_right && printed.as_slice() == report.as_bytes());
                 }
                 Err((line, fault)) => {
-                    assert!(rt; !is_right && fault == LineFault::UnknownEvent);
-                    assert_eq!(rt; line, 2 * LINES as u64 + 3);
+                    let is_last = line == 2 * LINES as u64 + 3;
+                    assert!(rt; !is_right && fault == LineFault::UnknownEvent && is_last);
                 }
             }
         }

@@ -1,6 +1,7 @@
 //! The two ways to report a scene: by all its calls and `run_report`, and call by call as the programs do it.
 
 use super::{ASKED, CANCELLED, IN_COLOUR, OPTIONS, TWO_TESTS};
+use crate::testing::{expect_row, expect_text};
 use run_model::level::StatusLevel;
 use scenes::args::{Options, StoreOptions};
 use scenes::fault::Fault;
@@ -191,9 +192,9 @@ fn both_ways_print_and_refuse_the_same(rt: HostRuntime) -> Result<(), Fail> {
         let Some(line) = both_ways(alloc, &OPTIONS, text)? else {
             return Err(Fail::from("the two ways differ"));
         };
-        assert_eq!(rt; line.as_str(), refusal);
+        expect_text(&rt, line.as_str(), refusal);
         for options in [&IN_COLOUR, &ALL, &UNLOADING, &STORING_FAILURES] {
-            assert!(rt; both_ways(alloc, options, text)?.is_some());
+            expect_row(&rt, both_ways(alloc, options, text)?.is_some(), text);
         }
     }
     Ok(())

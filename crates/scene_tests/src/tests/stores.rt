@@ -5,6 +5,7 @@ use super::{
     ASKED, CANCELLED, DONE, OF_ASKED, OF_CANCELLED, OF_TWO_TESTS, OPTIONS, STORED_OF_TWO_TESTS,
     STORING, TWO_TESTS, report_and_store,
 };
+use crate::testing::expect_row;
 use scenes::args::Options;
 use scenes::fault::Fault;
 use std::alloc::Global;
@@ -106,7 +107,7 @@ fn each_write_of_either_device_fails_once(rt: HostRuntime) -> Result<(), Fail> {
             (true, Failure::NothingTaken, stores),
             (true, Failure::Error, stores.saturating_add(store_flushes)),
         ] {
-            assert_eq!(rt; run.count(alloc, is_store, failure)?, want);
+            expect_row(&rt, run.count(alloc, is_store, failure)? == want, run.scene);
         }
     }
     Ok(())

@@ -1,5 +1,6 @@
 //! The pieces of a text.
 
+use crate::testing::expect_text;
 use std::test::Fail;
 use styled_text::escapes::{Piece, pieces, strip};
 
@@ -16,7 +17,11 @@ fn hands_out_pieces(rt: HostRuntime) -> Result<(), Fail> {
             marked.push_str(part)?;
         }
     }
-    assert_eq!(rt; marked.as_str(), "(a)<\x1b[1m>(b)<\x1b]0;t\x07><\x1bc>(d)");
-    assert_eq!(rt; strip(rt.alloc(), text)?.as_str(), "abd");
+    expect_text(
+        &rt,
+        marked.as_str(),
+        "(a)<\x1b[1m>(b)<\x1b]0;t\x07><\x1bc>(d)",
+    );
+    expect_text(&rt, strip(rt.alloc(), text)?.as_str(), "abd");
     Ok(())
 }

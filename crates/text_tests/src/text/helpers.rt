@@ -1,5 +1,6 @@
 //! Each form that no scene prints, with the text of nextest, and the greatest numbers.
 
+use crate::testing::expect_text;
 use report_text::helpers::paths::is_relative;
 use report_text::helpers::plural::*;
 use report_text::helpers::*;
@@ -9,6 +10,7 @@ use run_model::name::{OwnedTestInstanceId, ScriptId, TestCaseName};
 use run_model::stress::StressIndex;
 use run_model::time::Nanos;
 use std::alloc::Global;
+use std::process::Abort;
 use std::test::Fail;
 use styled_text::style::{ListStyles, Style};
 
@@ -53,11 +55,15 @@ fn words_are_singular_for_one_alone(rt: HostRuntime) {
     }
 }
 
+fn expect_width(rt: &impl Abort, n: u64, width: usize) {
+    assert_eq!(rt; decimal_char_width(n), width, "of {n}");
+}
+
 #[test]
 fn widths_of_numbers(rt: HostRuntime) {
     // The numbers of nextest-runner's test `test_decimal_char_width`, which has them for three types.
     for (n, width) in [
-        (0u64, 1),
+        (0, 1),
         (1, 1),
         (5, 1),
         (9, 1),
@@ -71,7 +77,7 @@ fn widths_of_numbers(rt: HostRuntime) {
         (10_000_000, 8),
         (11_000_000, 8),
     ] {
-        assert_eq!(rt; decimal_char_width(n), width, "of {n}");
+        expect_width(&rt, n, width);
     }
     let greatest = [
         decimal_char_width(u8::MAX),
@@ -94,7 +100,7 @@ fn durations(rt: HostRuntime) -> Result<(), Fail> {
         (u128::MAX, "5671372782015641057722910123m 51.77s"),
     ] {
         let shown = FormattedDuration(Nanos(nanos)).to_string(rt.alloc())?;
-        assert_eq!(rt; shown.as_str(), text);
+        expect_text(&rt, shown.as_str(), text);
     }
     // Each unit, where it begins and right before the next one does.
     for (nanos, text) in [
@@ -119,7 +125,7 @@ fn durations(rt: HostRuntime) -> Result<(), Fail> {
         (u128::MAX, "10782897524556318080696y"),
     ] {
         let shown = FormattedRelativeDuration(Nanos(nanos)).to_string(rt.alloc())?;
-        assert_eq!(rt; shown.as_str(), text);
+        expect_text(&rt, shown.as_str(), text);
     }
     Ok(())
 }
@@ -127,7 +133,7 @@ fn durations(rt: HostRuntime) -> Result<(), Fail> {
 #[test]
 fn commands(rt: HostRuntime) -> Result<(), Fail> {
     let joined = shell_join(rt.alloc(), &["cargo", "", "it's", "a=b"])?;
-    assert_eq!(rt; joined.as_str(), "cargo '' 'it'\\''s' a=b");
+    expect_text(&rt, joined.as_str(), "cargo '' 'it'\\''s' a=b");
     let args = [String::from_str(rt.alloc(), "an argument")?];
     let script_id = ScriptId::new(rt.alloc(), "s1")?;
     let first = StressIndex {
@@ -143,13 +149,15 @@ fn commands(rt: HostRuntime) -> Result<(), Fail> {
         Style::BoldBlue,
         Style::Plain,
     )?;
-    assert_eq!(rt;
+    expect_text(
+        &rt,
         shown.to_string(rt.alloc())?.as_str(),
-        "[1] \x1b[34;1ms1\x1b[0m: cmd 'an argument'"
+        "[1] \x1b[34;1ms1\x1b[0m: cmd 'an argument'",
     );
-    assert_eq!(rt;
+    expect_text(
+        &rt,
         QuotedDisplay(&"it's").to_string(rt.alloc())?.as_str(),
-        "'it's'"
+        "'it's'",
     );
     Ok(())
 }
@@ -179,7 +187,7 @@ fn ids_of_runs(rt: HostRuntime) -> Result<(), Fail> {
         ),
     ] {
         let (id, warning) = force_or_new_run_id(value, [0; 16]);
-        assert_eq!(rt; id.to_string(rt.alloc())?.as_str(), want);
+        expect_text(&rt, id.to_string(rt.alloc())?.as_str(), want);
         assert!(rt; warning == refused);
     }
     Ok(())
@@ -194,40 +202,53 @@ fn ended_by(alloc: Global, signal: i32, name: Option<&str>) -> Result<AbortDescr
     Ok(AbortDescription::UnixSignal { signal, name })
 }
 
+// What is shown of how a process exits, and of how it aborts.
+fn expect_exit(
+    rt: &impl Abort,
+    alloc: Global,
+    exit: &ExitDescription,
+    want: &str,
+) -> Result<(), Fail> {
+    expect_text(rt, display_exited_with(alloc, exit)?.as_str(), want);
+    if let ExitDescription::Abort(abort) = exit {
+        expect_text(rt, display_abort_status(alloc, abort)?.as_str(), want);
+    }
+    Ok(())
+}
+
 #[test]
 fn how_a_process_exits(rt: HostRuntime) -> Result<(), Fail> {
     let alloc = rt.alloc();
-    let violation = AbortDescription::WindowsNtStatus {
+    let code = ExitDescription::Code(3);
+    expect_exit(&rt, alloc, &code, "exited with exit code 3")?;
+    let unknown = ExitDescription::Unknown;
+    expect_exit(&rt, alloc, &unknown, "exited with an unknown error")
+}
+
+#[test]
+fn how_a_process_aborts(rt: HostRuntime) -> Result<(), Fail> {
+    let alloc = rt.alloc();
+    let greatest = ExitDescription::Abort(ended_by(alloc, i32::MAX, None)?);
+    expect_exit(&rt, alloc, &greatest, "aborted with signal 2147483647")?;
+    let named = ExitDescription::Abort(ended_by(alloc, 11, Some("SEGV"))?);
+    expect_exit(&rt, alloc, &named, "aborted with signal 11 (SIGSEGV)")
+}
+
+#[test]
+fn how_a_process_of_windows_aborts(rt: HostRuntime) -> Result<(), Fail> {
+    let alloc = rt.alloc();
+    let job = ExitDescription::Abort(AbortDescription::WindowsJobObject);
+    expect_exit(&rt, alloc, &job, "terminated via job object")?;
+    let violation = ExitDescription::Abort(AbortDescription::WindowsNtStatus {
         code: -1073741819,
         message: Some(DescriptionText::new(alloc, "Access violation")?),
-    };
-    for (exit, want) in [
-        (ExitDescription::Code(3), "exited with exit code 3"),
-        (ExitDescription::Unknown, "exited with an unknown error"),
-        (
-            ExitDescription::Abort(ended_by(alloc, i32::MAX, None)?),
-            "aborted with signal 2147483647",
-        ),
-        (
-            ExitDescription::Abort(ended_by(alloc, 11, Some("SEGV"))?),
-            "aborted with signal 11 (SIGSEGV)",
-        ),
-        (
-            ExitDescription::Abort(AbortDescription::WindowsJobObject),
-            "terminated via job object",
-        ),
-        (
-            ExitDescription::Abort(violation),
-            "aborted with code 0xc0000005: Access violation",
-        ),
-    ] {
-        let told = display_exited_with(alloc, &exit)?;
-        assert_eq!(rt; told.as_str(), want);
-        if let ExitDescription::Abort(abort) = &exit {
-            assert_eq!(rt; display_abort_status(alloc, abort)?.as_str(), want);
-        }
-    }
-    Ok(())
+    });
+    expect_exit(
+        &rt,
+        alloc,
+        &violation,
+        "aborted with code 0xc0000005: Access violation",
+    )
 }
 
 #[test]
@@ -236,7 +257,7 @@ fn names_of_tests(rt: HostRuntime) -> Result<(), Fail> {
         let name = TestCaseName::new(rt.alloc(), text)?;
         let mut out = String::new(rt.alloc());
         write_test_name(&name, &ListStyles::default(), &mut out)?;
-        assert_eq!(rt; out.as_str(), text);
+        expect_text(&rt, out.as_str(), text);
     }
     Ok(())
 }
@@ -253,36 +274,49 @@ fn an_interceptor_takes_one_test(rt: HostRuntime) -> Result<(), Fail> {
         &ListStyles::default(),
         Style::Plain,
     )?;
-    assert_eq!(rt;
+    expect_text(
+        &rt,
         text.as_str(),
-        "--debugger requires exactly one test, but 3 tests were selected:\n  a t1\n  ... and 2 more tests"
+        "--debugger requires exactly one test, but 3 tests were selected:\n  a t1\n  ... and 2 more tests",
     );
     Ok(())
+}
+
+// How many paths a variable has, and the last of them.
+fn expect_paths(
+    rt: &impl Abort,
+    alloc: Global,
+    value: Option<&str>,
+    count: usize,
+    last: &str,
+) -> Result<(), Fail> {
+    let paths = dylib_path(alloc, value)?;
+    assert!(rt; paths.len() == count);
+    expect_text(rt, paths.last().copied().unwrap_or(""), last);
+    Ok(())
+}
+
+#[test]
+fn paths_of_a_variable(rt: HostRuntime) -> Result<(), Fail> {
+    let alloc = rt.alloc();
+    expect_text(&rt, dylib_path_envvar(), "LD_LIBRARY_PATH");
+    expect_paths(&rt, alloc, None, 0, "")?;
+    expect_paths(&rt, alloc, Some(""), 1, "")?;
+    expect_paths(&rt, alloc, Some("a"), 1, "a")?;
+    expect_paths(&rt, alloc, Some("a::b"), 3, "b")?;
+    expect_paths(&rt, alloc, Some(":a:"), 3, "")
 }
 
 #[test]
 fn paths(rt: HostRuntime) -> Result<(), Fail> {
     let alloc = rt.alloc();
-    assert_eq!(rt; dylib_path_envvar(), "LD_LIBRARY_PATH");
-    for (value, count, last) in [
-        (None, 0, ""),
-        (Some(""), 1, ""),
-        (Some("a"), 1, "a"),
-        (Some("a::b"), 3, "b"),
-        (Some(":a:"), 3, ""),
-    ] {
-        let paths = dylib_path(alloc, value)?;
-        assert_eq!(rt; paths.len(), count);
-        assert_eq!(rt; paths.last().copied().unwrap_or(""), last);
-    }
     assert!(rt; is_relative("a/b") && is_relative("") && !is_relative("/a"));
-    for text in [
-        rel_path_join(alloc, "a", "b/c")?,
-        convert_rel_path_to_forward_slash(alloc, "a/b/c")?,
-        convert_rel_path_to_main_sep(alloc, "a/b/c")?,
-    ] {
-        assert_eq!(rt; text.as_str(), "a/b/c");
-    }
+    let joined = rel_path_join(alloc, "a", "b/c")?;
+    expect_text(&rt, joined.as_str(), "a/b/c");
+    let forward = convert_rel_path_to_forward_slash(alloc, "a/b/c")?;
+    expect_text(&rt, forward.as_str(), "a/b/c");
+    let main = convert_rel_path_to_main_sep(alloc, "a/b/c")?;
+    expect_text(&rt, main.as_str(), "a/b/c");
     Ok(())
 }
 
@@ -302,10 +336,10 @@ fn has_characters(theme: &ThemeCharacters, bar: char, texts: [&str; 5]) -> bool 
 #[test]
 fn characters_of_a_theme(rt: HostRuntime) -> Result<(), Fail> {
     let mut theme = ThemeCharacters::default();
-    assert_eq!(rt; theme.hbar(rt.alloc(), 3)?.as_str(), "---");
+    expect_text(&rt, theme.hbar(rt.alloc(), 3)?.as_str(), "---");
     assert!(rt; has_characters(&theme, '-', ["=> ", "|-", "\\-", "| ", "  "]));
     theme.use_unicode();
-    assert_eq!(rt; theme.hbar(rt.alloc(), 3)?.as_str(), "───");
+    expect_text(&rt, theme.hbar(rt.alloc(), 3)?.as_str(), "───");
     assert!(rt; has_characters(&theme, '─', ["█▉▊▋▌▍▎▏ ", "├─", "└─", "│ ", "  "]));
     Ok(())
 }

@@ -1,5 +1,6 @@
 //! Indented texts: whole, character by character, and in two levels.
 
+use crate::testing::expect_text;
 use std::test::Fail;
 use styled_text::indenter::{DisplayIndented, indented};
 use writers::write_str::{WriteFault, WriteStr};
@@ -34,14 +35,14 @@ fn indents(rt: HostRuntime) -> Result<(), Fail> {
     ] {
         let mut whole = String::new(rt.alloc());
         indented(&mut whole).write_str(text)?;
-        assert_eq!(rt; whole.as_str(), want);
+        expect_text(&rt, whole.as_str(), want);
         let mut pieces = String::new(rt.alloc());
         write_by_characters(&mut pieces, text)?;
-        assert_eq!(rt; pieces.as_str(), want);
+        expect_text(&rt, pieces.as_str(), want);
     }
     let mut two_levels = String::new(rt.alloc());
     write_in_two_levels(&mut two_levels, &["a\n\nb", "c\n"])?;
-    assert_eq!(rt; two_levels.as_str(), "> a\n\n    > bc\n");
+    expect_text(&rt, two_levels.as_str(), "> a\n\n    > bc\n");
     Ok(())
 }
 
@@ -51,9 +52,7 @@ fn displays_indented(rt: HostRuntime) -> Result<(), Fail> {
         item: "one\n\ntwo\n",
         indent: "  ",
     };
-    assert_eq!(rt;
-        format!(in rt.alloc(); "{shown}")?.as_str(),
-        "  one\n\n  two\n"
-    );
+    let shown = format!(in rt.alloc(); "{shown}")?;
+    expect_text(&rt, shown.as_str(), "  one\n\n  two\n");
     Ok(())
 }

@@ -1,6 +1,8 @@
 //! Chunks of lines, and where a highlight ends.
 
+use crate::testing::expect_text;
 use std::alloc::Global;
+use std::process::Abort;
 use std::test::Fail;
 use styled_text::reporter_helpers::{highlight_end, print_lines_in_chunks};
 
@@ -45,16 +47,24 @@ const CHUNKS: [(&str, usize, &str); 16] = [
 #[test]
 fn prints_chunks(rt: HostRuntime) -> Result<(), Fail> {
     for (text, limit, want) in CHUNKS {
-        assert_eq!(rt; chunks(rt.alloc(), text, limit)?.as_str(), want);
+        expect_text(&rt, chunks(rt.alloc(), text, limit)?.as_str(), want);
     }
     // The two rows of long lines of the same test.
     let mut line = "a".repeat(rt.alloc(), 2000)?;
     for end in ["", "\n"] {
         line.push_str(end)?;
         let chunks = chunks(rt.alloc(), line.as_str(), 1024)?;
-        assert_eq!(rt; chunks.as_str().strip_suffix("|"), Some(line.as_str()));
+        expect_text(
+            &rt,
+            chunks.as_str().strip_suffix("|").unwrap_or(""),
+            line.as_str(),
+        );
     }
     Ok(())
+}
+
+fn expect_end(rt: &impl Abort, text: &str, end: usize) {
+    assert_eq!(rt; highlight_end(text.as_bytes()), end, "of {text}");
 }
 
 #[test]
@@ -71,6 +81,6 @@ fn a_highlight_ends_with_its_second_line(rt: HostRuntime) {
         ("foo\nbar\nbaz\n", 7),
         ("\nfoo\nbar\nbaz", 4),
     ] {
-        assert_eq!(rt; highlight_end(text.as_bytes()), end, "of {text}");
+        expect_end(&rt, text, end);
     }
 }

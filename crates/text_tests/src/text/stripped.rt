@@ -1,5 +1,6 @@
 //! Texts without their sequences, and line feeds at the end of a piece.
 
+use crate::testing::expect_text;
 use std::test::Fail;
 use styled_text::stripped::write_stripped_text;
 use styled_text::trailing_newline::TrailingNewline;
@@ -37,13 +38,13 @@ fn pieces_are_written_as_one_text(rt: HostRuntime) -> Result<(), Fail> {
     for (first, second, stripped, held_back) in PIECES {
         let mut written = String::new(rt.alloc());
         write_stripped_text(&mut written, [first, second].join(rt.alloc(), "")?.as_str())?;
-        assert_eq!(rt; written.as_str(), stripped);
+        expect_text(&rt, written.as_str(), stripped);
         let mut written = String::new(rt.alloc());
         write_without_trailing_newline(&mut written, &[first, second])?;
-        assert_eq!(rt; written.as_str(), held_back);
+        expect_text(&rt, written.as_str(), held_back);
     }
     let mut written = String::new(rt.alloc());
     write_stripped_text(&mut written, "")?;
-    assert_eq!(rt; written.as_str(), "");
+    expect_text(&rt, written.as_str(), "");
     Ok(())
 }

@@ -1,5 +1,6 @@
 //! Devices that fail, at each of their calls and with errors of each kind, or whose calls are interrupted.
 
+use crate::testing::{expect_row, expect_text};
 use std::alloc::Global;
 use std::io::{ErrorKind, Write};
 use std::test::Fail;
@@ -38,18 +39,29 @@ fn write_and_flush<W: WriteStr>(w: &mut W, text: &str) -> Result<(), WriteFault>
     w.write_str_flush()
 }
 
+// Whether a device that fails in a write is said to have failed, once it took what the writes before were given.
+fn is_failed_write(
+    alloc: Global,
+    kind: ErrorKind,
+    call: usize,
+    failure: Failure,
+) -> Result<bool, Fail> {
+    let device = Device::failing_at(alloc, call, failure).with_kind(kind);
+    let (device, answer, pending) = deliver(alloc, device, TEXT)?;
+    let taken = device.taken();
+    let is_front = TEXT.as_bytes().starts_with(taken)
+        && taken.len() == call.saturating_mul(BYTES_AT_ONCE)
+        && taken.len().saturating_add(pending) == TEXT.len();
+    Ok(answer == Err(WriteFault::Device) && is_front)
+}
+
 #[test]
 fn a_write_that_fails_is_a_failure_of_the_device(rt: HostRuntime) -> Result<(), Fail> {
     let alloc = rt.alloc();
     for kind in KINDS {
         for call in 0..TEXT.len().div_ceil(BYTES_AT_ONCE) {
             for failure in [Failure::Error, Failure::NothingTaken] {
-                let device = Device::failing_at(alloc, call, failure).with_kind(kind);
-                let (device, answer, pending) = deliver(alloc, device, TEXT)?;
-                let taken = call * BYTES_AT_ONCE;
-                assert_eq!(rt; answer, Err(WriteFault::Device));
-                assert_eq!(rt; device.taken(), &TEXT.as_bytes()[..taken]);
-                assert_eq!(rt; pending, TEXT.len() - taken);
+                expect_row(&rt, is_failed_write(alloc, kind, call, failure)?, call);
             }
         }
     }
@@ -66,10 +78,10 @@ fn is_failed_flush(alloc: Global, kind: ErrorKind, text: &str) -> Result<bool, F
 #[test]
 fn a_flush_that_fails_is_a_failure_of_the_device(rt: HostRuntime) -> Result<(), Fail> {
     let alloc = rt.alloc();
-    for kind in KINDS {
-        assert!(rt; is_failed_flush(alloc, kind, TEXT)?);
+    for (row, kind) in KINDS.iter().enumerate() {
+        expect_row(&rt, is_failed_flush(alloc, *kind, TEXT)?, row);
         // Also where nothing is pending, since what the device was handed before may not be flushed.
-        assert!(rt; is_failed_flush(alloc, kind, "")?);
+        expect_row(&rt, is_failed_flush(alloc, *kind, "")?, row);
     }
     Ok(())
 }
@@ -77,44 +89,53 @@ fn a_flush_that_fails_is_a_failure_of_the_device(rt: HostRuntime) -> Result<(), 
 #[test]
 fn a_device_that_fails_once_is_written_on(rt: HostRuntime) -> Result<(), Fail> {
     let mut buffer = TextBuffer::new(rt.alloc(), Device::interrupted(rt.alloc(), 1))?;
+    buffer.write_str(TEXT)?;
     // Each write of the device is interrupted once, and so is its flush.
-    assert_eq!(rt; buffer.write_str(TEXT), Ok(()));
-    for _ in 0..TEXT.len().div_ceil(BYTES_AT_ONCE) {
-        assert_eq!(rt; buffer.write_str_flush(), Err(WriteFault::Device));
+    for call in 0..=TEXT.len().div_ceil(BYTES_AT_ONCE) {
+        let flushed = buffer.write_str_flush();
+        expect_row(&rt, flushed == Err(WriteFault::Device), call);
     }
-    assert_eq!(rt; buffer.write_str_flush(), Err(WriteFault::Device));
-    assert_eq!(rt; buffer.write_str_flush(), Ok(()));
+    assert!(rt; buffer.write_str_flush() == Ok(()));
     let (device, pending) = buffer.into_inner();
-    assert_eq!(rt; (device.taken(), pending.len()), (TEXT.as_bytes(), 0));
+    assert!(rt; device.taken() == TEXT.as_bytes() && pending.is_empty());
     Ok(())
+}
+
+// Whether a text is delivered to a device each of whose calls is interrupted so often.
+fn is_made_again(alloc: Global, times: usize) -> Result<bool, Fail> {
+    let device = RetryInterrupted::new(Device::interrupted(alloc, times));
+    let (device, answer, pending) = deliver(alloc, device, TEXT)?;
+    let mut device = device.into_inner();
+    // The flush was made until it worked, so the next one is interrupted anew.
+    let is_flushed = device.flush().is_err() == (times > 0);
+    Ok(answer == Ok(()) && pending == 0 && device.taken() == TEXT.as_bytes() && is_flushed)
 }
 
 #[test]
 fn a_call_that_is_interrupted_is_made_again(rt: HostRuntime) -> Result<(), Fail> {
-    let alloc = rt.alloc();
     for times in [0, 1, 2, 100] {
-        let device = RetryInterrupted::new(Device::interrupted(alloc, times));
-        let (device, answer, pending) = deliver(alloc, device, TEXT)?;
-        let mut device = device.into_inner();
-        assert_eq!(rt; (answer, pending), (Ok(()), 0));
-        assert_eq!(rt; device.taken(), TEXT.as_bytes());
-        // The flush was made until it worked, so the next one is interrupted anew.
-        assert_eq!(rt; device.flush().is_err(), times > 0);
+        expect_row(&rt, is_made_again(rt.alloc(), times)?, times);
     }
     Ok(())
+}
+
+// Whether the errors of a device's second write and of its flush are of this kind.
+fn is_passed_on(alloc: Global, kind: ErrorKind) -> bool {
+    let device = Device::failing_at(alloc, 1, Failure::Error).with_kind(kind);
+    let mut device = RetryInterrupted::new(device);
+    let first = device.write(TEXT.as_bytes());
+    let (write, flush) = (device.write(b"text"), device.flush());
+    first.ok() == Some(BYTES_AT_ONCE)
+        && write.is_err_and(|error| error.kind() == kind)
+        && flush.is_err_and(|error| error.kind() == kind)
 }
 
 #[test]
 fn no_other_answer_of_a_device_is_changed(rt: HostRuntime) -> Result<(), Fail> {
     let alloc = rt.alloc();
-    for kind in KINDS {
-        if kind != ErrorKind::Interrupted {
-            let device = Device::failing_at(alloc, 1, Failure::Error).with_kind(kind);
-            let mut device = RetryInterrupted::new(device);
-            assert_eq!(rt; device.write(TEXT.as_bytes()).ok(), Some(BYTES_AT_ONCE));
-            let (write, flush) = (device.write(b"text"), device.flush());
-            assert_eq!(rt; write.err().map(|error| error.kind()), Some(kind));
-            assert_eq!(rt; flush.err().map(|error| error.kind()), Some(kind));
+    for (row, kind) in KINDS.iter().enumerate() {
+        if *kind != ErrorKind::Interrupted {
+            expect_row(&rt, is_passed_on(alloc, *kind), row);
         }
     }
     let mut device = RetryInterrupted::new(Device::failing_at(alloc, 0, Failure::NothingTaken));
@@ -148,7 +169,7 @@ fn a_fault_has_words(rt: HostRuntime) -> Result<(), Fail> {
         (WriteFault::Device, "the device failed"),
         (WriteFault::Memory, "out of memory"),
     ] {
-        assert_eq!(rt; fault.to_string(rt.alloc())?.as_str(), words);
+        expect_text(&rt, fault.to_string(rt.alloc())?.as_str(), words);
     }
     Ok(())
 }

@@ -3,6 +3,7 @@
 ghost use Rattle.std.specs.Prelude.{◌≡◌, IfOk, true};
 ghost use Rattle.run_model.specs.Outputs.{has_loaded_output, is_loaded};
 
+use crate::testing::expect_text;
 use bytes::Bytes;
 use report_words::theme::ThemeCharacters;
 use run_model::memory::OutOfMemory;
@@ -172,10 +173,10 @@ fn shown_of_row(alloc: Global, is_colorized: bool, row: Row) -> Result<String, F
 #[test]
 fn a_part_pointed_out_in_colour(rt: HostRuntime) -> Result<(), Fail> {
     for row in [WHOLE, AT_THE_END] {
-        assert_eq!(rt; shown_of_row(rt.alloc(), true, row)?.as_str(), row.4);
+        expect_text(&rt, shown_of_row(rt.alloc(), true, row)?.as_str(), row.4);
     }
     for row in PARTS {
-        assert_eq!(rt; shown_of_row(rt.alloc(), true, row)?.as_str(), row.4);
+        expect_text(&rt, shown_of_row(rt.alloc(), true, row)?.as_str(), row.4);
     }
     Ok(())
 }
@@ -204,8 +205,8 @@ fn is_equal_but_end_spaces(left: &str, right: &str) -> bool {
 fn what_is_visible_in_colour(rt: HostRuntime) -> Result<(), Fail> {
     let plain = shown_of_row(rt.alloc(), false, WHOLE)?;
     let visible_one = visible(rt.alloc(), WHOLE)?;
-    assert_eq!(rt; plain.as_str(), "\n    p\n    q\n");
-    assert_eq!(rt; visible_one.as_str(), "    \n    p\n    q\n");
+    expect_text(&rt, plain.as_str(), "\n    p\n    q\n");
+    expect_text(&rt, visible_one.as_str(), "    \n    p\n    q\n");
     assert!(rt; is_equal_but_end_spaces(visible_one.as_str(), plain.as_str()));
     Ok(())
 }
@@ -215,8 +216,8 @@ fn what_is_visible_in_colour(rt: HostRuntime) -> Result<(), Fail> {
 fn what_is_visible_after_a_part_at_the_end(rt: HostRuntime) -> Result<(), Fail> {
     let plain = shown_of_row(rt.alloc(), false, AT_THE_END)?;
     let visible_one = visible(rt.alloc(), AT_THE_END)?;
-    assert_eq!(rt; plain.as_str(), "a\n");
-    assert_eq!(rt; visible_one.as_str(), "a\n\n");
+    expect_text(&rt, plain.as_str(), "a\n");
+    expect_text(&rt, visible_one.as_str(), "a\n\n");
     assert!(rt; !is_equal_but_end_spaces(visible_one.as_str(), plain.as_str()));
     Ok(())
 }
@@ -225,7 +226,7 @@ fn what_is_visible_after_a_part_at_the_end(rt: HostRuntime) -> Result<(), Fail> 
 #[test]
 fn an_unfinished_sequence(rt: HostRuntime) -> Result<(), Fail> {
     let plain = shown(rt.alloc(), false, "", b"x\x1b]8;;\ny", None)?;
-    assert_eq!(rt; plain.as_str(), "x\ny\n");
+    expect_text(&rt, plain.as_str(), "x\ny\n");
     Ok(())
 }
 
@@ -246,7 +247,7 @@ fn streams_that_were_not_captured(rt: HostRuntime) -> Result<(), Fail> {
         let output = split(rt.alloc(), stdout, None)?;
         let mut out = String::new(rt.alloc());
         reporter(displayer_kind).write_child_output(&styles, &spec, &output, None, &mut out)?;
-        assert_eq!(rt; out.as_str(), want);
+        expect_text(&rt, out.as_str(), want);
     }
     Ok(())
 }
@@ -278,7 +279,7 @@ fn an_attempt_without_its_standard_output(rt: HostRuntime) -> Result<(), Fail> {
         let output = passed_without_stdout(rt.alloc())?;
         let mut out = String::new(rt.alloc());
         reporter(displayer_kind).write_child_execution_output(&styles, &spec, &output, &mut out)?;
-        assert_eq!(rt; out.as_str(), want);
+        expect_text(&rt, out.as_str(), want);
     }
     Ok(())
 }

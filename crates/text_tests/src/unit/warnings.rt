@@ -1,5 +1,6 @@
 //! The warnings at the end of a run.
 
+use crate::testing::expect_text;
 use run_model::config::NextestRunMode;
 use run_model::level::CancelReason;
 use run_model::stats::{FinalRunStats, RunStatsFailureKind};
@@ -52,7 +53,7 @@ fn each_end_has_its_warning(rt: HostRuntime) -> Result<(), Fail> {
         let mut text = String::new(rt.alloc());
         let styles = Styles::default();
         write_final_warnings(NextestRunMode::Test, final_stats, &styles, &mut text)?;
-        assert_eq!(rt; text.as_str(), want);
+        expect_text(&rt, text.as_str(), want);
     }
     Ok(())
 }

@@ -1,0 +1,4 @@
+//! The lines of a whole run.
+
+mod header;
+mod not_seen;

@@ -1,0 +1,13 @@
+//! What the tests assert. An assertion is expanded and proved anew wherever it stands, so each kind stands here once.
+
+use std::process::Abort;
+
+/// A text is the wanted one.
+pub fn expect_text(rt: &impl Abort, shown: &str, want: &str) {
+    assert_eq!(rt; shown, want);
+}
+
+/// The row of this name holds.
+pub fn expect_row(rt: &impl Abort, holds: bool, row: &str) {
+    assert!(rt; holds, "{row}");
+}
