@@ -3,6 +3,7 @@
 import os
 import re
 import shutil
+import signal
 import subprocess
 import sys
 from importlib.machinery import SourceFileLoader
@@ -22,6 +23,14 @@ def need_program(program, makes="./build makes it"):
         sys.exit(f"{sys.argv[0]}: there is no program {program}: {makes}")
 
 
+def take_signals():
+    """Lets each signal reach what is tried: a shell has what it starts behind `&` ignore Ctrl-C and SIGQUIT, nohup a
+    hangup, and what is started here would inherit that. This script itself goes on ignoring them."""
+    for number in (signal.SIGINT, signal.SIGQUIT, signal.SIGHUP, signal.SIGTERM, signal.SIGTSTP):
+        if signal.getsignal(number) is signal.SIG_IGN:
+            signal.signal(number, lambda _number, _frame: None)
+
+
 def need_tool(tool):
     """Ends the script where there is no such command."""
     if not shutil.which(tool):
@@ -35,6 +44,12 @@ def build_shim(folder):
     source = TOP / "scripts/norigully/faults.c"
     subprocess.run(["cc", "-shared", "-fPIC", "-O1", "-o", made, source, "-ldl"], check=True)
     return made
+
+
+def cases_in(folder="printed", names="*"):
+    """The files of the words of the cases in a folder of cases/. It ends the script where there is none."""
+    found = sorted((CASES / folder).glob(f"{names}.args"))
+    return found or sys.exit(f"{sys.argv[0]}: there is no case cases/{folder}/{names}")
 
 
 def case_words(args):
@@ -51,17 +66,18 @@ def module_of(script):
 
 
 def words_of(file, name):
-    """The words that a definition of specs/ gives to the kinds of something, as in `line_word line.Run = codes
-    "run"`."""
-    text = (CRATES / file).read_text()
-    return set(re.findall(rf'^{name} [\w.]+ = codes "(.*)"$', text, re.M))
+    """The words in the equation of a definition of specs/, as in `(codes "final", key.Final)`."""
+    found = re.search(rf"^{name} .*?=\n(.*?)(?:\n\n|\Z)", (CRATES / file).read_text(), re.M | re.S)
+    words = set(re.findall(r'codes "(.*?)"', found[1] if found else ""))
+    return words or sys.exit(f"{sys.argv[0]}: {file} has no word in {name}")
 
 
 def line_words():
     """The words of all kinds of line: `config`, and those of the rows of lines that tell an event, as in `(codes "run",
     exactly 5 ..)`."""
-    text = (CRATES / "scene_text/specs/EventLines.antt").read_text()
-    return {"config", *re.findall(r'^ +(?:∷ )?\(codes "(.*?)", ', text, re.M)}
+    file = "scene_text/specs/EventLines.antt"
+    found = re.findall(r'^ +(?:∷ )?\(codes "(.*?)", ', (CRATES / file).read_text(), re.M)
+    return {"config", *found} if found else sys.exit(f"{sys.argv[0]}: {file} has no kind of line")
 
 
 def copy_of_run(folder, programs):
@@ -94,6 +110,15 @@ class Checks:
             self.failed += 1
             print(f"FAILED: {message}")
 
+    def outputs(self, child, what, seconds):
+        """What a process writes until it ends. One that goes on for longer is a failed check, and is killed."""
+        try:
+            return child.communicate(timeout=seconds)
+        except subprocess.TimeoutExpired:
+            child.kill()
+            self.expect(False, f"{what}: it goes on after {seconds} s")
+            return child.communicate()
+
     def count(self, done, failed, message):
         """Counts what was checked elsewhere, and tells the message where some of it failed."""
         self.done, self.failed = self.done + done, self.failed + int(failed)
@@ -101,6 +126,8 @@ class Checks:
             print(f"FAILED: {message}")
 
     def end(self):
-        """Ends the script: its last line counts, and its status is 1 where anything failed."""
+        """Ends the script: its last line counts, and its status is 1 where something failed or nothing was checked."""
+        if not self.done:
+            self.expect(False, "nothing was checked")
         print(f"{self.name}: {self.done - self.failed} passed, {self.failed} failed")
         sys.exit(1 if self.failed else 0)

@@ -81,8 +81,8 @@ class Crate:
     def functions(self):
         """The names by which rattle calls its functions, as its library lists them. A program lists none."""
         parts = self.rlib() / "toolchain/checked.json"
-        told = parts.read_text() if parts.is_file() else ""
-        found = re.findall(rf'"part/Rattle-{self.name}-proofs\.([^"]*)\.Code"', told)
+        text = parts.read_text() if parts.is_file() else ""
+        found = re.findall(rf'"part/Rattle-{self.name}-proofs\.([^"]*)\.Code"', text)
         return {it.replace(".", "::") for it in found}
 
     def check(self):
