@@ -36,7 +36,7 @@ impl LoadedOutput {
         ensures { IfOk result (λ o. o ≡ output.now) }
     {
         Ok(LoadedOutput {
-            output: Boxed::new(alloc, output.copy(alloc)?)?,
+            output: Boxed::new(alloc, output.try_clone(alloc)?)?,
         })
     }
 

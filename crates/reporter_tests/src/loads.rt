@@ -58,7 +58,7 @@ impl Outcome {
 // A setup script that left handles open has finished.
 fn leaky_script<'a>(alloc: Global, leak: LeakTimeoutResult) -> Result<TestEvent<'a>, OutOfMemory> {
     let outcome = ExecutionResultDescription::Leak { result: leak };
-    let output = ChildExecutionOutputDescription::silent(outcome.copy(alloc)?);
+    let output = ChildExecutionOutputDescription::silent(outcome.try_clone(alloc)?);
     script_finished(alloc, outcome, output)
 }
 

@@ -223,7 +223,7 @@ impl ChildSingleOutput {
     }
 
     /// A copy that shares the same bytes. It allocates nothing.
-    pub fn copy(&self) -> Result<Self, TooManyOwners>
+    pub fn try_clone(&self) -> Result<Self, TooManyOwners>
         ensures { IfOk result (λ output. output ≡ self.now) }
     {
         let captured = match &self.captured {
@@ -322,7 +322,7 @@ impl ChildOutputDescription {
     }
 
     /// A copy that shares the same bytes. It allocates nothing.
-    pub fn copy(&self) -> Result<Self, TooManyOwners>
+    pub fn try_clone(&self) -> Result<Self, TooManyOwners>
         ensures { IfOk result (λ output. output ≡ self.now) }
     {
         Ok(match self {
@@ -331,7 +331,7 @@ impl ChildOutputDescription {
                 stderr: copy_stream(stderr)?,
             },
             ChildOutputDescription::Combined { output } => ChildOutputDescription::Combined {
-                output: output.copy()?,
+                output: output.try_clone()?,
             },
             ChildOutputDescription::NotLoaded => ChildOutputDescription::NotLoaded,
         })
@@ -374,7 +374,7 @@ fn copy_stream(
     ensures { IfOk result (λ s. s ≡ stream.now) }
 {
     match stream {
-        Some(stream) => Ok(Some(stream.copy()?)),
+        Some(stream) => Ok(Some(stream.try_clone()?)),
         None => Ok(None),
     }
 }
@@ -507,7 +507,7 @@ impl ChildExecutionOutputDescription<LiveSpec> {
     }
 
     /// Copies its texts, which allocates. The copy shares the bytes of the output.
-    pub fn copy(&self, alloc: Global) -> Result<Self, OutOfMemory>
+    pub fn try_clone(&self, alloc: Global) -> Result<Self, OutOfMemory>
         ensures { IfOk result (λ output. output ≡ self.now) }
     {
         Ok(match self {
@@ -518,12 +518,12 @@ impl ChildExecutionOutputDescription<LiveSpec> {
                 highlight,
             } => ChildExecutionOutputDescription::Output {
                 result: copy_result(alloc, result)?,
-                output: output.copy()?,
+                output: output.try_clone()?,
                 errors: copy_errors(errors)?,
                 highlight: copy_highlight(alloc, highlight)?,
             },
             ChildExecutionOutputDescription::StartError(errors) =>
-                ChildExecutionOutputDescription::StartError(errors.copy()?),
+                ChildExecutionOutputDescription::StartError(errors.try_clone()?),
         })
     }
 
@@ -569,7 +569,7 @@ impl ChildExecutionOutputDescription<LiveSpec> {
                 highlight: copy_highlight(alloc, highlight)?,
             },
             ChildExecutionOutputDescription::StartError(errors) =>
-                ChildExecutionOutputDescription::StartError(errors.copy()?),
+                ChildExecutionOutputDescription::StartError(errors.try_clone()?),
         })
     }
 }
@@ -582,7 +582,7 @@ fn copy_result(
     ensures { IfOk result (λ r. r ≡ outcome.now) }
 {
     match outcome {
-        Some(outcome) => Ok(Some(outcome.copy(alloc)?)),
+        Some(outcome) => Ok(Some(outcome.try_clone(alloc)?)),
         None => Ok(None),
     }
 }
@@ -592,7 +592,7 @@ fn copy_errors(errors: &Option<ErrorChain>) -> Result<Option<ErrorChain>, TooMan
     ensures { IfOk result (λ e. e ≡ errors.now) }
 {
     match errors {
-        Some(errors) => Ok(Some(errors.copy()?)),
+        Some(errors) => Ok(Some(errors.try_clone()?)),
         None => Ok(None),
     }
 }
@@ -605,7 +605,7 @@ fn copy_highlight(
     ensures { IfOk result (λ h. h ≡ highlight.now) }
 {
     match highlight {
-        Some(highlight) => Ok(Some(Boxed::new(alloc, highlight.get().copy()?)?)),
+        Some(highlight) => Ok(Some(Boxed::new(alloc, highlight.get().try_clone()?)?)),
         None => Ok(None),
     }
 }
@@ -672,7 +672,7 @@ impl ErrorChain {
     }
 
     /// A copy that shares the same error. It allocates nothing.
-    pub fn copy(&self) -> Result<Self, TooManyOwners>
+    pub fn try_clone(&self) -> Result<Self, TooManyOwners>
         ensures { IfOk result (λ chain. chain ≡ self.now) }
     {
         Ok(ErrorChain {
@@ -750,7 +750,7 @@ impl Highlight {
     }
 
     /// A copy that shares the same bytes.
-    pub fn copy(&self) -> Result<Self, OutOfMemory>
+    pub fn try_clone(&self) -> Result<Self, OutOfMemory>
         ensures { IfOk result (λ h. h ≡ self.now) }
     {
         Ok(Highlight {

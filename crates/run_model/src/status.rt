@@ -122,7 +122,7 @@ impl ExecutionResultDescription {
     }
 
     /// Copies it; allocates only if it holds text.
-    pub fn copy(&self, alloc: Global) -> Result<Self, OutOfMemory>
+    pub fn try_clone(&self, alloc: Global) -> Result<Self, OutOfMemory>
         ensures same { IfOk result (λ r. r ≡ self.now) }
         ensures free { is_aborted self.now ≡ false → IsOk result }
     {
@@ -133,7 +133,7 @@ impl ExecutionResultDescription {
             },
             ExecutionResultDescription::Fail { failure, leaked } =>
                 ExecutionResultDescription::Fail {
-                    failure: failure.copy(alloc)?,
+                    failure: failure.try_clone(alloc)?,
                     leaked: *leaked,
                 },
             ExecutionResultDescription::ExecFail => ExecutionResultDescription::ExecFail,
@@ -187,14 +187,14 @@ pub enum FailureDescription {
 
 impl FailureDescription {
     /// Copies it; allocates only if it holds text.
-    pub fn copy(&self, alloc: Global) -> Result<Self, OutOfMemory>
+    pub fn try_clone(&self, alloc: Global) -> Result<Self, OutOfMemory>
         ensures same { IfOk result (λ f. f ≡ self.now) }
         ensures free { is_abort self.now ≡ false → IsOk result }
     {
         Ok(match self {
             FailureDescription::ExitCode { code } => FailureDescription::ExitCode { code: *code },
             FailureDescription::Abort { abort } => FailureDescription::Abort {
-                abort: Boxed::new(alloc, abort.get().copy(alloc)?)?,
+                abort: Boxed::new(alloc, abort.get().try_clone(alloc)?)?,
             },
         })
     }
@@ -235,7 +235,7 @@ impl ExecuteStatus<LiveSpec> {
         Ok(ExecuteStatus {
             time_taken,
             retry_data: RetryData::only(),
-            output: ChildExecutionOutputDescription::silent(outcome.copy(alloc)?),
+            output: ChildExecutionOutputDescription::silent(outcome.try_clone(alloc)?),
             result: outcome,
             is_slow: false,
         })
@@ -307,13 +307,13 @@ impl ExecuteStatus<LiveSpec> {
     }
 
     /// Copies its texts, which allocates. The copy shares the bytes of the output.
-    pub fn copy(&self, alloc: Global) -> Result<Self, OutOfMemory>
+    pub fn try_clone(&self, alloc: Global) -> Result<Self, OutOfMemory>
         ensures { IfOk result (λ status. status ≡ self.now) }
     {
         Ok(ExecuteStatus {
             retry_data: self.retry_data,
-            output: self.output.copy(alloc)?,
-            result: self.result.copy(alloc)?,
+            output: self.output.try_clone(alloc)?,
+            result: self.result.try_clone(alloc)?,
             time_taken: self.time_taken,
             is_slow: self.is_slow,
         })
@@ -333,7 +333,7 @@ impl ExecuteStatus<LiveSpec> {
         Ok(ExecuteStatus {
             retry_data: self.retry_data,
             output: self.output.recorded(alloc)?,
-            result: self.result.copy(alloc)?,
+            result: self.result.try_clone(alloc)?,
             time_taken: self.time_taken,
             is_slow: self.is_slow,
         })
@@ -378,7 +378,7 @@ impl SetupScriptExecuteStatus<LiveSpec> {
     {
         Ok(SetupScriptExecuteStatus {
             output: self.output.recorded(alloc)?,
-            result: self.result.copy(alloc)?,
+            result: self.result.try_clone(alloc)?,
             time_taken: self.time_taken,
             is_slow: self.is_slow,
         })
@@ -585,12 +585,12 @@ impl<S: OutputSpec> Model for ExecutionStatuses<S> {
 
 impl ExecutionStatuses<LiveSpec> {
     /// Copies the attempts and their texts, which allocates. The copies share the bytes of their outputs.
-    pub fn copy(&self, alloc: Global) -> Result<Self, OutOfMemory>
+    pub fn try_clone(&self, alloc: Global) -> Result<Self, OutOfMemory>
         ensures { IfOk result (λ statuses. statuses ≡ self.now) }
     {
         Ok(ExecutionStatuses {
             earlier: copy_attempts(alloc, &self.earlier)?,
-            last: self.last.copy(alloc)?,
+            last: self.last.try_clone(alloc)?,
             flaky_result: self.flaky_result,
         })
     }
@@ -647,7 +647,7 @@ fn copy_attempts(
 {
     let mut copies = Vec::with_capacity(alloc, attempts.len())?;
     for attempt in attempts {
-        copies.push(attempt.copy(alloc)?)?;
+        copies.push(attempt.try_clone(alloc)?)?;
     }
     Ok(copies)
 }
@@ -751,7 +751,7 @@ impl<S: OutputSpec> ExecutionStatuses<S> {
         Ok(StatusSummary {
             case: self.describe().case(),
             retry_data: self.last.retry_data,
-            result: self.last.result.copy(alloc)?,
+            result: self.last.result.try_clone(alloc)?,
             time_taken: self.last.time_taken,
             is_slow: self.last.is_slow,
         })

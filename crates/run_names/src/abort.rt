@@ -36,7 +36,7 @@ pub enum AbortDescription {
 
 impl AbortDescription {
     /// Copies it; allocates only if it holds text.
-    pub fn copy(&self, alloc: Global) -> Result<Self, OutOfMemory>
+    pub fn try_clone(&self, alloc: Global) -> Result<Self, OutOfMemory>
         ensures same { IfOk result (λ a. a ≡ self.now) }
         ensures free { abort_has_text self.now ≡ false → IsOk result }
     {
@@ -64,7 +64,7 @@ fn copy_text(
     ensures free { is_some text.now ≡ false → IsOk result }
 {
     match text {
-        Some(text) => Ok(Some(text.copy(alloc)?)),
+        Some(text) => Ok(Some(text.try_clone(alloc)?)),
         None => Ok(None),
     }
 }
@@ -106,7 +106,7 @@ impl DescriptionText {
     }
 
     /// Copies it; the copy allocates.
-    pub fn copy(&self, alloc: Global) -> Result<Self, OutOfMemory>
+    pub fn try_clone(&self, alloc: Global) -> Result<Self, OutOfMemory>
         ensures { IfOk result (λ description. description ≡ self.now) }
     {
         DescriptionText::new(alloc, self.as_str())

@@ -73,7 +73,7 @@ impl<T: Eq + Drop> Eq for Boxed<T> {
 ///
 /// ```
 /// let shared = Shared::new(alloc, Nanos::from_secs(1))?;
-/// assert_eq!(*shared.copy()?.get(), Nanos::from_secs(1));
+/// assert_eq!(*shared.try_clone()?.get(), Nanos::from_secs(1));
 /// ```
 #[derive(Debug, Drop)]
 pub struct Shared<T> {
@@ -104,7 +104,7 @@ impl<T: Drop> Shared<T> {
     }
 
     /// A copy that shares the value. It allocates nothing.
-    pub fn copy(&self) -> Result<Self, TooManyOwners>
+    pub fn try_clone(&self) -> Result<Self, TooManyOwners>
         ensures { IfOk result (λ s. s ≡ self.now) }
     {
         Ok(Shared {

@@ -61,7 +61,7 @@ impl CommandLine {
     }
 
     /// A copy that shares the same words. It allocates nothing.
-    pub fn copy(&self) -> Result<Self, TooManyOwners>
+    pub fn try_clone(&self) -> Result<Self, TooManyOwners>
         ensures { IfOk result (λ command. command ≡ self.now) }
     {
         Ok(CommandLine {

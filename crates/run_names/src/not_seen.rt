@@ -24,11 +24,11 @@ pub struct NotSeen {
 
 impl NotSeen {
     /// A copy that shares the same list. It allocates nothing.
-    pub fn copy(&self) -> Result<Self, TooManyOwners>
+    pub fn try_clone(&self) -> Result<Self, TooManyOwners>
         ensures { IfOk result (λ copy. copy ≡ self.now) }
     {
         Ok(NotSeen {
-            not_seen: self.not_seen.copy()?,
+            not_seen: self.not_seen.try_clone()?,
             total_not_seen: self.total_not_seen,
         })
     }
@@ -71,7 +71,7 @@ impl TestInstanceList {
     }
 
     /// A copy that shares the same tests. It allocates nothing.
-    pub fn copy(&self) -> Result<Self, TooManyOwners>
+    pub fn try_clone(&self) -> Result<Self, TooManyOwners>
         ensures { IfOk result (λ list. list ≡ self.now) }
     {
         Ok(TestInstanceList {

@@ -59,7 +59,7 @@ impl ShortestRunIdPrefix {
     }
 
     /// Copies it; the copy allocates.
-    pub fn copy(&self, alloc: Global) -> Result<Self, OutOfMemory>
+    pub fn try_clone(&self, alloc: Global) -> Result<Self, OutOfMemory>
         ensures { IfOk result (λ p. p ≡ self.now) }
     {
         ShortestRunIdPrefix::new(alloc, self.prefix(), self.rest())

@@ -187,7 +187,7 @@ pub fn copy_outcome(
     ensures { IfOk result (λ copy. copy ≡ outcome.now) }
 {
     match outcome {
-        Some(outcome) => Ok(Some(outcome.copy(alloc)?)),
+        Some(outcome) => Ok(Some(outcome.try_clone(alloc)?)),
         None => Ok(None),
     }
 }

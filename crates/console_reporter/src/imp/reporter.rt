@@ -301,7 +301,7 @@ impl<'a, W: WriteStr, S: WriteStr> DisplayReporter<'a, W, S> {
         if self.state.has_failed {
             return Err(WriteEventError::Failed);
         }
-        match prefix.copy(alloc) {
+        match prefix.try_clone(alloc) {
             Ok(prefix) => {
                 self.set_run_id_unique_prefix(prefix);
                 Ok(())

@@ -215,7 +215,7 @@ impl SceneAttempts {
                     output,
                     errors: None,
                     highlight: None,
-                } => Some(output.copy()?),
+                } => Some(output.try_clone()?),
                 _ => return Ok(false),
             },
             MoreAttempts::Earlier { .. } => return Ok(false),
@@ -293,8 +293,8 @@ impl EndedAttempt {
         Ok(ExecuteStatus {
             time_taken: self.time_taken.get(),
             retry_data: self.retry_data,
-            result: self.result.copy(alloc)?,
-            output: ChildExecutionOutputDescription::silent(self.result.copy(alloc)?),
+            result: self.result.try_clone(alloc)?,
+            output: ChildExecutionOutputDescription::silent(self.result.try_clone(alloc)?),
             is_slow,
         })
     }
@@ -312,8 +312,8 @@ impl EndedAttempt {
         Ok(ExecuteStatus {
             time_taken: self.time_taken.get(),
             retry_data: self.retry_data,
-            result: self.result.copy(alloc)?,
-            output: output.description(alloc, Some(self.result.copy(alloc)?))?,
+            result: self.result.try_clone(alloc)?,
+            output: output.description(alloc, Some(self.result.try_clone(alloc)?))?,
             is_slow,
         })
     }

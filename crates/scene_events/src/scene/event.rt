@@ -215,7 +215,7 @@ impl SceneEvent {
         match self {
             SceneEvent::Prefix(prefix) => push(
                 calls,
-                ReportCall::Prefix(prefix.get().copy(alloc)?),
+                ReportCall::Prefix(prefix.get().try_clone(alloc)?),
             ),
             SceneEvent::Header(header) => header.get().push_call(alloc, calls),
             SceneEvent::RunStarted(start) => start.get().push_call(alloc, calls),

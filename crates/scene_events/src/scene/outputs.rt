@@ -76,18 +76,18 @@ impl SceneOutput {
                 highlight,
             } => ChildExecutionOutputDescription::Output {
                 result: outcome,
-                output: output.copy()?,
+                output: output.try_clone()?,
                 errors: match errors {
-                    Some(errors) => Some(errors.copy()?),
+                    Some(errors) => Some(errors.try_clone()?),
                     None => None,
                 },
                 highlight: match highlight {
-                    Some(highlight) => Some(Boxed::new(alloc, highlight.get().copy()?)?),
+                    Some(highlight) => Some(Boxed::new(alloc, highlight.get().try_clone()?)?),
                     None => None,
                 },
             },
             SceneOutput::StartError(error) => {
-                ChildExecutionOutputDescription::StartError(error.copy()?)
+                ChildExecutionOutputDescription::StartError(error.try_clone()?)
             }
         })
     }

@@ -198,7 +198,7 @@ impl RunFinish {
             elapsed: self.elapsed,
             run_stats: self.run_stats,
             outstanding_not_seen: match &self.outstanding_not_seen {
-                Some(outstanding) => Some(outstanding.copy()?),
+                Some(outstanding) => Some(outstanding.try_clone()?),
                 None => None,
             },
         };
@@ -265,9 +265,9 @@ impl SceneHeader {
         let prefix = self.unique_prefix.as_ref();
         let header = ReplayHeader {
             run_id: self.run_id,
-            unique_prefix: prefix.map(|prefix| prefix.copy(alloc)).transpose()?,
+            unique_prefix: prefix.map(|prefix| prefix.try_clone(alloc)).transpose()?,
             started_at: self.started_at.date_time,
-            status: self.status.copy(alloc)?,
+            status: self.status.try_clone(alloc)?,
         };
         push(calls, ReportCall::Header(header))
     }

@@ -176,7 +176,7 @@ impl TestStart {
     pub fn push_call<'a>(&'a self, calls: &mut Calls<'a>) -> Result<(), OutOfMemory>
         ensures { PushesCallOf (SceneEvent.TestStarted self.now) calls.old.items result calls.new.items }
     {
-        let command_line = self.command_line.copy()?;
+        let command_line = self.command_line.try_clone()?;
         let kind = TestEventKind::TestStarted {
             stress_index: self.test.stress_index,
             test_instance: self.test.instance(),
@@ -196,7 +196,7 @@ impl TestRetryStart {
             stress_index: self.test.stress_index,
             test_instance: self.test.instance(),
             retry_data: self.retry_data,
-            command_line: self.command_line.copy()?,
+            command_line: self.command_line.try_clone()?,
         };
         push_event(calls, kind)
     }
@@ -343,13 +343,13 @@ pub struct SetupFinish {
 
 impl SceneScript {
     /// Copies the names, which allocates.
-    pub fn copy(&self, alloc: Global) -> Result<SceneScript, OutOfMemory>
+    pub fn try_clone(&self, alloc: Global) -> Result<SceneScript, OutOfMemory>
         ensures { IfOk result (λ copy. copy ≡ self.now) }
     {
         Ok(SceneScript {
             script_id: ScriptId::new(alloc, self.script_id.as_str())?,
             program: ProgramName::new(alloc, self.program.as_str())?,
-            args: self.args.copy()?,
+            args: self.args.try_clone()?,
         })
     }
 }
@@ -359,7 +359,7 @@ impl SetupStart {
     pub fn push_call(&self, alloc: Global, calls: &mut Calls<'_>) -> Result<(), OutOfMemory>
         ensures { PushesCallOf (SceneEvent.SetupScriptStarted self.now) calls.old.items result calls.new.items }
     {
-        let script = self.script.copy(alloc)?;
+        let script = self.script.try_clone(alloc)?;
         let kind = TestEventKind::SetupScriptStarted {
             stress_index: self.stress_index,
             index: self.index,
@@ -377,7 +377,7 @@ impl SlowSetup {
     pub fn push_call(&self, alloc: Global, calls: &mut Calls<'_>) -> Result<(), OutOfMemory>
         ensures { PushesCallOf (SceneEvent.SetupScriptSlow self.now) calls.old.items result calls.new.items }
     {
-        let script = self.script.copy(alloc)?;
+        let script = self.script.try_clone(alloc)?;
         let kind = TestEventKind::SetupScriptSlow {
             stress_index: self.stress_index,
             script_id: script.script_id,
@@ -395,7 +395,7 @@ impl SetupFinish {
     pub fn push_call(&self, alloc: Global, calls: &mut Calls<'_>) -> Result<(), OutOfMemory>
         ensures { PushesCallOf (SceneEvent.SetupScriptFinished self.now) calls.old.items result calls.new.items }
     {
-        let script = self.script.copy(alloc)?;
+        let script = self.script.try_clone(alloc)?;
         let kind = TestEventKind::SetupScriptFinished {
             stress_index: self.stress_index,
             script_id: script.script_id,
@@ -451,8 +451,8 @@ impl ScriptAnswer {
     pub fn push_call(&self, alloc: Global, calls: &mut Calls<'_>) -> Result<(), OutOfMemory>
         ensures { PushesCallOf (SceneEvent.ScriptAnswered self.now) calls.old.items result calls.new.items }
     {
-        let script = self.script.copy(alloc)?;
-        let answer = self.answer.copy(alloc)?;
+        let script = self.script.try_clone(alloc)?;
+        let answer = self.answer.try_clone(alloc)?;
         let kind = TestEventKind::InfoResponse {
             index: self.index,
             total: self.total,
@@ -474,7 +474,7 @@ impl TestAnswer {
     pub fn push_call<'a>(&'a self, alloc: Global, calls: &mut Calls<'a>) -> Result<(), OutOfMemory>
         ensures { PushesCallOf (SceneEvent.TestAnswered self.now) calls.old.items result calls.new.items }
     {
-        let answer = self.answer.copy(alloc)?;
+        let answer = self.answer.try_clone(alloc)?;
         let kind = TestEventKind::InfoResponse {
             index: self.index,
             total: self.total,
@@ -504,12 +504,12 @@ impl UnitAnswer {
     }
 
     // Copies the texts of the output, which allocates, and shares the state and the bytes.
-    fn copy(&self, alloc: Global) -> Result<UnitAnswer, OutOfMemory>
+    fn try_clone(&self, alloc: Global) -> Result<UnitAnswer, OutOfMemory>
         ensures { IfOk result (λ copy. copy ≡ self.now) }
     {
         Ok(UnitAnswer {
-            state: self.state.copy()?,
-            output: Boxed::new(alloc, self.output.get().copy(alloc)?)?,
+            state: self.state.try_clone()?,
+            output: Boxed::new(alloc, self.output.get().try_clone(alloc)?)?,
         })
     }
 }
