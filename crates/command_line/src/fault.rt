@@ -132,7 +132,8 @@ impl fmt::Display for FaultLine<'_> {
         match self.fault {
             Fault::Usage => write!(
                 f,
-                "{name}: usage: {name} [--color] [--counter] [--replay] [--unload] [--level L] [--store PATH] [--store-success] [--store-failure] {operand}"
+                "{name}: usage: {name} [--color] [--counter] [--replay] [--unload] \
+                [--level L] [--store PATH] [--store-success] [--store-failure] {operand}"
             ),
             Fault::CannotRead { file } => write!(f, "{name}: cannot read {file}"),
             Fault::CannotWrite { file } => write!(f, "{name}: cannot write {file}"),

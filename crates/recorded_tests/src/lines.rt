@@ -23,7 +23,8 @@ const STORED: [(&str, &[(usize, usize)]); 7] = [
         &[(0, 14)],
     ),
     (
-        "done\t-\ta\tt\tnever\tfinal\tpass\t-\t3\tfail:1\t5\t0\tsplit\t\tFAILED\tx\t-\tfail:1\t6\t1\tsplit\t\t\t-\t-\tpass\t7\t0\tcomb\tPASSED\t-\t-\tcomb:0:p",
+        "done\t-\ta\tt\tnever\tfinal\tpass\t-\t3\tfail:1\t5\t0\tsplit\t\tFAILED\tx\t-\t\
+         fail:1\t6\t1\tsplit\t\t\t-\t-\tpass\t7\t0\tcomb\tPASSED\t-\t-\tcomb:0:p",
         &[(0, 14), (2, 30)],
     ),
     (

@@ -23,7 +23,8 @@ const FAILED: &str = "\\@7:7:ee2a98c236301c76";
 const RUN: &str = "config\tfinal\tfail\n\
 run\t00000000-0000-4000-8000-000000000001\tdefault\t2\t1\t-\n\
 done\t-\talpha\tt1\tnever\tnever\tpass\tinitial=2 finished=1 passed=1\t1\tpass\t5000000\t0\tsplit\tPASSED\t\t-\t-\n\
-done\t-\talpha\tt2\tnever\timmediate\tpass\tinitial=2 finished=2 passed=1 failed=1\t1\tfail:1\t1500000000\t0\tsplit\t\tFAILED\t-\t-\n\
+done\t-\talpha\tt2\tnever\timmediate\tpass\tinitial=2 finished=2 passed=1 failed=1\t1\t\
+fail:1\t1500000000\t0\tsplit\t\tFAILED\t-\t-\n\
 end\t1520000000\tinitial=2 finished=2 passed=1 failed=1\t0\t-\n";
 
 const OPTIONS: Options<'static> = Options {

@@ -127,7 +127,8 @@ impl Counts for SkipCounts {
 /// Reads the statistics of a run.
 ///
 /// ```
-/// let stats = RunStats { finished_count: 1, failed: 1, cancel_reason: Some(CancelReason::Signal), ..RunStats::new(2) };
+/// let cancel_reason = Some(CancelReason::Signal);
+/// let stats = RunStats { finished_count: 1, failed: 1, cancel_reason, ..RunStats::new(2) };
 /// assert_eq!(read_stats("initial=2 finished=1 failed=1 cancel=signal"), Some(stats));
 /// ```
 #[inline(never)] // so that the statistics are copied once on their way out

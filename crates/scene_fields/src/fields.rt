@@ -100,7 +100,11 @@ pub struct Fields<'a> {
 impl<'a> Model for Fields<'a> {
     ghost Value = { Place };
 
-    ghost view = { λ f. record { number = f.total - (length f.left.now + length f.owned.now); left = field_texts f.left.now ++ f.owned.now; noted = f.noted } };
+    ghost view = { λ f. record {
+      number = f.total - (length f.left.now + length f.owned.now);
+      left = field_texts f.left.now ++ f.owned.now;
+      noted = f.noted;
+    } };
 }
 
 impl<'a> Fields<'a> {

@@ -58,7 +58,8 @@ const STORING: Options<'static> = Options {
 const TWO_TESTS: &str = "config\tfinal\tfail\n\
 run\t00000000-0000-4000-8000-000000000001\tdefault\t2\t1\t-\n\
 done\t-\talpha\tt1\tnever\tnever\tpass\tinitial=2 finished=1 passed=1\t1\tpass\t5000000\t0\tsplit\t\t\t-\t-\n\
-done\t-\talpha\tmod::t2\tnever\tnever\tpass\tinitial=2 finished=2 passed=1 failed=1\t1\tfail:1\t1500000000\t0\tsplit\t\t\t-\t-\n\
+done\t-\talpha\tmod::t2\tnever\tnever\tpass\tinitial=2 finished=2 passed=1 failed=1\t1\t\
+fail:1\t1500000000\t0\tsplit\t\t\t-\t-\n\
 end\t1520000000\tinitial=2 finished=2 passed=1 failed=1\t0\t-\n";
 
 // The report of that.
@@ -78,7 +79,8 @@ const STORED_OF_TWO_TESTS: &str = "5:alpha,2:t1,4:PASS,0:,\n5:alpha,7:mod::t2,4:
 /// A run that is cancelled twice.
 const CANCELLED: &str = "cancel\t0\t0\tinterrupt\n\
 cancel\t0\t0\tsignal\n\
-done\t-\ta\tt1\tnever\timmediate\tpass\tinitial=2 finished=1 failed=1\t1\tfail:1\t1000000000\t0\tsplit\tboom\\n\t\t-\t-\n\
+done\t-\ta\tt1\tnever\timmediate\tpass\tinitial=2 finished=1 failed=1\t1\t\
+fail:1\t1000000000\t0\tsplit\tboom\\n\t\t-\t-\n\
 end\t2000000000\tinitial=2 finished=1 failed=1 cancel=signal\t0\t-\n";
 
 /// The report of it.
@@ -425,7 +427,8 @@ fn tells_each_fault(rt: HostRuntime) -> Result<(), Fail> {
         (
             Fault::Usage,
             2,
-            "report: usage: report [--color] [--counter] [--replay] [--unload] [--level L] [--store PATH] [--store-success] [--store-failure] FILE",
+            "report: usage: report [--color] [--counter] [--replay] [--unload] \
+             [--level L] [--store PATH] [--store-success] [--store-failure] FILE",
         ),
         (
             Fault::CannotRead { file: "a b" },
@@ -455,7 +458,8 @@ fn tells_each_fault(rt: HostRuntime) -> Result<(), Fail> {
     expect_text(
         &rt,
         follow.to_string(rt.alloc())?.as_str(),
-        "follow: usage: follow [--color] [--counter] [--replay] [--unload] [--level L] [--store PATH] [--store-success] [--store-failure] [FILE]",
+        "follow: usage: follow [--color] [--counter] [--replay] [--unload] \
+             [--level L] [--store PATH] [--store-success] [--store-failure] [FILE]",
     );
     Ok(())
 }

@@ -28,7 +28,8 @@ use writers::write_str::{WriteFault, WriteStr};
 /// that is shown immediately, and how long the next attempt waits. Output that is shown must be loaded.
 ///
 /// ```
-/// let attempt = ExecuteStatus::failed(1, Nanos::from_millis(500)).with_retry_data(RetryData { attempt: 1, total_attempts: 3 });
+/// let first = RetryData { attempt: 1, total_attempts: 3 };
+/// let attempt = ExecuteStatus::failed(1, Nanos::from_millis(500)).with_retry_data(first);
 /// let (delay, display) = (Nanos::from_secs(1), TestOutputDisplay::Never);
 /// write_attempt_failed(&mut out, &settings, None, test.as_ref(), &attempt, delay, display)?;
 /// assert_eq!(out.as_str(), "  TRY 1 FAIL [   0.500s] alpha t1\n   DELAY 2/3 by   1.000s alpha t1\n");

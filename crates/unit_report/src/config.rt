@@ -72,7 +72,8 @@ impl DisplayConfig {
     /// Asks for these levels, and makes them the profile's as well.
     ///
     /// ```
-    /// let config = DisplayConfig::with_overrides(ShowProgress::Counter, false, StatusLevel::Fail, FinalStatusLevel::Fail);
+    /// let (level, final_level) = (StatusLevel::Fail, FinalStatusLevel::Fail);
+    /// let config = DisplayConfig::with_overrides(ShowProgress::Counter, false, level, final_level);
     /// assert_eq!(config.resolve(false, false).progress_display, ProgressDisplay::Counter);
     /// ```
     pub fn with_overrides(

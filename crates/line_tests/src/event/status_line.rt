@@ -60,7 +60,8 @@ fn an_iteration_stands_before_a_bar(rt: HostRuntime) -> Result<(), Fail> {
     expect_text(
         &rt,
         text.as_str(),
-        "   FLAKY 2/2 [   2.000s] [2] (\u{2500}\u{2500}\u{2500}\u{2500}\u{2500}\u{2500}\u{2500}\u{2500}\u{2500}) my-binary-id test1\n",
+        "   FLAKY 2/2 [   2.000s] [2] \
+         (\u{2500}\u{2500}\u{2500}\u{2500}\u{2500}\u{2500}\u{2500}\u{2500}\u{2500}) my-binary-id test1\n",
     );
     Ok(())
 }

@@ -89,8 +89,10 @@ const SCENES: [(&str, &str); 19] = [
     (
         "config\tfinal\tfail\n\
         done\t-\ta\tt1\timmediate\tnever\tpass\t-\t1\tpass\t1000000000\t0\tcomb\tfine\\n\t-\t-\t-\n\
-        done\t-\ta\tt2\tnever\timmediate-final\tpass\t-\t1\tsig:11:SEGV\t1000000000\t0\tsplit\tone\\n\ttwo\\n\t-\terr:0:two\n\
-        done\t-\ta\tt3\tfinal\tfinal\tfail\t-\t2\tfail:1\t1\t0\tsplit\tred\\n\t\t-\t-\tpass\t2\t0\tsplit\tgreen\\n\t\t-\t-\n\
+        done\t-\ta\tt2\tnever\timmediate-final\tpass\t-\t1\tsig:11:SEGV\t1000000000\t0\t\
+        split\tone\\n\ttwo\\n\t-\terr:0:two\n\
+        done\t-\ta\tt3\tfinal\tfinal\tfail\t-\t2\tfail:1\t1\t0\tsplit\tred\\n\t\t-\t-\t\
+        pass\t2\t0\tsplit\tgreen\\n\t\t-\t-\n\
         done\t-\ta\tt4\tnever\tnever\tpass\t-\t1\texec\t1\t0\tstart\tcannot spawn\\,no file\t-\t-\t-\n\
         end\t4000000000\tinitial=4 finished=4 passed=2 flaky=1 failed=1 exec=1\t0\t-\n",
         "",

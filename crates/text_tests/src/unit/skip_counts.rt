@@ -31,11 +31,15 @@ const ROWS: &str = "\
 55000p- 5 tests skipped that already passed\n\
 35000p- 5 tests skipped, including 3 tests that already passed\n\
 22010p- 2 tests and 1 binary skipped, including 2 tests that already passed\n\
-22011p- 2 tests and 1 binary skipped, including 2 tests that already passed, and 1 binary via profile.my-profile.default-filter\n\
+22011p- 2 tests and 1 binary skipped, \
+including 2 tests that already passed, and 1 binary via profile.my-profile.default-filter\n\
 25300p- 5 tests skipped, including 2 tests that already passed, and 3 tests via profile.my-profile.default-filter\n\
-26321o- 6 tests and 2 binaries skipped, including 2 tests that already passed, and 3 tests and 1 binary via default-filter in profile.my-profile.overrides\n\
+26321o- 6 tests and 2 binaries skipped, including 2 tests that already passed, \
+and 3 tests and 1 binary via default-filter in profile.my-profile.overrides\n\
 02200pc \x1b[1m2\x1b[0m tests \x1b[33;1mskipped\x1b[0m via \x1b[1mprofile.my-profile.default-filter\x1b[0m\n\
-26321oc \x1b[1m6\x1b[0m tests and \x1b[1m2\x1b[0m binaries \x1b[33;1mskipped\x1b[0m, including \x1b[1m2\x1b[0m tests that already passed, and \x1b[1m3\x1b[0m tests and \x1b[1m1\x1b[0m binary via \x1b[1mdefault-filter\x1b[0m in \x1b[1mprofile.my-profile.overrides\x1b[0m\n\
+26321oc \x1b[1m6\x1b[0m tests and \x1b[1m2\x1b[0m binaries \x1b[33;1mskipped\x1b[0m, \
+including \x1b[1m2\x1b[0m tests that already passed, \
+and \x1b[1m3\x1b[0m tests and \x1b[1m1\x1b[0m binary via \x1b[1mdefault-filter\x1b[0m in \x1b[1mprofile.my-profile.overrides\x1b[0m\n\
 ";
 
 // The value of a digit.

@@ -29,7 +29,8 @@ fn rows() -> [(FinalRunStats, &'static str); 8] {
             FinalRunStats::Failed {
                 kind: of_tests(3, 1),
             },
-            "warning: 1/3 tests were not run due to test failure (run with --no-fail-fast to run all tests, or run with --max-fail)\n",
+            "warning: 1/3 tests were not run due to test failure \
+             (run with --no-fail-fast to run all tests, or run with --max-fail)\n",
         ),
         (
             cancelled(Some(CancelReason::Signal), of_tests(8, 5)),
