@@ -39,7 +39,8 @@ and 3 tests and 1 binary via default-filter in profile.my-profile.overrides\n\
 02200pc \x1b[1m2\x1b[0m tests \x1b[33;1mskipped\x1b[0m via \x1b[1mprofile.my-profile.default-filter\x1b[0m\n\
 26321oc \x1b[1m6\x1b[0m tests and \x1b[1m2\x1b[0m binaries \x1b[33;1mskipped\x1b[0m, \
 including \x1b[1m2\x1b[0m tests that already passed, \
-and \x1b[1m3\x1b[0m tests and \x1b[1m1\x1b[0m binary via \x1b[1mdefault-filter\x1b[0m in \x1b[1mprofile.my-profile.overrides\x1b[0m\n\
+and \x1b[1m3\x1b[0m tests and \x1b[1m1\x1b[0m binary \
+via \x1b[1mdefault-filter\x1b[0m in \x1b[1mprofile.my-profile.overrides\x1b[0m\n\
 ";
 
 // The value of a digit.
