@@ -65,7 +65,7 @@ class Package:
 
     @staticmethod
     def all_of(words):
-        """The packages of a workspace, by their ids, for the words of a build. Where Cargo does not tell them, there
+        """The packages of a workspace, by their ids, for the words of a build. Where Cargo does not name them, there
         are none."""
         given, at = [], 0
         while at < len(words):

@@ -58,7 +58,7 @@ def case_words(args):
 
 
 def module_of(script):
-    """The functions of a script, which tells nothing and ends nothing: a process for each call would take minutes."""
+    """The functions of a script, which prints nothing and ends nothing: a process for each call would take minutes."""
     loader = SourceFileLoader(script.name, str(script))
     module = module_from_spec(spec_from_loader(script.name, loader))
     loader.exec_module(module)
@@ -73,7 +73,7 @@ def words_of(file, name):
 
 
 def line_words():
-    """The words of all kinds of line: `config`, and those of the rows of lines that tell an event, as in `(codes "run",
+    """The words of all kinds of line: `config`, and those of the rows of lines that are events, as in `(codes "run",
     exactly 5 ..)`."""
     file = "scene_text/specs/EventLines.antt"
     found = re.findall(r'^ +(?:∷ )?\(codes "(.*?)", ', (CRATES / file).read_text(), re.M)
@@ -104,7 +104,7 @@ class Checks:
         self.name, self.done, self.failed = name, 0, 0
 
     def expect(self, holds, message):
-        """Tells the message where this does not hold."""
+        """Prints the message if this does not hold."""
         self.done += 1
         if not holds:
             self.failed += 1
@@ -120,7 +120,7 @@ class Checks:
             return child.communicate()
 
     def count(self, done, failed, message):
-        """Counts what was checked elsewhere, and tells the message where some of it failed."""
+        """Counts what was checked elsewhere, and prints the message if some of it failed."""
         self.done, self.failed = self.done + done, self.failed + int(failed)
         if failed:
             print(f"FAILED: {message}")

@@ -41,7 +41,7 @@ class Failure:
 
 
 class Summary:
-    """What the lines of a scene tell of a run."""
+    """What the lines of a scene say about a run."""
 
     def __init__(self, file):
         self.file, self.took, self.counts, self.has_ended = file, 0, {}, False

@@ -14,14 +14,14 @@ def by_the_clock(minutes, jobs):
     return minutes * max(1 / jobs, CHAIN)
 
 
-def told(minutes, jobs):
+def text(minutes, jobs):
     """Both, for the machines where it was measured."""
     clock = by_the_clock(minutes, jobs)
     least, most = f"{minutes:.0f} to {minutes * SLOWEST:.0f}", f"{clock:.0f} to {clock * SLOWEST:.0f}"
     return f"{least} processor minutes, {most} by the clock"
 
 
-def told_of_this(minutes, jobs, seconds):
+def here_text(minutes, jobs, seconds):
     """Both, for a machine where FIRST took so many processor seconds."""
     here = minutes * seconds / FIRST_SECONDS
     took = f"{FIRST} took {seconds:.0f} processor seconds, and {FIRST_SECONDS} on the fastest machine"

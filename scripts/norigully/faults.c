@@ -1,7 +1,7 @@
 /* Loaded before the C library, it makes one call of a program fail: the growth of memory, the write to standard
    output or to a file that was opened, the read, the read at a place of a file (`read-at`), or the look at what a file
    is (`look`). FAULT_KIND names the kind, and FAULT_AT says which call of it. A short write takes one byte; what is
-   interrupted takes or gives none, and may be tried again. It creates the file FAULT_TOLD where the call came. Six
+   interrupted takes or gives none, and may be tried again. It creates the file FAULT_MARK where the call came. Six
    kinds change many calls, the first of which creates that file. With `one-number` every file has the number 1 on its
    device. With `one-byte` every read gives a byte. With `random` reads and writes are interrupted or short, as FAULT_AT
    seeds it. With `interrupted-line` so many writes to standard error are interrupted. With `paced` each read of a file
@@ -30,15 +30,15 @@ __attribute__((constructor)) static void begin(void)
     }
 }
 
-/* Creates the file FAULT_TOLD, once. */
-static void tell(void)
+/* Creates the file FAULT_MARK, once. */
+static void mark(void)
 {
-    static int is_told;
-    if (is_told++ || !getenv("FAULT_TOLD"))
+    static int is_marked;
+    if (is_marked++ || !getenv("FAULT_MARK"))
         return;
-    int told = open(getenv("FAULT_TOLD"), O_CREAT | O_WRONLY, 0600);
-    if (told >= 0)
-        close(told);
+    int file = open(getenv("FAULT_MARK"), O_CREAT | O_WRONLY, 0600);
+    if (file >= 0)
+        close(file);
 }
 
 /* Whether this call, of this kind, or of it with `short-` or `interrupted-` before, is the one. */
@@ -50,7 +50,7 @@ static int fails(const char *plain)
         return 0;
     if (calls_before-- > 0)
         return 0;
-    tell();
+    mark();
     return 1;
 }
 
@@ -59,7 +59,7 @@ static int is(const char *name)
 {
     if (strcmp(kind, name))
         return 0;
-    tell();
+    mark();
     return 1;
 }
 
@@ -214,7 +214,7 @@ ssize_t pread(int file, void *bytes, size_t count, off_t offset)
     return real(file, bytes, count, offset);
 }
 
-int statx(int folder, const char *path, int flags, unsigned int mask, struct statx *told)
+int statx(int folder, const char *path, int flags, unsigned int mask, struct statx *result)
 {
     static int (*real)(int, const char *, int, unsigned int, struct statx *);
     if (!real)
@@ -223,8 +223,8 @@ int statx(int folder, const char *path, int flags, unsigned int mask, struct sta
         errno = EIO;
         return -1;
     }
-    int status = real(folder, path, flags, mask, told);
+    int status = real(folder, path, flags, mask, result);
     if (status == 0 && is("one-number"))
-        told->stx_ino = 1;
+        result->stx_ino = 1;
     return status;
 }

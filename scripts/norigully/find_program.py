@@ -17,7 +17,7 @@ from norigully.programs import is_of, program, sum_of_sources, take
 TICK, BUILD = 1.0, 60
 
 
-class Told:
+class BuildLine:
     """Says that a program is built without its proof. On a terminal it shows the seconds, and the line goes in the
     end."""
 
@@ -26,27 +26,27 @@ class Told:
         if not unproved_program.programs().is_there():
             how = "without its proof, for this call only (no cache that nobody else can write)"
         self.line = f"{called}: building {name} {how}"
-        self.ended, self.teller = threading.Event(), threading.Thread(target=self.tell, daemon=True)
+        self.ended, self.thread = threading.Event(), threading.Thread(target=self.show, daemon=True)
 
-    def tell(self):
+    def show(self):
         began, is_ended = time.monotonic(), False
         while not is_ended:
             seconds = int(time.monotonic() - began)
-            told = f"{seconds} of some {BUILD} s" if seconds <= BUILD else f"{seconds} s, on a busy machine"
-            print(f"\r{self.line}: {told} ", end="", file=sys.stderr, flush=True)
+            text = f"{seconds} of some {BUILD} s" if seconds <= BUILD else f"{seconds} s, on a busy machine"
+            print(f"\r{self.line}: {text} ", end="", file=sys.stderr, flush=True)
             is_ended = self.ended.wait(TICK)
         print("\r\033[K", end="", file=sys.stderr, flush=True)
 
     def __enter__(self):
         if sys.stderr.isatty():
-            self.teller.start()
+            self.thread.start()
         else:
             print(f"{self.line}, in some {BUILD} s", file=sys.stderr, flush=True)
 
     def __exit__(self, *_):
         self.ended.set()
-        if self.teller.is_alive():
-            self.teller.join()
+        if self.thread.is_alive():
+            self.thread.join()
 
 
 def build(called, name):
@@ -55,7 +55,7 @@ def build(called, name):
     check_mount(called, "TMPDIR", tempfile.gettempdir())
     check_mount(called, "XDG_CACHE_HOME", unproved_program.programs().at)
     try:
-        with Told(called, name):
+        with BuildLine(called, name):
             return unproved_program.build(name)
     except unproved_program.NotBuilt as error:
         sys.stderr.write(str(error))

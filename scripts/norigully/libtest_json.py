@@ -20,7 +20,7 @@ SLOW_AFTER = 60
 
 
 class Reader:
-    """Tells what became of each test, in the order in which they ended."""
+    """Reads what became of each test, in the order in which they ended."""
 
     def __init__(self):
         self.binary_ids, self.suites, self.run, self.slow = {}, 0, WholeRun(), set()

@@ -141,15 +141,15 @@ class Run:
         many, few = (len(it) * len(FAILURE) * len(LEVELS) for it in (SUCCESS, [""]))
         return [""], f"This page{why} has {few} of {many} reports: output of successes as in the run."
 
-    def told(self):
-        """What the lines tell, which were reported."""
-        told = page_scene.Told()
+    def summary(self):
+        """What the lines that were reported say about the run."""
+        summary = page_scene.Summary()
         with open(self.lines, "rb") as lines:
             for number, line in enumerate(lines):
                 # The last line of a recorded run may be cut.
                 if line.endswith(b"\n") or not self.asked.is_recorded:
-                    told.read(number, line)
-        return told
+                    summary.read(number, line)
+        return summary
 
     def find_places(self, tests, words, sum_of_first):
         """Finds where these tests are in the first report, by a report with marks around them."""
@@ -191,13 +191,13 @@ def make(run, file):
         numbers |= {f"{level},{failure},{success}": known[lines, level] for level in LEVELS}
     table.close()
     reports.close()
-    told = run.told()
-    tests, lists = told.tests()
+    summary = run.summary()
+    tests, lists = summary.tests()
     if tests:
         run.find_places(tests, choices[0], next(iter(reports.known)))
     about = {"reports": numbers, "tests": [[*it.name, it.place, it.end] for it in tests], "lists": lists, "note": note}
     (run.folder / "about").write_text(json.dumps(about, separators=(",", ":")))
-    write_page(run, told.facts, file)
+    write_page(run, summary.facts, file)
 
 
 def part(*names):

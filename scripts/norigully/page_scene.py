@@ -108,8 +108,8 @@ class Test:
 
 
 @dataclass
-class Told:
-    """What the lines of a scene tell of the run."""
+class Summary:
+    """What the lines of a scene say about the run."""
 
     # In the order in which a page says them.
     facts: dict = field(default_factory=dict)

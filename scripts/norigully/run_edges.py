@@ -72,16 +72,17 @@ def check_places(checks, room, build, bare):
         checks.expect_line(f"--archive {name}", refused, 1, said)
         checks.expect(os.path.samestat(before, (folder / name).stat()), f"--archive {name}: it was replaced")
     os.mkfifo(folder / "norigully-follow")
-    told = f"build: cannot write {folder}: it is no regular file\n".encode()
-    checks.expect_line("--install and a pipe", ran([build, "--install", folder], **bare), 1, told)
+    said = f"build: cannot write {folder}: it is no regular file\n".encode()
+    checks.expect_line("--install and a pipe", ran([build, "--install", folder], **bare), 1, said)
     checks.expect(not (folder / "norigully").exists(), "--install and a pipe: something is written")
     (folder / "norigully-follow").unlink()
     (folder / "norigully").write_text("an older one\n")
     before = sorted(folder.iterdir())
     # There is room for `norigully`, and for none of the programs.
     full = {"preexec_fn": lambda: resource.setrlimit(resource.RLIMIT_FSIZE, (300_000, 300_000))}
-    told = f"build: cannot write {folder}: File too large\n".encode()
-    checks.expect_line("--install and a full disk", with_output(ran([build, "--install", folder], **bare, **full)), 1, told)
+    said = f"build: cannot write {folder}: File too large\n".encode()
+    unwritten = with_output(ran([build, "--install", folder], **bare, **full))
+    checks.expect_line("--install and a full disk", unwritten, 1, said)
     is_same = sorted(folder.iterdir()) == before and (folder / "norigully").read_text() == "an older one\n"
     checks.expect(is_same, f"--install and a full disk: {sorted(folder.iterdir())}")
 
@@ -108,11 +109,14 @@ os.statvfs = lambda path: types.SimpleNamespace(f_flag=os.ST_NOEXEC if str(path)
 """
 
 
-def check_cache(checks, room, run, told):
+def check_cache(checks, room, run, environment):
     """What is kept is run where it is whole, this user's, and of a folder that nobody else can write or replace; what
     cannot be kept is built for one call."""
-    cache, words = pathlib.Path(told["XDG_CACHE_HOME"]), [run, room.scene]
-    expect = lambda what, said, words=words, env=told: checks.expect_run(what, ran(words, env=env), 0, room.report, said)  # noqa: E731
+    cache, words = pathlib.Path(environment["XDG_CACHE_HOME"]), [run, room.scene]
+
+    def expect(what, said, words=words):
+        checks.expect_run(what, ran(words, env=environment), 0, room.report, said)
+
     expect("a new cache", BUILDS)
     own = cache / "norigully/programs"
     (kept,) = own.iterdir()
@@ -138,19 +142,19 @@ def check_cache(checks, room, run, told):
         expect(f"below a folder of mode {mode:o}, again", said)
     for place, variable in (cache, "XDG_CACHE_HOME"), (room.folder / "barred", "TMPDIR"):
         place.mkdir(exist_ok=True)
-        env = {**told, variable: str(place)}
+        env = {**environment, variable: str(place)}
         barred = ran(shimmed(NOEXEC.format(place=str(place)), run, "--follow", room.scene), env=env)
         what = f"{variable} on a mount without programs"
         checks.expect_line(what, barred, 1, f"run: no program can run in {place}".encode())
         checks.expect(f" noexec: let {variable} name another folder\n".encode() in barred.stderr, f"{what}: {barred}")
 
 
-def check_homeless(checks, room, run, build, told):
+def check_homeless(checks, room, run, build, environment):
     """Without a home nothing is kept or left, and a relative XDG_CACHE_HOME counts as none."""
     place = room.folder / "homeless"
     place.mkdir()
     for cache in (None, "a cache"):
-        env = {key: it for key, it in told.items() if key not in ("HOME", "XDG_CACHE_HOME")}
+        env = {key: it for key, it in environment.items() if key not in ("HOME", "XDG_CACHE_HOME")}
         env = env if cache is None else {**env, "XDG_CACHE_HOME": cache}
         ended = ran(shimmed(HOMELESS, run, room.scene), env=env, cwd=place)
         checks.expect_run(f"no home, XDG_CACHE_HOME={cache}", ended, 0, room.report, BUILDS)

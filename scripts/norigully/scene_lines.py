@@ -145,7 +145,7 @@ class Run:
     """Writes the lines of one run, and counts."""
 
     def __init__(self, write, total, binaries, skipped=0, profile="default", run_id=RUN_ID):
-        self.write, self.counts, self.told = write, {}, {}
+        self.write, self.counts, self.texts = write, {}, {}
         self.count_as("initial", total)
         self.line("run", run_id, profile, str(total), str(binaries), f"tests={skipped}" if skipped else "-")
 
@@ -153,18 +153,18 @@ class Run:
         self.write("\t".join(fields) + "\n")
 
     def stats(self):
-        return " ".join(self.told.values()) or "-"
+        return " ".join(self.texts.values()) or "-"
 
     def count_as(self, key, value):
         """What is 0 is left out."""
         self.counts[key] = value
         if value:
-            self.told[key] = f"{key}={value}"
+            self.texts[key] = f"{key}={value}"
 
     def count(self, *keys):
         for key in keys:
             value = self.counts[key] = self.counts.get(key, 0) + 1
-            self.told[key] = f"{key}={value}"
+            self.texts[key] = f"{key}={value}"
 
     def start(self, binary, name, command):
         self.line("start", "-", text(binary), text(name), self.stats(), words(command))
@@ -223,7 +223,7 @@ class WholeRun(Run):
     TOTAL, PIECE = "\0", 1 << 20
 
     def __init__(self):
-        self.kept, self.counts, self.told = bytearray(), {}, {}
+        self.kept, self.counts, self.texts = bytearray(), {}, {}
         self.count_as("initial", self.TOTAL)
 
     def write(self, line):
@@ -240,7 +240,7 @@ class WholeRun(Run):
         while at < len(self.kept):
             end = self.kept.find(b"\n", at + self.PIECE) + 1 or len(self.kept)
             piece = bytes(self.kept[at:end])
-            for told, number in changes.items():
-                piece = piece.replace(told.encode(), number.encode())
+            for pattern, number in changes.items():
+                piece = piece.replace(pattern.encode(), number.encode())
             yield piece
             at = end

@@ -31,7 +31,7 @@ def usage(program):
 @dataclass
 class Options:
     """What words ask of a program: the options before the file, and the file, which is the folder for `replay`; None
-    where `follow` reads standard input without being told so."""
+    where `follow` reads standard input without an option that says so."""
 
     program: str
     given: list = field(default_factory=list)

@@ -1,4 +1,4 @@
--- What the words of a command line ask for.
+-- The options of a command line.
 use Rattle.std.specs.Prelude.{ℕ, List, [], ◌∷◌, ◌++◌, map, Bool, true, false, not, ◌&&◌, ◌||◌, if◌then◌else◌, Option, None, Some, is_none, is_some, unwrap_or, String, string_bytes, codes, bytes_eq}
 use Rattle.std.specs.Option.{option_map, option_and_then, option_or}
 use Rattle.{std.specs.declared.alloc.Global.Global, run_names.specs.declared.level.StatusLevel.StatusLevel, store_text.specs.declared.config.StoreConfig.StoreConfig}
@@ -17,7 +17,7 @@ pub record AskedStore : Type 0 where
   pub file : Argument
   pub config : StoreConfig
 
--- what is asked for: `Options`, with a text for each that it borrows
+-- `Options`, with texts in place of borrowed words
 pub record Asked : Type 0 where
   pub should_colorize : Bool
   pub show_counter : Bool
@@ -27,7 +27,7 @@ pub record Asked : Type 0 where
   pub store : Option AskedStore
   pub file : Argument
 
--- what these options ask for of a file and of records, if they are used rightly: without records no output is kept
+-- the parsed options with the file of the records and that of the scene; None if outputs are to be stored without a file of records
 abbrev pub asked_of : ArgsSoFar → Option Argument → Argument → Option Asked
 asked_of options store file =
     if is_none store && (options.store_success || options.store_failure) then None
@@ -45,7 +45,7 @@ asked_of options store file =
 abbrev pub no_args : ArgsSoFar
 no_args = record { color = false; counter = false; replay = false; unload = false; level = None; store_success = false; store_failure = false }
 
--- these options and a flag, if it is one and was not there before
+-- adds a flag; None if it is unknown or was already given
 abbrev pub with_flag : ArgsSoFar → Argument → Option ArgsSoFar
 with_flag options flag =
     if bytes_eq flag (codes "--color") && not options.color then Some (record options { color = true })
@@ -69,14 +69,14 @@ level_of word =
     else (if bytes_eq word (codes "all") then Some status.All
     else None)))))))
 
--- these options and the word of a status level, if it is one and no level was there before
+-- adds a status level; None if the word names none or a level was already given
 abbrev pub with_level : ArgsSoFar → Argument → Option ArgsSoFar
 with_level options word =
     if is_some options.level then None
     else option_map (λ level. record options { level = Some level }) (level_of word)
 
--- what words ask for after these options and where records go, if they are used rightly: the last one is the file, a level follows
--- `--level`, and the file of the records follows `--store`
+-- parses the remaining words, after these options and this file of records: the last word is the file, a level follows `--level`,
+-- and the file of the records follows `--store`; None for a wrong command line
 unfoldable pub options_after : ArgsSoFar → Option Argument → List Argument → Option Asked
 options_after options store [] = None
 options_after options store (file ∷ []) = asked_of options store file
@@ -85,11 +85,12 @@ options_after options store (option ∷ word ∷ rest) =
     else (if bytes_eq option (codes "--store") then (if is_some store then None else options_after options (Some word) rest)
     else option_and_then (λ more. options_after more store (word ∷ rest)) (with_flag options option))
 
--- what these words ask for, if they are used rightly
+-- the options of a command line, or None if it is wrong
 abbrev pub options_of : List Argument → Option Asked
 options_of words = options_after no_args None words
 
--- the same where standard input is the file `-`, and is read if no file is named
+-- like options_of, where the file is `-`, standard input, if none is named
+--
 abbrev pub options_or_input : List Argument → Option Asked
 options_or_input words = option_or (options_of (words ++ codes "-" ∷ [])) (options_of words)
 

@@ -7,13 +7,13 @@ use Rattle.scene_fields.specs.declared.fault.ReadFault.TheVariants as read
 use Rattle.command_line.specs.declared.fault.Fault.TheVariants as fault
 use Rattle.command_line.specs.declared.fault.ReportProgram.TheVariants as program
 
--- the name of a program, and what it reads, as the last of the words that it takes
+-- the name of a program, and what its usage names last: what it reads
 abbrev pub program_words : ReportProgram → List ℕ × List ℕ
 program_words program.Report = (codes "report", codes "FILE")
 program_words program.Follow = (codes "follow", codes "[FILE]")
 program_words program.Replay = (codes "replay", codes "DIR")
 
--- what a program says of a fault: of wrong words, the words that it takes
+-- the message of a fault, without the program's name; for a wrong command line it is the usage
 abbrev pub fault_text : ReportProgram → Fault → List ℕ
 fault_text by fault.Usage =
     codes "usage: " ++ ((program_words by).0
@@ -33,7 +33,7 @@ fault_line it = (program_words it.program).0 ++ (codes ": " ++ fault_text it.pro
 abbrev pub line_of : Fault → FaultLine
 line_of fault = record { program = program.Report; fault = fault }
 
--- 2 where nothing was printed, 3 where a beginning of the report was
+-- 2 for input that cannot be read or is wrong, 3 for a device that failed and for refused memory
 abbrev pub status_of : Fault → ℕ
 status_of fault.WriteFailed = 3
 status_of fault.StoreFailed = 3
@@ -50,7 +50,8 @@ abbrev pub fault_of_read : ReadFault → Fault
 fault_of_read (read.Line n f) = fault.Line n f
 fault_of_read read.OutOfMemory = fault.OutOfMemory
 
--- the fault where an error of this kind was met: this one, unless memory was refused
+-- this fault, or OutOfMemory if the I/O error is of that kind
+--
 abbrev pub fault_by_kind : ErrorKind → Fault → Fault
-fault_by_kind kind.OutOfMemory told = fault.OutOfMemory
-fault_by_kind _ told = told
+fault_by_kind kind.OutOfMemory given = fault.OutOfMemory
+fault_by_kind _ given = given

@@ -4,14 +4,15 @@ use Rattle.command_line.specs.declared.{fault.Fault.Fault, pieces.Chunk.Chunk}
 use Rattle.command_line.specs.declared.fault.Fault.TheVariants as fault
 use Rattle.command_line.specs.declared.pieces.Chunk.TheVariants as taken
 
--- what was read of a text: nothing, where it was empty; or a piece that a line feed parts from what is left, or the whole text, where it was not
--- empty
+-- If the text is empty, nothing was read. Otherwise the piece is followed by a line feed and the rest, or is the whole
+-- text.
 abbrev pub IsNextPiece : List ℕ → Bool → List ℕ → Option (List ℕ) → Type 0
 IsNextPiece text false piece rest = (text ≡ []) × (rest ≡ Some [])
 IsNextPiece text true piece rest = (more : List ℕ) × (rest ≡ Some more) × ((text ≡ piece ++ 10 ∷ more) ⊎ ((text ≡ piece) × (more ≡ []) × (0 < length piece)))
 
--- what was taken of a text whose first bytes are buffered, after what was taken before: lines and the line feed that ends them, a part
--- of one, or nothing, if none are buffered; and what is left of it
+-- What take_at_hand took from the buffer, the front of the text, and added to the piece `old`: lines and the line feed
+-- after them, part of a line, or nothing if the buffer was empty. `rest` is what remains of the text.
+--
 abbrev pub IsBehind : Chunk → List ℕ → List ℕ → List ℕ → List ℕ → Option (List ℕ) → Type 0
 IsBehind taken.Lines at_hand text old new rest = (more : List ℕ) × (rest ≡ Some more) × (old ++ text ≡ new ++ 10 ∷ more)
 IsBehind taken.Part at_hand text old new rest = (more : List ℕ) × (rest ≡ Some more) × (old ++ text ≡ new ++ more)

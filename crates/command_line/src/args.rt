@@ -1,6 +1,6 @@
-//! The words of a command line.
+//! The command line of a program.
 //!
-//! Options come before the file, which is the last word whatever it looks like.
+//! Options come before the file. The last word is the file, even if it looks like an option.
 
 ghost use Rattle.std.specs.Prelude.{◌≡◌, true, if◌then◌else◌, Some, None, IfOk};
 ghost use Rattle.std.specs.Option.{option_map};
@@ -11,39 +11,40 @@ use run_model::memory::OutOfMemory;
 use std::alloc::Global;
 use store_text::config::StoreConfig;
 
-/// What the words of a command line ask for. It borrows the words.
+/// The options of a command line. It borrows the words.
 #[derive(Clone, Copy, Debug, PartialEq, Eq)]
 pub struct Options<'a> {
     /// Whether the report has colours.
     pub should_colorize: bool,
     /// Whether each line of a test has a counter.
     pub show_counter: bool,
-    /// Whether the run was recorded, and is shown again.
+    /// Whether the report is one of a recorded run that is replayed.
     pub is_replay: bool,
-    /// Whether the output that the report does not show is left unread.
+    /// Whether output that the report does not show is not read.
     pub unload_skipped: bool,
-    /// From which status level on the lines of tests are shown.
+    /// The status level from which on the lines of tests are shown.
     pub status_level: StatusLevel,
     /// Where records of finished tests go, if they are asked for.
     pub store: Option<StoreOptions<'a>>,
     /// The file that holds the scene, or the folder that holds the recorded run.
     pub file: &'a str,
-    /// Whether the process ends with the report, which leaves its memory unfreed then. No word asks for it.
+    /// Whether the process exits right after the report. Its memory is then not freed. The programs set this, not the
+    /// command line.
     pub is_last: bool,
 }
 
 /// Where records go, and what they hold.
 #[derive(Clone, Copy, Debug, PartialEq, Eq)]
 pub struct StoreOptions<'a> {
-    /// The file, which is made or emptied.
+    /// The file. It is created, or emptied if it exists.
     pub file: &'a str,
     /// Which outputs are kept.
     pub config: StoreConfig,
 }
 
-/// Parses the words after the program's name, or returns None if they are wrong: without a file, with an
-/// option that the program does not know or that occurs twice, with no status level after `--level`, which is
-/// `pass` if that option is left out, or with an output to keep and no `--store`.
+/// Parses the words after the program's name. They are wrong, and the result None, if there is no file, if an option is
+/// unknown or occurs twice, if no status level follows `--level`, or if outputs are to be stored without `--store`.
+/// Without `--level` the status level is `pass`.
 ///
 /// ```
 /// let given = CommandLine::from_words(alloc, &["--level", "fail", "first.scene"])?;
@@ -59,8 +60,8 @@ pub fn words(words: &[String]) -> Option<Options<'_>>
     ArgsSoFar::default().followed_by(None, words)
 }
 
-/// The same for a program that reads standard input, which is the file `-`, where no file is named: that word is pushed, and counts
-/// where the words before it are options alone.
+/// Like [`words`], for a program that reads standard input if no file is named. It pushes the word `-`, the name of
+/// standard input. That word is the file if all words before it are options, and is otherwise ignored.
 ///
 /// ```
 /// let mut given = Vec::new(alloc);
@@ -78,7 +79,7 @@ pub fn args_or_input<'a>(
     Ok(words(given.as_slice()).or(words(&given[..given.len() - 1])))
 }
 
-// The options that were read so far, but for where records go.
+// The options parsed so far, except the file of the records.
 #[derive(Clone, Copy, Default)]
 struct ArgsSoFar {
     color: bool,
@@ -91,7 +92,8 @@ struct ArgsSoFar {
 }
 
 impl ArgsSoFar {
-    // The options with these records, and with the words after them. No option occurs twice, so few calls nest.
+    // Parses the remaining words; `store` is the file of the records so far. No option occurs twice, so the recursion is
+    // shallow.
     #[tactic(auto, unfolding(crate::specs::Args::options_after))]
     fn followed_by<'a>(self, store: Option<&'a str>, words: &'a [String]) -> Option<Options<'a>>
         ensures { asked result ≡ options_after self (option_map (λ path. path.now) store.entry) (texts words.now) }
@@ -110,7 +112,7 @@ impl ArgsSoFar {
         }
     }
 
-    // These options and a flag, which is an option of one word. It is None where the flag is unknown or was there before.
+    // Adds a flag, an option of one word. None if it is unknown or was already given.
     fn with_flag(mut self, flag: &str) -> Option<ArgsSoFar>
         ensures { result ≡ with_flag self flag.now }
     {
@@ -126,7 +128,7 @@ impl ArgsSoFar {
         Some(self)
     }
 
-    // These options and the word of a status level. It is None where that is none, or a level was there before.
+    // Adds a status level. None if the word names none, or if a level was already given.
     fn with_level(self, word: &str) -> Option<ArgsSoFar>
         ensures { result ≡ with_level self word.now }
     {
@@ -140,7 +142,8 @@ impl ArgsSoFar {
         })
     }
 
-    // What they ask for of a file and of records. It is None where outputs are to be kept, and no records.
+    // The parsed options with the file of the scene and that of the records. None if outputs are to be stored and there is
+    // no file of records.
     fn options<'a>(self, store: Option<&'a str>, file: &'a str) -> Option<Options<'a>>
         ensures { asked result ≡ asked_of self (option_map (λ path. path.now) store.entry) file.now }
     {
@@ -168,7 +171,7 @@ impl ArgsSoFar {
     }
 }
 
-// Sets a flag that was not set before.
+// Sets a flag. None if it was already set.
 fn set_first(flag: &mut bool) -> Option<()>
     ensures { option_map (λ _. flag.new) result ≡ if flag.old then None else Some true }
 {
@@ -179,7 +182,8 @@ fn set_first(flag: &mut bool) -> Option<()>
     Some(())
 }
 
-// The status level of a word.
+// The status level with this name.
+--
 fn read_level(word: &str) -> Option<StatusLevel>
     ensures { result ≡ level_of word.now }
 {

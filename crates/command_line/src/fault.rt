@@ -1,4 +1,4 @@
-//! What can go wrong, the line that says so, and the status that the program then ends with.
+//! The errors of the programs, with the message and the exit status of each.
 
 ghost use Rattle.std.specs.Prelude.{◌≡◌, Some};
 ghost use Rattle.command_line.specs.Faults.{fault_by_kind, fault_line, fault_of_read, line_of, program_words, status_of};
@@ -11,7 +11,7 @@ use std::fmt;
 use std::fmt::Formatter;
 use std::io::ErrorKind;
 
-/// What can go wrong. It is shown as the line that `report` prints; a [`FaultLine`] is that of any program.
+/// An error of a program. It displays as the line that `report` prints; [`FaultLine`] displays that of any program.
 ///
 /// ```
 /// use scene_fields::fault::LineFault;
@@ -22,33 +22,33 @@ use std::io::ErrorKind;
 pub enum Fault<'a> {
     /// The command line is wrong.
     Usage,
-    /// The file cannot be read, or a file in the folder.
+    /// The file, or a file of the folder, cannot be read.
     CannotRead {
         /// The file or the folder, as the command line names it.
         file: &'a str,
     },
-    /// The file of the records cannot be made or emptied.
+    /// The file of the records cannot be created or emptied.
     CannotWrite {
         /// The file, as the command line names it.
         file: &'a str,
     },
     /// A line of the scene is wrong.
     Line {
-        /// Which one, from 1.
+        /// Its number, from 1.
         line: u64,
         /// What is wrong with it.
         fault: LineFault,
     },
-    /// Standard output took only a beginning of the report.
+    /// A write to standard output failed. It has a prefix of the report.
     WriteFailed,
-    /// The file of the records took only a beginning of them.
+    /// A write to the file of the records failed. It has a prefix of them.
     StoreFailed,
-    /// A growth of memory was refused.
+    /// Memory was refused.
     OutOfMemory,
 }
 
 impl<'a> Fault<'a> {
-    /// The status that the program ends with.
+    /// The exit status of a program with this error.
     pub fn status(&self) -> u8
         ensures { result ≡ status_of self.now }
     {
@@ -61,7 +61,7 @@ impl<'a> Fault<'a> {
         }
     }
 
-    /// This fault, which an error of the kind led to; or that memory was refused, where the error says so.
+    /// This fault, or `OutOfMemory` if the I/O error that led to it is of that kind.
     pub fn by_kind(self, kind: ErrorKind) -> Fault<'a>
         ensures { result ≡ fault_by_kind kind self.entry }
     {
@@ -86,7 +86,7 @@ impl fmt::Display for Fault<'_> {
 
 impl Error for Fault<'_> {}
 
-/// The line that a program prints on standard error: its name and its fault. Of words that are used wrongly it shows the right ones.
+/// The line that a program prints on standard error: its name and the fault. For a wrong command line it shows the usage.
 ///
 /// ```
 /// let line = FaultLine { program: ReportProgram::Report, fault: Fault::WriteFailed };
@@ -94,7 +94,7 @@ impl Error for Fault<'_> {}
 /// ```
 #[derive(Clone, Copy)]
 pub struct FaultLine<'a> {
-    /// Whose line it is.
+    /// The program that prints the line.
     pub program: ReportProgram,
     /// What went wrong.
     pub fault: Fault<'a>,
@@ -103,16 +103,17 @@ pub struct FaultLine<'a> {
 /// A program that reports scenes or recorded runs.
 #[derive(Clone, Copy, PartialEq, Eq)]
 pub enum ReportProgram {
-    /// It reports a scene that it has read to its end.
+    /// Reads a scene to its end and then reports it.
     Report,
-    /// It reports each line as it comes.
+    /// Reports each line of a scene as it is read.
     Follow,
-    /// It reports a recorded run, of whose outputs it reads those that it shows.
+    /// Reports a recorded run, and reads only the outputs that it shows.
     Replay,
 }
 
 impl ReportProgram {
-    // Its name, and what it reads, as the last of the words that it takes.
+    // Its name, and what its usage names last: what it reads.
+    --
     fn words(self) -> (&'static str, &'static str)
         ensures { (result.0.now, result.1.now) ≡ program_words self }
     {

@@ -1,7 +1,8 @@
-//! What the programs `report`, `follow` and `replay` are asked for, how a scene is read, and what can go wrong: no reporter is known here.
+//! What the programs `report`, `follow` and `replay` share besides their reporter.
 //!
-//! `words` are the words of a command line, `pieces` is how the file of a scene is read, and `fault` what can go wrong, the line that says so, and the
-//! status that a program then ends with.
+//! `args` parses their command lines, `pieces` reads a file some lines at a time, and `fault` has the errors of the
+//! programs, with the message and the exit status of each.
+--
 #![tactic(auto)]
 
 pub mod args;

@@ -1,4 +1,4 @@
-//! A file read in pieces of whole lines, so that no more than one of them is in memory.
+//! Reads a file in pieces of whole lines, so that only one piece is in memory at a time.
 
 ghost use Rattle.std.specs.Prelude.{◌≡◌, ℕ, List, Some, IfOk, IfErr};
 ghost use Rattle.std.specs.{Io.Buffered.reader_buffer, Io.Buffered.reader_remaining};
@@ -9,8 +9,8 @@ use memchr::memrchr;
 use run_model::memory::OutOfMemory;
 use std::io::{BufRead, BufReader, ErrorKind, Read};
 
-/// Reads the next lines into the buffer: all whole ones that the reader has buffered, or one that is longer, without the line feed that
-/// ends them. It returns whether there was a line.
+/// Replaces `piece` by the next lines: all whole lines that the reader has buffered, or one line that is longer than its
+/// buffer. The last line feed is left out. It returns false at the end of the file.
 pub fn next_piece<'a, R: Read>(
     file: &'a str,
     reader: &mut BufReader<R>,
@@ -29,25 +29,26 @@ pub fn next_piece<'a, R: Read>(
         match take_at_hand(reader, piece)? {
             Chunk::Lines => return Ok(true),
             Chunk::Part => {}
-            // The file ends here.
+            // The end of the file.
             Chunk::Nothing => return Ok(!piece.is_empty()),
         }
     }
     Err(Fault::CannotRead { file })
 }
 
-// What was taken of the bytes that a reader has buffered.
+// What was taken from a reader's buffer.
 #[derive(Clone, Copy)]
 enum Chunk {
-    // Whole lines, and the line feed that ends the last.
+    // Whole lines, with the line feed after the last one.
     Lines,
-    // All of them, which are a part of a line.
+    // The whole buffer, which is part of a line.
     Part,
-    // Nothing, since it has none.
+    // Nothing: the buffer was empty.
     Nothing,
 }
 
-// Takes the whole lines that the reader has buffered, or all that it has of a longer one.
+// Takes the whole lines that the reader has buffered, or else its whole buffer.
+--
 fn take_at_hand<R: Read>(
     reader: &mut BufReader<R>,
     piece: &mut Vec<u8>,

@@ -1,7 +1,9 @@
-//! The program `follow`: it reads the lines of a scene as they come, and prints nextest's console report of each before it reads more.
+//! The program `follow`: it reads the lines of a scene as they come, and prints nextest's console report of each before
+//! it reads more.
 //!
-//! Its status is that of the run: 0 for a success, 100 for a failure, 4 where no test ran, and 3 for a run that did not end, since a
-//! producer that died must not look like a success. What goes wrong is one line on standard error and the status.
+//! Its exit status is that of the run: 0 for a success, 100 for a failure, 4 if no test ran, and 3 for a run that did
+//! not end, so that a producer that died does not look like a success. An error is one line on standard error and a
+//! status.
 #![tactic(auto)]
 
 use scenes::args::{Options, args_or_input};
@@ -27,7 +29,7 @@ fn main(rt: HostRuntime) -> ExitCode {
     ExitCode::from(status)
 }
 
-// Returns the status of the run. For a run that did not end it prints a line.
+// The exit status of the run. If the run did not end, it also prints a line.
 fn end(rt: &HostRuntime, outcome: RunOutcome) -> u8 {
     if outcome == RunOutcome::NotEnded {
         print_error(rt, "follow: the run did not end");
@@ -35,7 +37,7 @@ fn end(rt: &HostRuntime, outcome: RunOutcome) -> u8 {
     outcome.status()
 }
 
-// Runs the program on its words.
+// Runs the program on its command line.
 fn run<'a>(rt: &HostRuntime, args: &'a mut Vec<String>) -> Result<RunOutcome, Fault<'a>> {
     let Some(options) = args_or_input(rt.alloc(), args)? else {
         return Err(Fault::Usage);
@@ -45,7 +47,7 @@ fn run<'a>(rt: &HostRuntime, args: &'a mut Vec<String>) -> Result<RunOutcome, Fa
         ..options
     };
     if options.file == "-" {
-        // Without `/dev/stdin` it is not known which file it is.
+        // Without `/dev/stdin` there is no way to see which file standard input is.
         let input = fs::metadata(rt, "/dev/stdin").ok();
         return follow(rt, &options, rt.stdin(), input);
     }
@@ -55,14 +57,15 @@ fn run<'a>(rt: &HostRuntime, args: &'a mut Vec<String>) -> Result<RunOutcome, Fa
     }
 }
 
-// Opens a file, and asks which it is.
+// Opens a file, with the metadata that identifies it.
 fn open(rt: &HostRuntime, path: &str) -> io::Result<(File, Metadata)> {
     let file = File::open(rt, path)?;
     let input = file.metadata()?;
     Ok((file, input))
 }
 
-// Follows the lines of a reader. The file of the records is made or emptied before a line is read, and is not the input.
+// Follows the lines of a reader. The file of the records is created or emptied before a line is read. It must not be
+// the input.
 fn follow<'a, R: Read + Drop>(
     rt: &HostRuntime,
     options: &Options<'a>,
@@ -70,7 +73,8 @@ fn follow<'a, R: Read + Drop>(
     input: Option<Metadata>,
 ) -> Result<RunOutcome, Fault<'a>> {
     let alloc = rt.alloc();
-    // A signal may interrupt a write, which is then made again.
+    // A write that a signal interrupts is repeated.
+    --
     let output = RetryInterrupted::new(io::writer(rt));
     let Some(store) = options.store else {
         return follow_scene(alloc, options, reader, output, io::sink()).0;

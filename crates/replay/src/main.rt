@@ -1,7 +1,8 @@
-//! The program `replay`: it prints nextest's console report of a recorded run. Of what the tests wrote it reads what the report shows.
+//! The program `replay`: it prints nextest's console report of a recorded run. It reads only the output that the report
+//! shows.
 //!
-//! Its status is that of the run, as it is of the program `follow`: 0 for a success, 100 for a failure, 4 where no test ran, and 3 for a run
-//! that did not end. What goes wrong is one line on standard error and the status.
+//! Its exit status is that of the run, as with `follow`: 0 for a success, 100 for a failure, 4 if no test ran, and 3 for
+//! a run that did not end. An error is one line on standard error and a status.
 #![tactic(auto)]
 
 use recorded::{Metered, RecordedOutputs, RecordedRun};
@@ -29,7 +30,7 @@ fn main(rt: HostRuntime) -> ExitCode {
     ExitCode::from(status)
 }
 
-// Returns the status of the run. For a run that did not end it prints a line.
+// The exit status of the run. If the run did not end, it also prints a line.
 fn end(rt: &HostRuntime, outcome: RunOutcome) -> u8 {
     if outcome == RunOutcome::NotEnded {
         print_error(rt, "replay: the run did not end");
@@ -37,7 +38,8 @@ fn end(rt: &HostRuntime, outcome: RunOutcome) -> u8 {
     outcome.status()
 }
 
-// Runs the program on its words. Both files of the run are open before that of the records is made or emptied.
+// Runs the program on its command line. Both files of the run are opened before the file of the records is created or
+// emptied.
 fn run<'a>(rt: &HostRuntime, args: &'a [String]) -> Result<RunOutcome, Fault<'a>> {
     let Some(options) = words(args) else {
         return Err(Fault::Usage);
@@ -52,7 +54,7 @@ fn run<'a>(rt: &HostRuntime, args: &'a [String]) -> Result<RunOutcome, Fault<'a>
     }
 }
 
-// The files of a recorded run, and what the system says of each.
+// The files of a recorded run, and the metadata that identifies each.
 struct RunFiles {
     lines: File,
     outputs: RecordedOutputs<Metered<File>>,
@@ -71,7 +73,7 @@ fn open(rt: &HostRuntime, folder: &str) -> io::Result<RunFiles> {
     })
 }
 
-// Opens a file of a folder. It is looked at first: to open a pipe would wait for its other end.
+// Opens a regular file of a folder. Anything else is refused before it is opened: opening a pipe would block.
 fn open_file(rt: &HostRuntime, folder: &str, name: &str) -> io::Result<File> {
     let path = Path::new(folder).join(rt.alloc(), name)?;
     if !fs::metadata(rt, &path)?.is_file() {
@@ -80,7 +82,8 @@ fn open_file(rt: &HostRuntime, folder: &str, name: &str) -> io::Result<File> {
     File::open(rt, &path)
 }
 
-// Replays the run. The file of the records is made or emptied before a line is read, and is none of the run's.
+// Replays the run. The file of the records is created or emptied before a line is read. It must not be a file of the
+// run.
 fn replay<'a>(
     rt: &HostRuntime,
     options: Options<'a>,
@@ -93,7 +96,8 @@ fn replay<'a>(
         inputs,
     } = files;
     let mut run = RecordedRun::new(alloc, options, lines, outputs)?;
-    // A signal may interrupt a write, which is then made again.
+    // A write that a signal interrupts is repeated.
+    --
     let output = RetryInterrupted::new(io::writer(rt));
     let Some(store) = options.store else {
         return run.replay(alloc, output, io::sink()).0;

@@ -1,7 +1,7 @@
 //! The program `report`: it reads a scene, which is a run written as text, and prints nextest's console report of it.
 //!
-//! With `--store PATH` it writes a record of each finished test to that file. What goes wrong is one line on standard error and the
-//! status, and standard output stays empty unless the whole scene was accepted and PATH was created or emptied.
+//! With `--store PATH` it writes a record of each finished test to that file. An error is one line on standard error and
+//! an exit status. Standard output stays empty unless the whole scene was accepted and PATH was created or emptied.
 #![tactic(auto)]
 
 use scenes::args::{Options, words};
@@ -26,7 +26,8 @@ fn main(rt: HostRuntime) -> ExitCode {
     ExitCode::from(status)
 }
 
-// Runs the program on its words. The file of the records is made or emptied once the scene is accepted, and before a byte is written.
+// Runs the program on its command line. The file of the records is created or emptied once the scene is accepted, and
+// before a byte is written.
 fn run<'a>(rt: &HostRuntime, args: &'a [String]) -> Result<(), Fault<'a>> {
     let Some(options) = words(args) else {
         return Err(Fault::Usage);
@@ -40,18 +41,19 @@ fn run<'a>(rt: &HostRuntime, args: &'a [String]) -> Result<(), Fault<'a>> {
         Err(error) => return Err(Fault::CannotRead { file: options.file }.by_kind(error.kind())),
     };
     let alloc = rt.alloc();
-    // The memory of the scene goes with the process.
+    // The process exits after the report, so the scene's memory is not freed.
     let scene = ManuallyDrop::new(read_whole(alloc, &options, file)?);
     let judged = match accept_scene(alloc, &options, &scene) {
         Ok(judged) => judged,
         Err(fault) => return Err(fault),
     };
-    // A signal may interrupt a write, which is then made again.
+    // A write that a signal interrupts is repeated.
     let output = RetryInterrupted::new(io::writer(rt));
     let Some(store) = options.store else {
         return report_accepted(alloc, &judged, output, io::sink()).0;
     };
-    // The scene was read whole, so the file of the records may be the same.
+    // The scene has been read to its end, so the file of the records may even be the scene's own file.
+    --
     let records = match create_store(rt, store.file, &[]) {
         Ok(records) => records,
         Err(fault) => return Err(fault),

@@ -1,4 +1,4 @@
--- The fault that the program reports for a text, a line that is wrong or refused memory (for `report_of`).
+-- The fault that the program reports for a text: a wrong line, or refused memory (for `report_of`).
 use Rattle.std.proofs.Common.{ℕ, List, Option, ◌⊎◌, inl, inr}
 use Rattle.{report_c.specs.Reported.IsUnreported, report_c.specs.Reported.read_fault_of, scene_fields.specs.declared.fault.LineFault.LineFault}
 use Rattle.scenes.specs.Names.{IsRejected, OfText, Begins, IsStop, device, Fault, Options}

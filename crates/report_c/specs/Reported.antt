@@ -1,4 +1,4 @@
--- What a caller in C gets of a scene's text.
+-- The outcomes of `norigully_report`.
 use Rattle.std.specs.Prelude.{◌≡◌, ◌==◌, ℕ, ◌<◌, ◌≤◌, if◌then◌else◌, List, [], ◌++◌, length, drop, Option, None, Some, Err, false, ⊤}
 use Rattle.run_names.specs.declared.level.StatusLevel.{StatusLevel}
 use Rattle.run_names.specs.declared.level.StatusLevel.TheVariants as level
@@ -20,7 +20,7 @@ level_numbered n =
     else (if n == 7 then Some level.All
     else None)))))))
 
--- These options of the program ask for what those of C say, and for no records.
+-- These options of the program are those of C, without records.
 pub record AsksFor (options : NorigullyOptions) (program : Options) : Type 0 where
   pub should_colorize : program.should_colorize ≡ options.should_colorize
   pub show_counter : program.show_counter ≡ options.show_counter
@@ -29,13 +29,13 @@ pub record AsksFor (options : NorigullyOptions) (program : Options) : Type 0 whe
   pub status_level : level_numbered options.status_level ≡ Some program.status_level
   pub store : program.store ≡ None
 
--- The bytes are those that the program prints of exactly the run that the text spells.
+-- The bytes are what the program prints for exactly the run that the text spells.
 pub record IsReport (options : NorigullyOptions) (text report : List ℕ) : Type 0 where
   pub program : Options
   pub asked : AsksFor options program
   pub printed : OfText text (Prints device device program (Some [], None) (Some report, None))
 
--- The report fits the buffer, which begins with it now and is as it was behind it.
+-- The report fits the buffer, which now begins with it. The rest of the buffer is unchanged.
 pub record IsWritten (options : NorigullyOptions) (text old new : List ℕ) (n : ℕ) : Type 0 where
   pub report : List ℕ
   pub reported : IsReport options text report
@@ -57,12 +57,13 @@ pub record IsFaultOfLine (options : NorigullyOptions) (text : List ℕ) (line : 
   pub wrong : LineFault
   pub judged : IsJudged program (Err (fault.Line line wrong)) text
 
--- What ended a report to memory: a line that is wrong, or that memory was refused.
+-- The fault of a report to memory: a wrong line, or refused memory.
 abbrev pub read_fault_of : Fault → ReadFault
 read_fault_of (fault.Line n f) = read.Line n f
 read_fault_of _ = read.OutOfMemory
 
--- There is no report, since the program reports a fault of this line, or since memory was refused.
+-- There is no report: the program reports a fault of this line, or memory was refused.
+--
 abbrev pub IsUnreported : Options → List ℕ → ReadFault → Type 0
 IsUnreported options text (read.Line n f) = IsJudged options (Err (fault.Line n f)) text
 IsUnreported options text read.OutOfMemory = ⊤

@@ -1,6 +1,6 @@
-//! The report of a scene for C, and for whatever can call C: the bytes of a scene go in, and the bytes of its report come out.
+//! A C library: it takes the bytes of a scene and gives the bytes of its report.
 //!
-//! `bindings/norigully.h` declares in C what is exported here, and `bindings/norigully.rs` wraps it for Rust.
+//! `bindings/norigully.h` declares its function in C, and `bindings/norigully.rs` wraps it for Rust.
 #![tactic(auto)]
 
 ghost use Rattle.std.specs.Prelude.{◌≡◌, ◌≢◌, ◌↔◌, ◌≤◌, None};
@@ -20,22 +20,23 @@ pub struct NorigullyOptions {
     pub should_colorize: bool,
     /// Whether each line of a test has a counter.
     pub show_counter: bool,
-    /// Whether the run was recorded, and is shown again.
+    /// Whether the report is one of a recorded run that is replayed.
     pub is_replay: bool,
-    /// From which status level on the lines of tests are shown: 0 none, 1 fail, 2 retry, 3 slow, 4 leak, 5 pass, 6 skip, 7 all.
+    /// The status level from which on the lines of tests are shown: 0 none, 1 fail, 2 retry, 3 slow, 4 leak, 5 pass, 6 skip,
+    /// 7 all.
     pub status_level: u32,
 }
 
-/// What came of a report.
+/// The result of `norigully_report`.
 #[repr(C)]
 #[derive(Clone, Copy)]
 pub struct NorigullyOutcome {
-    /// How many bytes the report has where the status is 0 or 1, and else 0.
+    /// The length of the report in bytes if the status is 0 or 1, and otherwise 0.
     pub length: usize,
-    /// The line of the scene that is wrong, from 1, where the status is 2, and else 0.
+    /// The number of the wrong line, from 1, if the status is 2, and otherwise 0.
     pub line: u64,
-    /// 0 where the buffer begins with the report, and else why it does not: 1 that the report is longer than the buffer, 2 that a line
-    /// of the scene is wrong, 3 that memory was refused, 4 that there is no such status level.
+    /// 0 if the report is in the buffer. Otherwise 1 if the report is longer than the buffer, 2 if a line of the scene is
+    /// wrong, 3 if memory was refused, and 4 if there is no such status level.
     pub status: u32,
 }
 
@@ -49,12 +50,11 @@ const OUT_OF_MEMORY: u32 = 3;
 
 const UNKNOWN_LEVEL: u32 = 4;
 
-/// Writes the report of a scene to the front of a buffer, and says how many bytes it has. The scene is judged whole before a byte is
-/// written. Where a line of it is wrong, the report is longer than the buffer, memory is refused or there is no such status level, the
-/// buffer stays as it was.
+/// Writes the report of a scene to the front of a buffer. The whole scene is checked before a byte is written. If the
+/// status is not 0, the buffer is unchanged.
 ///
-/// A scene of n bytes has no greatest length of a report. A caller starts with a buffer of some size, and where the status is 1 calls
-/// once more with one of `length` bytes.
+/// The length of a scene does not bound that of its report. A caller starts with a buffer of some size. If the status is
+/// 1, it calls again with a buffer of `length` bytes.
 ///
 /// ```
 /// let options = NorigullyOptions { should_colorize: false, show_counter: false, is_replay: false, status_level: 5 };
@@ -68,13 +68,13 @@ pub extern "C" fn norigully_report(
     scene: &[u8],
     out: &mut [u8],
 ) -> NorigullyOutcome
-    // The buffer begins with the report of exactly the run that the text spells, and what follows is as it was.
+    // The buffer begins with the report of exactly the run that the text spells. The rest of it is unchanged.
     ensures report { result.status ≡ 0 → IsWritten options.now scene.now out.old out.new result.length }
-    // That report has more bytes than the buffer.
+    // The report of that run has more bytes than the buffer.
     ensures too_long { result.status ≡ 1 → IsTooLong options.now scene.now out.old result.length }
-    // That line is the first of the text that is wrong, or that of the first event that a reporter refuses.
+    // The line is the first one of the text that is malformed, or that of the first event that a reporter refuses.
     ensures line { result.status ≡ 2 → IsFaultOfLine options.now scene.now result.line }
-    // This status means that there is no such status level, and no other does.
+    // The status is 4 if and only if there is no such status level.
     ensures level { (result.status ≡ 4) ↔ (level_numbered options.now.status_level ≡ None) }
     ensures fault { result.status ≤ 4 }
     ensures untouched { result.status ≢ 0 → out.new ≡ out.old }
@@ -103,7 +103,8 @@ pub extern "C" fn norigully_report(
     }
 }
 
-// That there is no report.
+// An outcome without a report.
+--
 fn failed(status: u32, line: u64) -> NorigullyOutcome
     ensures status { result.status ≡ status }
     ensures line { result.line ≡ line }

@@ -1,4 +1,4 @@
-//! The report of a scene's text, and the options that it is made by.
+//! The report of a scene in memory, and the options of C as those of the program `report`.
 
 ghost use Rattle.std.specs.Prelude.{◌≡◌, ◌↔◌, [], IfSome, IfOk, IfErr, None, Some};
 ghost use Rattle.scenes.specs.Names.{OfText, Prints, device};
@@ -13,7 +13,7 @@ use scenes::report::report_scene;
 use std::alloc::Global;
 use std::io;
 
-/// The options of the program that ask for the same, or None where there is no such status level. They name no file.
+/// The same options as those of the program `report`, with no file; None if there is no such status level.
 pub fn options_of(options: &NorigullyOptions) -> Option<Options<'static>>
     ensures asked { IfSome result (AsksFor options.now) }
     ensures none { (result ≡ None) ↔ (level_numbered options.now.status_level ≡ None) }
@@ -33,7 +33,7 @@ pub fn options_of(options: &NorigullyOptions) -> Option<Options<'static>>
     }
 }
 
-// The status level of a number.
+// The status level with this number.
 fn read_level(number: u32) -> Option<StatusLevel>
     ensures { result ≡ level_numbered number }
 {
@@ -50,7 +50,7 @@ fn read_level(number: u32) -> Option<StatusLevel>
     }
 }
 
-/// The report of the run that a text spells; or the line that is wrong, or that memory was refused.
+/// The report of the run that a text spells.
 pub fn report_of(alloc: Global, options: &Options<'_>, text: &[u8]) -> Result<Vec<u8>, ReadFault>
     ensures report { IfOk result (λ report. OfText text.now (Prints device device options.now (Some [], None) (Some report.items, None))) }
     ensures fault { IfErr result (IsUnreported options.now text.now) }
@@ -68,7 +68,8 @@ pub fn report_of(alloc: Global, options: &Options<'_>, text: &[u8]) -> Result<Ve
     }
 }
 
-// A line that is wrong. All else that ends a report to memory is that memory was refused.
+// The error as a wrong line, or else as refused memory: a report to memory has no other error.
+--
 fn read_fault_of(fault: &Fault<'_>) -> ReadFault
     ensures { result ≡ read_fault_of fault.now }
 {

@@ -3,11 +3,10 @@
 //! A scene is read, then checked by `judge`, and then reported. `judge` has no device, and a report takes the scene that it accepted, so no
 //! byte is written before a scene is accepted, and none of a scene that is refused.
 
-ghost use Rattle.scenes.specs.Names.{Fault, IsJudgeFault, IsJudged, IsRefusedText, IsRejected, IsSceneAccepted, IsSceneRefused, ChecksEvent, Begins, Prints, Reported, StandAtOneCall, device};
-ghost use Rattle.std.specs.Prelude.{◌≡◌, ◌⊎◌, ℕ, List, [], Option, None, Some, IfOk, IfErr, OnOk};
+ghost use Rattle.scenes.specs.Names.{Fault, IsJudgeFault, IsJudged, IsRefusedText, IsRejected, IsSceneAccepted, IsSceneRefused, ChecksEvent, Begins, Prints, Reported, device};
+ghost use Rattle.std.specs.Prelude.{◌≡◌, ◌⊎◌, ℕ, List, Option, None, Some, IfOk, IfErr, OnOk};
 ghost use Rattle.scenes.specs.Names.{store_for, IsReadFault, IsSceneRead, OfText, scene_lines};
 ghost use Rattle.console_reporter.specs.OptionalStore.{IsSameStore, config_of, store_delivered, store_meaning};
-ghost use Rattle.{styled_text.specs.Texts.Text, run_model.specs.declared.call.ReportCall.ReportCall};
 ghost use Rattle.scene_text.specs.SceneTexts.{AllRead, event_lines, no_lines, text_lines, text_read};
 
 use crate::deferred::{Deferred, deliver_rest};
@@ -247,13 +246,6 @@ pub fn report_by_calls<W: Write, S: Write>(
         store.config,
     )
 }
-
-/// What [`report_accepted`] and `follow_source` promise of two devices where a fault stops a report with records: the records come after
-/// the texts. So where nothing came of the report nothing came of the records, if calls without a text have no record.
-pub fn records_come_after_texts()
-    ensures { (texts records : List ReportCall → Text) (calls : List ReportCall) (stored : List ℕ) → ((first : List ReportCall) → texts first ≡ [] → records first ≡ [])
-        → StandAtOneCall device device texts records calls (Some [], Some []) (Some [], Some stored) → stored ≡ [] }
-{}
 
 /// Writes the report of an accepted scene to a device, and its records to a second one where the options ask for them, and gives
 /// both devices back. Without records the text goes to its device when 8,192 bytes are gathered and at the end; with records it goes

@@ -18,7 +18,7 @@ const ask = (what, words = {}) => new Promise((resolve, reject) => {
 worker.onmessage = ({ data }) => {
   const { resolve, reject } = waiting.get(data.number);
   waiting.delete(data.number);
-  if (data.fault === undefined) resolve(data.answer); else reject(new Error(data.fault));
+  if (data.fault === undefined) resolve(data.result); else reject(new Error(data.fault));
 };
 
 // The report is in blocks of lines. A block has its lines while it is near what is seen, and else its height alone.
@@ -96,26 +96,26 @@ const layOut = first => {
     seen.observe(block);
     return block;
   }));
-  tellRest($("earlier"), 0, base * BLOCK);
-  tellRest($("later"), (base + count) * BLOCK, shown.count);
+  showRest($("earlier"), 0, base * BLOCK);
+  showRest($("later"), (base + count) * BLOCK, shown.count);
 };
-const tellRest = (button, from, to) => {
+const showRest = (button, from, to) => {
   button.hidden = from >= to;
   button.textContent = `Lines ${(from + 1).toLocaleString("en")} to ${to.toLocaleString("en")}`;
 };
 
 const chosen = () => ({ level: $("level").value, failure: $("failure").value, success: $("success").value });
 const show = async () => {
-  const answer = await ask("show", { choice: chosen() });
-  if (answer.generation < shown.generation) return;
-  shown = { ...answer, tests: new Map(answer.lines.map((line, test) => [line, test])) };
+  const result = await ask("show", { choice: chosen() });
+  if (result.generation < shown.generation) return;
+  shown = { ...result, tests: new Map(result.lines.map((line, test) => [line, test])) };
   [hits, at, marked, paper] = [[], -1, -1, null];
   layOut(0);
   $("summary").replaceChildren();
-  if (!answer.summary.length) $("summary").textContent = shown.count ? "The run did not end" : "The report is empty";
+  if (!result.summary.length) $("summary").textContent = shown.count ? "The run did not end" : "The report is empty";
   else {
-    answer.summary[0][0] = answer.summary[0][0].trimStart();
-    put($("summary"), answer.summary);
+    result.summary[0][0] = result.summary[0][0].trimStart();
+    put($("summary"), result.summary);
   }
   for (const link of links()) link.classList.toggle("unseen-here", shown.lines[link.dataset.test] < 0);
   await search(false);
@@ -127,18 +127,18 @@ const search = async go => {
   if (number !== searches) return;
   [hits, at] = [found, found.length ? 0 : -1];
   if (word) marked = -1;
-  tellFound();
+  showFound();
   markAll();
   if (go && hits.length) await goTo(hits[0]);
 };
-const tellFound = () => {
+const showFound = () => {
   const [now, count] = [at + 1, hits.length].map(it => it.toLocaleString("en"));
   $("found").textContent = $("find").value ? `${now} of ${count}` : "";
 };
 const step = async by => {
   if (!hits.length) return;
   at = (at + by + hits.length) % hits.length;
-  tellFound();
+  showFound();
   await goTo(hits[at]);
 };
 

@@ -2,7 +2,7 @@
 const BLOCK = 200, MOST_ON_PAPER = 20000, ON_PAPER = 100;
 let table = [], plain = [], reports = [], about = {}, current = { generation: 0, report: [], styles: [] };
 // By the place of a line in the table the number of the test that it reports, from 1.
-let told = [];
+let testOf = [];
 
 const unpacked = async text => {
   const binary = atob(text), bytes = new Uint8Array(binary.length);
@@ -37,7 +37,7 @@ const heightOf = ([binary, name]) => `${binary}${name}`.split("\n").length;
 const linesOfTests = report => {
   const lines = about.tests.map(() => -1), others = new Map(), keyOf = place => table[place].slice(table[place].indexOf("\x1b[0m ["));
   for (let n = 0; n < report.length; n++) {
-    const number = told[report[n]];
+    const number = testOf[report[n]];
     if (number && lines[number - 1] < 0) lines[number - 1] = n;
   }
   for (const [k, [, , place]] of about.tests.entries()) {
@@ -95,13 +95,13 @@ const partsOf = places => {
   return parts;
 };
 
-const answers = {
+const handlers = {
   async start({ packed }) {
     const [said, all, lines] = await Promise.all(packed.map(unpacked));
     about = JSON.parse(said);
     [reports, table] = [all.split("\n"), lines.slice(0, -1).split("\n")];
-    told = new Uint32Array(table.length);
-    for (const [k, [, , place]] of about.tests.entries()) if (place >= 0) told[place] = k + 1;
+    testOf = new Uint32Array(table.length);
+    for (const [k, [, , place]] of about.tests.entries()) if (place >= 0) testOf[place] = k + 1;
     const failed = new Set(about.lists.failed);
     const tests = about.tests.map((it, k) => ({ binary: it[0], name: it[1], time: timeOf(it), hasOutput: failed.has(k) && outputOf(it) !== "" }));
     return { tests, lists: about.lists, note: about.note, choices: Object.keys(about.reports) };
@@ -147,8 +147,8 @@ const answers = {
 // One question after another, in their order.
 let last = Promise.resolve();
 onmessage = ({ data }) => {
-  last = last.then(() => answers[data.what](data)).then(
-    answer => postMessage({ number: data.number, answer }),
+  last = last.then(() => handlers[data.what](data)).then(
+    result => postMessage({ number: data.number, result }),
     error => postMessage({ number: data.number, fault: error.message }),
   );
 };

@@ -1,4 +1,4 @@
--- A text that is taken in pieces of whole lines (for `next_piece`, `take_at_hand`).
+-- A text that is read in pieces of whole lines (for `next_piece`, `take_at_hand`).
 use Rattle.std.proofs.Common.{◌≡◌, ℕ, zero, suc, ◌+◌, ◌<◌, Bool, true, false, List, [], ◌∷◌, ◌++◌, Option, None, Some, length, get_or, take, drop, refl, sym, ap, ◌∙◌, subst, arith, append_assoc, inl, inr, not, ◌==◌, if◌then◌else◌}
 use native.Mathlib.Numerals.{unary_clauses}
 use Rattle.{std.specs.Io.KnownBytes.Keeps, std.specs.Io.KnownBytes.prepend_known, std.proofs.lemmas.Bool.Decides.nat_tests, memchr.specs.Find.IsLastByte, memchr.specs.Find.is_byte, command_line.specs.Pieces.IsBehind, command_line.specs.Pieces.IsNextPiece}
@@ -10,7 +10,7 @@ at_hand_first true at_hand inner text known = absurd (grind (arith, known))
 at_hand_first false at_hand None text known = absurd (grind (arith, known))
 at_hand_first false at_hand (Some left) text known = (left, grind (arith, known))
 
--- what is known is so still
+-- what is known to remain is still known
 pub kept_known : (old new : Option (List ℕ)) (text : List ℕ) → old ≡ Some text → Keeps old new → new ≡ Some text
 kept_known None new text known keeps = absurd (grind (arith, known))
 kept_known (Some xs) None text known keeps = absurd keeps
@@ -39,7 +39,8 @@ module _ (text old left at_hand new : List ℕ) (rest : Option (List ℕ)) (so_f
   pub part_behind : IsBehind taken.Part at_hand left old new rest → (more : List ℕ) × (rest ≡ Some more) × (text ≡ new ++ more)
   part_behind taken = (taken.0, taken.1, so_far ∙ taken.2)
 
--- the file ends behind what was taken: it is the last piece, or nothing
+-- at the end of the file: what was taken is the last piece, or nothing
+--
 pub at_end : (text piece : List ℕ) (rest : Option (List ℕ)) (no_byte : Bool) → no_byte ≡ (length piece == 0) → text ≡ piece → rest ≡ Some [] → IsNextPiece text (not no_byte) piece rest
 at_end text [] rest false size is end = absurd (grind (arith, nat_tests, size))
 at_end text [] rest true size is end = (is, end)

@@ -1,5 +1,5 @@
 use Rattle.scenes.{specs.Names.device, proofs.lemmas.EndsWell.lines_stop}
 
-pub returns : Rattle.scenes.proofs.ends_well.followed_lines_end_well.Goals.returns
+pub returns : Rattle.scenes.proofs.laws.followed_lines_end_well.Goals.returns
 returns g c = λ options all old new fault. lines_stop device device options
     (g.W.Write.contents old.0, g.S.Write.contents old.1) (g.W.Write.contents new.0, g.S.Write.contents new.1) all fault
