@@ -43,8 +43,8 @@ fn write_chain<W: WriteStr>(out: &mut W, chain: &ErrorChain) -> Result<(), Write
     out.write_str_flush()
 }
 
-// Writes a text whose first line follows a mark, and whose other lines stand below that line. An indentation of an indentation is
-// a writer like any other.
+// Writes a text whose first line follows a mark, and whose other lines stand below that line. An indentation of an
+// indentation is a writer like any other.
 fn write_item<W: WriteStr>(
     out: &mut W,
     mark: &str,

@@ -59,7 +59,8 @@ fn with_test(stats: RunStats, test: &RecordedTest) -> RunStats {
     }
 }
 
-// Reports a test of the record. The event is first made without output: by that the reporter's decider says whether it is read.
+// Reports a test of the record. The event is first made without output: by that the reporter's decider says whether it
+// is read.
 fn replay<W: WriteStr>(
     alloc: Global,
     reporter: &mut DisplayReporter<'_, W, String>,

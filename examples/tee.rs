@@ -1,5 +1,5 @@
-//! An example: one run, reported to two outputs at once: in full to standard output, and only what failed to a text, which a build
-//! machine could keep.
+//! An example: one run, reported to two outputs at once: in full to standard output, and only what failed to a text,
+//! which a build machine could keep.
 #![tactic(auto)]
 
 use console_reporter::prelude::*;

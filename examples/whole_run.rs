@@ -1,5 +1,5 @@
-//! An example: the report of a whole run goes to a file. One of its tests passes, one fails, one passes when it is tried
-//! again, and one is skipped.
+//! An example: the report of a whole run goes to a file. One of its tests passes, one fails, one passes when it is
+//! tried again, and one is skipped.
 #![tactic(auto)]
 
 use console_reporter::prelude::*;

@@ -50,12 +50,17 @@ BOXES = [
     ((20, 20, 225, 80), "given", "A file", ("a scene or a recorded run,", "whatever bytes it has")),
     ((265, 20, 225, 80), "given", "Your program's events", ("of any tests, in any order,", "counts as you pass them")),
     ((20, 140, 225, 84), "proved", "Readers of scenes", ("the run that the file spells,", "or its first fault")),
-    ((20, 264, 470, 84), "proved", "Reporter", ("writes the defined texts of all calls;", "on a fault, a prefix of them")),
-    ((20, 388, 470, 84), "proved", "TextBuffer", ("hands on what it accepted, in order;", "after a flush nothing is pending")),
+    ((20, 264, 470, 84), "proved", "Reporter",
+     ("writes the defined texts of all calls;", "on a fault, a prefix of them")),
+    ((20, 388, 470, 84), "proved", "TextBuffer",
+     ("hands on what it accepted, in order;", "after a flush nothing is pending")),
     ((20, 512, 470, 64), "trusted", "Operating system", ("file, pipe, terminal",)),
-    ((555, 100, 325, 84), "tested", "nextest's reporter 0.129.0", ("what it printed for 600 scenes, over our", "levels, style codes and statistics")),
-    ((555, 264, 325, 84), "given", "Definitions", ("each text, from the call, the configuration", "and the calls before it")),
-    ((555, 450, 325, 84), "trusted", "The kit, and linked C code", ("checker, compiler, linker, library:", "every proof and program needs them")),
+    ((555, 100, 325, 84), "tested", "nextest's reporter 0.129.0",
+     ("what it printed for 600 scenes, over our", "levels, style codes and statistics")),
+    ((555, 264, 325, 84), "given", "Definitions",
+     ("each text, from the call, the configuration", "and the calls before it")),
+    ((555, 450, 325, 84), "trusted", "The kit, and linked C code",
+     ("checker, compiler, linker, library:", "every proof and program needs them")),
 ]  # fmt: skip
 # Each goes straight down: its column, and from where to where.
 ARROWS = [(132, 100, 140), (377, 100, 264), (132, 224, 264), (255, 348, 388), (255, 472, 512)]

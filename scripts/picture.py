@@ -70,7 +70,8 @@ def main():
             if text.strip():
                 fill = COLOURS.get(colour, PLAIN)
                 # Browsers collapse spaces unless each text says that it keeps them.
-                print(f'<text xml:space="preserve" x="{x:.1f}" y="{y:.1f}" fill="{fill}"{weight}{length}>{html.escape(text)}</text>')
+                place = f'x="{x:.1f}" y="{y:.1f}" fill="{fill}"{weight}{length}'
+                print(f'<text xml:space="preserve" {place}>{html.escape(text)}</text>')
     print("</g>\n</svg>")
 
 

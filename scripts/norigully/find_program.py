@@ -65,8 +65,8 @@ def build(called, name):
 
 
 def check_mount(called, variable, folder):
-    """Ends this where no program can run from this folder, and says what helps. One that is not there yet will be in one
-    above."""
+    """Ends this where no program can run from this folder, and says what helps. One that is not there yet will be in
+    one above."""
     while folder and not os.path.exists(folder):
         folder = os.path.dirname(folder)
     with contextlib.suppress(OSError):

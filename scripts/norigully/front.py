@@ -33,8 +33,8 @@ def fault(name, what, status):
 
 
 def check_files(name, options):
-    """Ends this where a file cannot be read, or the file of the records is one that is read, or that the report goes to.
-    None is opened: a pipe can be read once."""
+    """Ends this where a file cannot be read, or the file of the records is one that is read, or that the report goes
+    to. None is opened: a pipe can be read once."""
     for file in options.files:
         if why := why_unread(name, file):
             fault(name, f"cannot read {file}: {why}", WRONG)
@@ -73,7 +73,8 @@ def looks_like(typed, name, options):
         (b"{", "this is JSON", "--libtest", "libtest-json"),
     ):
         if text.startswith(begin):
-            maker = f"scripts/scene-of-{script} makes a scene of it" if typed == "./run" else f"{typed} {option} reports it"
+            made = f"scripts/scene-of-{script} makes a scene of it"
+            maker = made if typed == "./run" else f"{typed} {option} reports it"
             return f"{what}: {maker}"
     line = next((it for it in text.split(b"\n") if it and not it.startswith(b"#")), b"")
     if line.endswith(b"\r"):
@@ -208,7 +209,8 @@ def become(typed, words, find):
     name = PROGRAMS.get(words[0] if words else None, "report")
     words = words[name != "report" :]
     options = options_of(name, words)
-    is_file = options and (not (options.file or "").startswith("-") or options.file == "-" or os.path.lexists(options.file))
+    file = (options.file or "") if options else ""
+    is_file = options and (not file.startswith("-") or file == "-" or os.path.lexists(file))
     if not is_file and (why := why_wrong(name, words) or (None if options else usage(name))):
         fault(typed, f"{why} ({typed} --help)", WRONG)
     check_files(name, options)

@@ -8,8 +8,8 @@
 Prints the console report of a run that is written as text. FILE is the last word; - is standard input.
 
   --follow          as the first word: reports each line before it reads the next; without FILE, those of standard input
-  --recorded        as the first word: reports the run in the folder DIR, as nextest shows a recorded run, and reads only
-                    the captured output that the report shows
+  --recorded        as the first word: reports the run in the folder DIR, as nextest shows a recorded run, and reads
+                    only the captured output that the report shows
   --page            as the first word: makes an HTML page of the run, which goes to PAGE or standard output; --recorded
                     DIR is a recorded run, --title T its title, and --choices all or few says how many reports it has
   --summary         as the first word: a summary of the run in Markdown, as GitHub shows one of a job

@@ -14,7 +14,8 @@ import time
 
 from norigully import entry
 
-# What was not used for this many days is removed, and what is beyond the most entries of a folder, the longest unused first.
+# What was not used for this many days is removed, and what is beyond the most entries of a folder, the longest unused
+# first.
 DAYS = 30
 # What a killed run left of a file is removed after this many seconds.
 LEFT_OVER = 24 * 3600

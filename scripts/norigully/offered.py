@@ -8,8 +8,12 @@ from pathlib import Path
 from norigully import TOP
 
 CRATES = TOP / "crates"
-ITEM = re.compile(r"^( *)(?:pub )?(?:const )?(fn|struct|enum|trait|type|const) (\w+)(.*?)(?:;|^ *\{\}? *|\{)$", re.M | re.S)
-FUNCTION = re.compile(r"^ *(?:pub(?:\(\w+\))? )?fn (\w+)((?:(?!^ *(?:pub(?:\(\w+\))? )?fn ).)*?)^ *\{\}? *$", re.M | re.S)
+ITEM = re.compile(
+    r"^( *)(?:pub )?(?:const )?(fn|struct|enum|trait|type|const) (\w+)(.*?)(?:;|^ *\{\}? *|\{)$", re.M | re.S
+)
+FUNCTION = re.compile(
+    r"^ *(?:pub(?:\(\w+\))? )?fn (\w+)((?:(?!^ *(?:pub(?:\(\w+\))? )?fn ).)*?)^ *\{\}? *$", re.M | re.S
+)
 IMPL = re.compile(r"^impl(?:<[^{]*?>)? (?:[\w:]+(?:<.*?>)? for )?(\w+)", re.M)
 OWNER = re.compile(
     r"^(?:impl(?:<[^{]*?>)? (?P<of>[\w:]+(?:<.*?>)? for )?(?P<type>\w+)|pub trait (?P<trait>\w+))[^{]*?(?= *\{)", re.M

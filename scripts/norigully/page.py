@@ -103,8 +103,8 @@ class Run:
             return write_pieces(page_scene.shown(file, success, failure), self.changed)
 
     def reports(self, levels):
-        """Has the program print the reports of these levels, some side by side, and yields each as a file. Each is whole
-        lines: what follows the last line feed is one of its own."""
+        """Has the program print the reports of these levels, some side by side, and yields each as a file. Each is
+        whole lines: what follows the last line feed is one of its own."""
         begun = collections.deque()
         with contextlib.ExitStack() as stack:
             for level in levels:

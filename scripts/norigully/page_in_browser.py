@@ -81,7 +81,8 @@ def check_long(checks, folder, browser):
 
 # The tests that the keys lead to, one after another, and where the focus is.
 KEYS = """async () => {
-  const found = [], press = (key, to = document.body) => to.dispatchEvent(new KeyboardEvent("keydown", { key, bubbles: true }));
+  const found = [], pressed = key => new KeyboardEvent("keydown", { key, bubbles: true });
+  const press = (key, to = document.body) => to.dispatchEvent(pressed(key));
   for (const key of ["n", "n", "n", "n", "p"]) {
     press(key);
     await new Promise(it => setTimeout(it, 100));
@@ -168,19 +169,26 @@ COLOURS = """of => [...new Set([...document.querySelectorAll(of)].map(it => {
   const said = getComputedStyle(it, "::before").content, isSeen = it.checkVisibility({ visibilityProperty: true });
   if (!isSeen || !(own || said !== "none")) return "";
   let behind = it;
-  while (getComputedStyle(behind).backgroundColor === "rgba(0, 0, 0, 0)" && behind.parentElement) behind = behind.parentElement;
+  const isClear = it => getComputedStyle(it).backgroundColor === "rgba(0, 0, 0, 0)";
+  while (isClear(behind) && behind.parentElement) behind = behind.parentElement;
   return `${getComputedStyle(it).color} on ${getComputedStyle(behind).backgroundColor} ${getComputedStyle(it).opacity}`;
 }))]"""
-FILL = "(async () => { for (const block of blocks()) await fill(block); return report.querySelectorAll('span').length; })()"
+FILL = """(async () => {
+  for (const block of blocks()) await fill(block);
+  return report.querySelectorAll("span").length;
+})()"""
 THEME = "theme => { $('theme').value = theme; $('theme').dispatchEvent(new Event('change')); }"
 LINES_AS = "name => { for (const line of report.querySelectorAll(':scope > div > div')) line.className = name; }"
 
 
 def colours_scene():
     """A test that wrote text of many colours on each of the 256, and of each on none."""
-    backs = [f"48;5;{it}" for it in range(256)] + ["49", "48;2;118;118;118", "48;2;120;120;120", *map(str, [*range(40, 48), *range(100, 108)])]
-    fores = ["39", "2", "1", *map(str, [*range(30, 38), *range(90, 98)]), *(f"38;5;{it}" for it in (16, 21, 46, 118, 196, 226, 231, 244))]
-    lines = ["".join(f"\x1b[0;{fore};{back}mx" for fore in [*fores, f"38{back[2:]}" if ";" in back else "39"]) for back in backs]
+    backs = [f"48;5;{it}" for it in range(256)] + ["49", "48;2;118;118;118", "48;2;120;120;120"]
+    backs += map(str, [*range(40, 48), *range(100, 108)])
+    fores = ["39", "2", "1", *map(str, [*range(30, 38), *range(90, 98)])]
+    fores += (f"38;5;{it}" for it in (16, 21, 46, 118, 196, 226, 231, 244))
+    with_own = [(back, [*fores, f"38{back[2:]}" if ";" in back else "39"]) for back in backs]
+    lines = ["".join(f"\x1b[0;{fore};{back}mx" for fore in own) for back, own in with_own]
     lines += ["".join(f"\x1b[0;{also}38;5;{it}mx" for also in ("", "1;", "2;")) for it in range(256)]
     made = []
     of = Run(made.append, 1, 1)
@@ -218,12 +226,14 @@ def check_own_colours(checks, folder, browser):
         browser.resize(*((390, 780) if phone else (1200, 800)), phone=phone)
         browser.open(f"file://{file}#beta store::index::compact")
         if phone:
-            browser.value("document.querySelectorAll('.folds button').forEach(it => fold($(it.getAttribute('aria-controls')), false))")
+            unfold = "it => fold($(it.getAttribute('aria-controls')), false)"
+            browser.value(f"document.querySelectorAll('.folds button').forEach({unfold})")
         for theme in ("light", "dark"):
             browser.value(f"({THEME})('{theme}')")
             rows = [list(map(float, re.findall(r"[\d.]+", it))) for it in browser.value(f"({COLOURS})('body *')") if it]
             unread = [it for it in rows if contrast(it[:3], it[3:6]) < READS]
-            checks.expect(len(rows) > 9 and not unread, f"{theme}: {len(rows)} colours of the page itself, unread {unread}")
+            said = f"{theme}: {len(rows)} colours of the page itself, unread {unread}"
+            checks.expect(len(rows) > 9 and not unread, said)
     browser.resize(1200, 800)
 
 
@@ -246,7 +256,8 @@ def check_stretches(checks, folder, browser):
     make(checks, file, scene)
     browser.open(f"file://{file}")
     count, seen, all_ = browser.value(f"({STRETCHES})()")
-    checks.expect(seen == text and 190 < count < 205 and all_ < 50 * 205 + 100, f"stretches: {count} {all_} {seen[:40]}")
+    is_cut = seen == text and 190 < count < 205 and all_ < 50 * 205 + 100
+    checks.expect(is_cut, f"stretches: {count} {all_} {seen[:40]}")
 
 
 WHERE = """() => {
@@ -256,7 +267,7 @@ WHERE = """() => {
 
 
 def check_keyboard(checks, folder, browser):
-    """150 failures are one stop of the tabulator, arrows go from one to the next, and the focus goes where a link leads."""
+    """150 failures are one tab stop, arrows go from one to the next, and the focus goes where a link leads."""
     file, scene, made = folder / "page.html", folder / "keyboard.scene", []
     of = Run(made.append, 150, 1)
     for number in range(150):
@@ -287,7 +298,8 @@ def check_keyboard(checks, folder, browser):
         checks.expect(found.endswith(f"] keys case_{number:03}"), f"the focus of failure {number}: {found}")
     found = [pressed(TAB)[0], pressed(TAB)[0]]
     checks.expect(found == ["copy name", "copy output"], f"tab stops at a failure: {found}")
-    stops = browser.value("[...document.querySelectorAll('nav [tabindex=\"0\"], main [tabindex=\"0\"]')].map(it => it.textContent)")
+    reached = "document.querySelectorAll('nav [tabindex=\"0\"], main [tabindex=\"0\"]')"
+    stops = browser.value(f"[...{reached}].map(it => it.textContent)")
     checks.expect(stops == ["keyscase_001", "", ""], f"one stop of a list: {stops}")
 
 
@@ -369,20 +381,29 @@ def check_lists(checks, folder, browser):
     scene.write_text(lists_scene())
     make(checks, file, scene)
     browser.open(f"file://{file}")
-    facts = ["Profile ci <b>", "Run 00000000-0000-4000-8000-000000000001", "Started 2024-02-29 07:05:09", "Took 1 h 2 min"]
+    facts = ["Profile ci <b>", "Run 00000000-0000-4000-8000-000000000001"]
+    facts += ["Started 2024-02-29 07:05:09", "Took 1 h 2 min"]
     checks.expect(browser.value(FACTS) == facts, f"facts: {browser.value(FACTS)}")
     wanted = [
         *(["failed", f"listsfirst\n{it}", f"[   0.010s] lists first", it] for it in ("second", "third")),
         *(["failed", f"lists{it}", f"[   0.010s] lists {it}", None] for it in ("later", "silent")),
         ["flaky", "listsflaky", "  TRY 2 PASS [   0.020s] lists flaky", None],
-        *(["slowest", f"lists{it + 1}.000spass_{it}", f"[{it + 1:4}.000s] lists pass_{it}", None] for it in range(29, 19, -1)),
+        *(
+            ["slowest", f"lists{it + 1}.000spass_{it}", f"[{it + 1:4}.000s] lists pass_{it}", None]
+            for it in range(29, 19, -1)
+        ),
     ]
     found = browser.value(f"({LISTS})()")
     same = [a[:2] == b[:2] and a[2].endswith(b[2]) and b[3] in (a[3], None) for a, b in zip(found, wanted)]
-    checks.expect(all(same) and len(found) == len(wanted), f"lists: {[it for it, is_it in zip(found, same) if not is_it]}")
+    others = [it for it, is_it in zip(found, same) if not is_it]
+    checks.expect(all(same) and len(found) == len(wanted), f"lists: {others}")
     browser.ask("Browser.grantPermissions", permissions=["clipboardReadWrite", "clipboardSanitizedWrite"])
-    rows = [(0, "lists first\nsecond", "FAIL [   0.010s] lists later\n    of the first"), (1, "lists first\nthird", "of the third")]
-    rows += [(2, "lists later", "  stdout ---\n    of the later\n\n    (test failed with exit code 1)"), (4, "lists flaky", None)]
+    rows = [
+        (0, "lists first\nsecond", "FAIL [   0.010s] lists later\n    of the first"),
+        (1, "lists first\nthird", "of the third"),
+        (2, "lists later", "  stdout ---\n    of the later\n\n    (test failed with exit code 1)"),
+        (4, "lists flaky", None),
+    ]
     numbers = browser.value("[...links()].map(it => Number(it.dataset.test))")
     for link, name, output in rows:
         copied = browser.value(f"({COPY})({numbers[link]})")
@@ -412,7 +433,8 @@ def check_no_script(checks, folder, browser):
         make(checks, file, CASES / scene)
         browser.allow_scripts(False)
         browser.show(f"file://{file}")
-        found = browser.value("[document.querySelector('noscript pre').textContent, document.querySelector('#layout').checkVisibility()]")
+        is_shown = "document.querySelector('#layout').checkVisibility()"
+        found = browser.value(f"[document.querySelector('noscript pre').textContent, {is_shown}]")
         text = run([REPORT, CASES / scene]).stdout.decode()
         text = re.sub(r"[\x00-\x08\x0b-\x1f\x7f]", "", STYLE.sub("", text))
         checks.expect(found == [text, False], f"{scene} without scripts: {found[0][:300]!r} {text[:300]!r}")
@@ -424,7 +446,8 @@ def paper_scene():
     made = []
     of = Run(made.append, 400, 1)
     for number in range(400):
-        name, text = f"case_{number:03}", "".join(f"line {it} of test {number}: \x1b[37;41m{'long ' * (it % 40)}\x1b[0m\n" for it in range(25))
+        lines = (f"line {it} of test {number}: \x1b[37;41m{'long ' * (it % 40)}\x1b[0m\n" for it in range(25))
+        name, text = f"case_{number:03}", "".join(lines)
         result = "fail:1" if number % 4 == 3 else "pass"
         of.done("paper", name, [Attempt(result, 0.01, text.encode(), b"")])
     of.end(60)
@@ -433,7 +456,8 @@ def paper_scene():
 
 ON_PAPER = """() => {
   dispatchEvent(new Event("beforeprint"));
-  const parts = [...$("paper").querySelectorAll(":scope > :not(p)")], lines = parts.map(it => it.textContent).join("\\n").split("\\n");
+  const parts = [...$("paper").querySelectorAll(":scope > :not(p)")];
+  const lines = parts.map(it => it.textContent).join("\\n").split("\\n");
   const said = [...$("paper").querySelectorAll(":scope > p")].map(it => it.textContent);
   return [lines.length, lines[0], lines[lines.length - 1], ...said];
 }"""
@@ -445,7 +469,8 @@ def check_paper(checks, folder, browser):
     file, scene, paper = folder / "page.html", folder / "paper.scene", folder / "paper.pdf"
     scene.write_text(paper_scene())
     make(checks, file, scene)
-    words = [browser.name, *OPTIONS, f"--user-data-dir={folder / 'browser'}", "--no-pdf-header-footer", f"--print-to-pdf={paper}"]
+    words = [browser.name, *OPTIONS, f"--user-data-dir={folder / 'browser'}"]
+    words += ["--no-pdf-header-footer", f"--print-to-pdf={paper}"]
     run([*words, f"file://{file}"], timeout=120)
     check_pages_of(checks, "the own report", paper, run([REPORT, scene]).stdout)
     browser.open(f"file://{file}")
@@ -484,7 +509,8 @@ def check_long_paper(checks, folder, browser):
     whole = browser.value("shown.count")
     number = int(re.search(r"[\d,]+", left)[0].replace(",", ""))
     checks.expect(count + number == whole and 19_900 < count <= 20_000 and not more, f"{count} and {left} of {whole}")
-    checks.expect("at once" in chosen and first.startswith("---") and "FAIL" in last, f"a long report on paper: {chosen} {last}")
+    is_whole = "at once" in chosen and first.startswith("---") and "FAIL" in last
+    checks.expect(is_whole, f"a long report on paper: {chosen} {last}")
 
 
 CHECKS = (

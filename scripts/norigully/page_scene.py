@@ -16,8 +16,8 @@ CUTS = {b"done\t": 6, b"retry": 8}
 
 
 def shown(lines, success, failure):
-    """The lines of a scene, some at a time, with other words for when output is shown; an empty word leaves those of the
-    scene."""
+    """The lines of a scene, some at a time, with other words for when output is shown; an empty word leaves those of
+    the scene."""
     success, failure = success.encode(), failure.encode()
     while batch := lines.readlines(BATCH):
         parts = [part for line in batch for part in with_words(line, success, failure)]
@@ -41,8 +41,8 @@ def with_words(line, success, failure):
 
 
 def marked(lines, numbers, mark):
-    """The lines of a scene, with a mark in front of those with these numbers, and one behind: a line of which each level
-    of the report has one line."""
+    """The lines of a scene, with a mark in front of those with these numbers, and one behind: a line of which each
+    level of the report has one line."""
     line_of_mark = b"setup\t-\t0\t1\t%s\t\t-\n" % mark
     for number, line in enumerate(lines):
         if number not in numbers:

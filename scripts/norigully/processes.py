@@ -73,8 +73,8 @@ class Relay(threading.Thread):
 
 @contextlib.contextmanager
 def workers(count):
-    """So many threads that run scripts. Where this is left by a signal or a fault, the scripts end, and then the threads;
-    but one may wait for the lock of another run."""
+    """So many threads that run scripts. Where this is left by a signal or a fault, the scripts end, and then the
+    threads; but one may wait for the lock of another run."""
     pool, before = ThreadPoolExecutor(count), {*threading.enumerate()}
     try:
         yield pool

@@ -38,8 +38,8 @@ class Reference:
 
 
 def quick_sums():
-    """Starts this script anew where that makes Python's own hash of bytes the sum, which is a thousand times as quick: from
-    Python 3.11 on it is, if PYTHONHASHSEED is 0. What the script starts has that variable as it was."""
+    """Starts this script anew where that makes Python's own hash of bytes the sum, which is a thousand times as quick:
+    from Python 3.11 on it is, if PYTHONHASHSEED is 0. What the script starts has that variable as it was."""
     if OWN_SEED in os.environ:
         seed = os.environ.pop(OWN_SEED)
         os.environ.pop(SEED) if not seed else os.environ.update({SEED: seed})

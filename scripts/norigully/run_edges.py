@@ -5,6 +5,7 @@ import array
 import contextlib
 import fcntl
 import hashlib
+import itertools
 import os
 import pathlib
 import resource
@@ -16,7 +17,8 @@ import sys
 import termios
 import time
 
-from norigully import TOP
+from norigully import TOP, kit
+from norigully.entry import ENDING
 from norigully.run_checks import BUILDS, PATIENCE, SCENE, ran, shimmed, with_output
 
 
@@ -39,7 +41,8 @@ def check_unblocked(checks, room, run, many, report):
         time.sleep(0.5)
         os.write(feeds, scene)
         os.close(feeds)
-        checks.expect(not os.get_blocking(input) and not os.get_blocking(output), f"{words}: another's descriptors block")
+        waits = os.get_blocking(input) or os.get_blocking(output)
+        checks.expect(not waits, f"{words}: another's descriptors block")
         os.close(input)
         os.close(output)
         with open(reads, "rb") as file:
@@ -121,7 +124,8 @@ def check_cache(checks, room, run, environment):
     own = cache / "norigully/programs"
     (kept,) = own.iterdir()
     whole = kept.read_bytes()
-    for what, text in ("half of a program", whole[: len(whole) // 2]), ("another byte", whole.replace(b"ELF", b"elf", 1)):
+    other = whole.replace(b"ELF", b"elf", 1)
+    for what, text in ("half of a program", whole[: len(whole) // 2]), ("another byte", other):
         kept.write_bytes(text)
         expect(what, BUILDS)
         expect(f"{what}, and then", b"")
@@ -160,7 +164,8 @@ def check_homeless(checks, room, run, build, environment):
         checks.expect_run(f"no home, XDG_CACHE_HOME={cache}", ended, 0, room.report, BUILDS)
         checks.expect_line("no home", with_output(ended), 0, BUILDS)
         ended = ran(shimmed(HOMELESS, build, "--install"), env=env, cwd=place)
-        checks.expect_line("--install without a home", ended, 2, b"build: this user has no home folder: --install needs a path")
+        said = b"build: this user has no home folder: --install needs a path"
+        checks.expect_line("--install without a home", ended, 2, said)
         checks.expect(not [*place.iterdir()], f"no home: left {[*place.iterdir()]}")
 
 
@@ -205,10 +210,47 @@ def check_signals(checks, room):
     scripts = "page", "run-tests", "record-scene", "recorded-run", "scene-of-junit", "scene-of-libtest-json", "vendor"
     for script in (TOP / "run", TOP / "build", *(TOP / "scripts" / it for it in scripts)):
         stopped = ran(shimmed(IMPORTS, script), cwd=room.folder)
-        checks.expect_line(f"Ctrl-C while {script.name} imports", stopped, -signal.SIGINT, f"{script.name}: interrupted\n".encode())
+        said = f"{script.name}: interrupted\n".encode()
+        checks.expect_line(f"Ctrl-C while {script.name} imports", stopped, -signal.SIGINT, said)
     place = room.folder / "left"
     place.mkdir()
     for when, status in ("never", 0), ("while", 128 + signal.SIGTERM), ("behind", 0):
         ended = ran([sys.executable, "-c", LEAVES.format(scripts=str(TOP / "scripts"), place=str(place), when=when)])
         checks.expect_run(f"a signal {when} a folder is removed", ended, status, b"")
         checks.expect(not [*place.iterdir()], f"a signal {when} a folder is removed: left {[*place.rglob('*')]}")
+
+
+def check_interrupted(checks, room):
+    """Each signal that ends a program ends a build of ./run, of ./build and of ./test, and what the kit has started for
+    it, also where lines come through a pipe."""
+    late, begun = room.with_stand_in("late", f"stand-in logic {kit.LOGIC}", "late"), room.folder / "made/begun"
+    copy, temporary = room.sources("interrupted"), room.folder / "temporary"
+    temporary.mkdir()
+    shutil.copy(TOP / "test", copy)
+    how = {"stdin": subprocess.PIPE, "stdout": subprocess.PIPE, "stderr": subprocess.PIPE}
+    kept = {
+        "build": b"build: interrupted; what was proved is kept\n",
+        "test": b"test: interrupted; what passed is kept\n",
+    }
+    calls = ["run", room.scene], ["run", "--follow"], ["build"], ["test", "--quick"]
+    for sent, words in itertools.product(ENDING, calls):
+        building = subprocess.Popen([copy / words[0], *words[1:]], env={**late, "TMPDIR": str(temporary)}, **how)
+        until, what = time.monotonic() + PATIENCE, f"{sent.name} and {words}"
+        while time.monotonic() < until and not (begun.exists() and begun.read_text().endswith("\n")):
+            time.sleep(0.1)
+        building.send_signal(sent)
+        out, said = checks.outputs(building, what, PATIENCE)
+        ended = subprocess.CompletedProcess([], building.returncode, b"" if words[0] in kept else out, said)
+        checks.expect_run(what, ended, 128 + sent, b"", kept.get(words[0], b"run: building "))
+        checks.expect(said.count(b"\n") == 1, f"{what}: {said}")
+        is_there = begun.exists() and any(map(is_running, begun.read_text().split()))
+        checks.expect(begun.exists() and not is_there, f"{what}: the kit goes on")
+        checks.expect(not [*temporary.iterdir()], f"{what}: {[*temporary.iterdir()]} are left")
+        begun.unlink()
+
+
+def is_running(pid):
+    try:
+        return pathlib.Path("/proc", pid, "stat").read_text().rpartition(")")[2].split()[0] != "Z"
+    except OSError:
+        return False

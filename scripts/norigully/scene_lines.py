@@ -209,7 +209,8 @@ class Run:
 
     def line_of(self, binary, name, attempts, success="never", failure="immediate", total=None):
         """Writes the line of a finished test, which is counted."""
-        before = f"done\t-\t{text(binary)}\t{text(name)}\t{success}\t{failure}\tpass\t{self.stats()}\t{total or len(attempts)}"
+        before = f"done\t-\t{text(binary)}\t{text(name)}\t{success}\t{failure}\tpass"
+        before += f"\t{self.stats()}\t{total or len(attempts)}"
         self.write("\t".join([before, *["\t".join(it.fields) for it in attempts]]) + "\n")
 
     def end(self, seconds):
@@ -217,8 +218,8 @@ class Run:
 
 
 class WholeRun(Run):
-    """Writes the lines of a run whose totals are known in its end: until then a byte that no line has is in their place.
-    The lines are kept as bytes, which take a third of the memory of texts."""
+    """Writes the lines of a run whose totals are known in its end: until then a byte that no line has is in their
+    place. The lines are kept as bytes, which take a third of the memory of texts."""
 
     TOTAL, PIECE = "\0", 1 << 20
 

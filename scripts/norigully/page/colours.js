@@ -4,7 +4,8 @@ const READS = 4.5, BLACK = "rgb(0,0,0)", WHITE = "rgb(255,255,255)";
 const ON_LIGHT = "rgb(255,235,153)", ON_DARK = "rgb(55,51,26)";
 const channels = colour => colour.match(/\d+/g).map(Number);
 const luminance = colour => {
-  const [red, green, blue] = channels(colour).map(it => (it <= 10 ? it / 255 / 12.92 : ((it / 255 + 0.055) / 1.055) ** 2.4));
+  const linear = it => (it <= 10 ? it / 255 / 12.92 : ((it / 255 + 0.055) / 1.055) ** 2.4);
+  const [red, green, blue] = channels(colour).map(linear);
   return 0.2126 * red + 0.7152 * green + 0.0722 * blue;
 };
 const contrast = (one, other) => {
@@ -33,7 +34,8 @@ const put = (parent, pieces) => {
   for (const [text, on, fore, back] of pieces) {
     if (!on && !fore && !back) { parent.append(text); continue; }
     const span = document.createElement("span"), isOwn = fore && !NAMED.test(fore);
-    span.className = [...on, NAMED.test(fore) && `c${fore}`, isOwn && !back && "own", NAMED.test(back) && `g${back}`].filter(Boolean).join(" ");
+    const names = [...on, NAMED.test(fore) && `c${fore}`, isOwn && !back && "own", NAMED.test(back) && `g${back}`];
+    span.className = names.filter(Boolean).join(" ");
     if (back && !NAMED.test(back)) {
       span.style.background = back;
       span.style.color = isOwn ? readable(fore, back) : ink(back);

@@ -24,7 +24,8 @@ worker.onmessage = ({ data }) => {
 // The report is in blocks of lines. A block has its lines while it is near what is seen, and else its height alone.
 const blocks = () => report.children;
 const fill = async block => {
-  const number = Number(block.dataset.number), lines = block.filled ? null : await ask("block", { generation: shown.generation, at: number });
+  const number = Number(block.dataset.number), { generation } = shown;
+  const lines = block.filled ? null : await ask("block", { generation, at: number });
   if (!lines || block.filled || !block.isConnected) return;
   block.filled = true;
   block.replaceChildren(...lines.map((pieces, k) => {
@@ -50,7 +51,10 @@ const seen = new IntersectionObserver(all => {
 
 const firstHitFrom = line => {
   let low = 0, high = hits.length;
-  while (low < high) { const middle = (low + high) >> 1; if (hits[middle] < line) low = middle + 1; else high = middle; }
+  while (low < high) {
+    const middle = (low + high) >> 1;
+    if (hits[middle] < line) low = middle + 1; else high = middle;
+  }
   return low;
 };
 const mark = block => {
@@ -60,7 +64,9 @@ const mark = block => {
     line.removeAttribute("class");
     for (const button of line.querySelectorAll("button")) button.tabIndex = -1;
   }
-  for (let k = firstHitFrom(first); k < hits.length && hits[k] < first + BLOCK; k++) block.children[hits[k] - first].className = "hit";
+  for (let k = firstHitFrom(first); k < hits.length && hits[k] < first + BLOCK; k++) {
+    block.children[hits[k] - first].className = "hit";
+  }
   const line = block.children[marked - first];
   if (!line) return;
   line.className = "at";
@@ -150,7 +156,8 @@ const fold = (panel, isFolded) => {
 for (const button of document.querySelectorAll(".folds button")) {
   button.addEventListener("click", () => {
     const isOpen = button.getAttribute("aria-expanded") === "true";
-    for (const panel of [$("options"), $("tests")]) fold(panel, panel.id !== button.getAttribute("aria-controls") || isOpen);
+    const own = button.getAttribute("aria-controls");
+    for (const panel of [$("options"), $("tests")]) fold(panel, panel.id !== own || isOpen);
   });
 }
 for (const id of ["level", "failure", "success"]) $(id).addEventListener("change", show);

@@ -25,10 +25,12 @@ addEventListener("beforeprint", () => {
   to.replaceChildren();
   if (!paper) {
     $("summary").textContent = "";
-    to.append(new DOMParser().parseFromString(document.querySelector("noscript").textContent, "text/html").body.textContent);
+    const text = document.querySelector("noscript").textContent;
+    to.append(new DOMParser().parseFromString(text, "text/html").body.textContent);
     return;
   }
-  const said = ["level", "failure", "success"].map(id => [$(`${id}-label`).textContent, $(id).selectedOptions[0].textContent].join(": "));
+  const saidOf = id => [$(`${id}-label`).textContent, $(id).selectedOptions[0].textContent].join(": ");
+  const said = ["level", "failure", "success"].map(saidOf);
   to.append(element("p", "", said.join(" · ")));
   putParts(to, paper.first);
   if (!paper.left) return;

@@ -1,7 +1,8 @@
 "use strict";
 // Escape sequences, for the page and its worker: those of a style change the style, and no other shows anything.
 const LONGEST = 20000, STRETCHES = 200, EDGE = 2000;
-const SEQUENCE = /\x1b(?:\[([0-9;:]*)([ -/]*[@-~])|\][^\x07\x1b]*(?:\x07|\x1b\\)?|[ -/]*[0-~])|[\x00-\x08\x0b-\x1f\x7f]/g;
+const SEQUENCE =
+  /\x1b(?:\[([0-9;:]*)([ -/]*[@-~])|\][^\x07\x1b]*(?:\x07|\x1b\\)?|[ -/]*[0-~])|[\x00-\x08\x0b-\x1f\x7f]/g;
 const PLAIN = { on: "", fore: "", back: "" };
 const FLAGS = { 1: "b", 2: "d", 3: "i", 4: "u", 9: "s" }, OFF = { 22: "bd", 23: "i", 24: "u", 29: "s" };
 const LEVELS = [0, 95, 135, 175, 215, 255];
@@ -9,7 +10,8 @@ const LEVELS = [0, 95, 135, 175, 215, 255];
 // A colour of 256: one of the eight, which the page names by a digit, or its own.
 const indexed = n => {
   if (n < 16) return String(n < 8 || n === 8 ? n : n - 8);
-  return `rgb(${n > 231 ? Array(3).fill(8 + 10 * (n - 232)) : [36, 6, 1].map(k => LEVELS[Math.floor((n - 16) / k) % 6])})`;
+  if (n > 231) return `rgb(${Array(3).fill(8 + 10 * (n - 232))})`;
+  return `rgb(${[36, 6, 1].map(k => LEVELS[Math.floor((n - 16) / k) % 6])})`;
 };
 // The colour behind 38 or 48, and how many numbers it took.
 const extended = list => {
@@ -39,13 +41,18 @@ const restyled = (style, codes) => {
 // The style behind a line. Of a long line that does not end it the beginning and the end are looked at.
 const styleAfter = (line, style) => {
   const reset = Math.max(line.lastIndexOf("\x1b[0m"), line.lastIndexOf("\x1b[m"));
-  const rest = reset < 0 ? line : line.slice(reset), looked = rest.length > 2 * EDGE ? rest.slice(0, EDGE) + rest.slice(-EDGE) : rest;
+  const rest = reset < 0 ? line : line.slice(reset);
+  const looked = rest.length > 2 * EDGE ? rest.slice(0, EDGE) + rest.slice(-EDGE) : rest;
   if (reset >= 0) style = PLAIN;
-  if (looked.includes("\x1b")) for (const found of looked.matchAll(SEQUENCE)) if (found[2] === "m") style = restyled(style, found[1]);
+  if (!looked.includes("\x1b")) return style;
+  for (const found of looked.matchAll(SEQUENCE)) {
+    if (found[2] === "m") style = restyled(style, found[1]);
+  }
   return style;
 };
 
-// The pieces of a line that have one style each, as text and style. What is behind the last that a line may have has its style.
+// The pieces of a line that have one style each, as text and style. What is behind the last that a line may have has
+// its style.
 const pieces = (line, style) => {
   const made = [], cut = line.length > LONGEST ? line.slice(0, LONGEST) : line;
   const add = text => {

@@ -1,4 +1,4 @@
-// The tests that failed, that were flaky and that took longest: a list of links for each, and what can be copied of them.
+// The tests that failed, that were flaky and that took longest: a list of links for each, and what can be copied.
 let tests = [], failures = [];
 const TITLES = {
   failed: count => (count ? `${count.toLocaleString("en")} failed` : "No failures"),
@@ -6,7 +6,8 @@ const TITLES = {
   slowest: () => "Slowest",
 };
 const links = () => $("tests").querySelectorAll("a");
-const element = (tag, className = "", text = "") => Object.assign(document.createElement(tag), { className, textContent: text });
+const element = (tag, className = "", text = "") =>
+  Object.assign(document.createElement(tag), { className, textContent: text });
 
 // The address has the name of a test, and can be sent.
 const nameOf = ({ binary, name }) => `${binary} ${name}`;
@@ -74,7 +75,9 @@ const goToAddress = async () => {
 };
 const stepFailure = by => {
   const now = failures.indexOf(addressed()), count = failures.length;
-  if (count) location.hash = addressOf(tests[failures[now < 0 ? (by > 0 ? 0 : count - 1) : (now + by + count) % count]]);
+  if (!count) return;
+  const next = now < 0 ? (by > 0 ? 0 : count - 1) : (now + by + count) % count;
+  location.hash = addressOf(tests[failures[next]]);
 };
 
 // What the line of a test has beside it: its name as `nextest run` takes it, and what it wrote, as text.

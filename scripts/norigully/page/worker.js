@@ -35,7 +35,8 @@ const heightOf = ([binary, name]) => `${binary}${name}`.split("\n").length;
 // The line of each test in a report: the one that reports its end, or else one of the summary, which has the same
 // time and name.
 const linesOfTests = report => {
-  const lines = about.tests.map(() => -1), others = new Map(), keyOf = place => table[place].slice(table[place].indexOf("\x1b[0m ["));
+  const lines = about.tests.map(() => -1), others = new Map();
+  const keyOf = place => table[place].slice(table[place].indexOf("\x1b[0m ["));
   for (let n = 0; n < report.length; n++) {
     const number = testOf[report[n]];
     if (number && lines[number - 1] < 0) lines[number - 1] = n;
@@ -61,7 +62,8 @@ const outputOf = test => {
 };
 const timeOf = ([, , place]) => (place < 0 ? "" : /\[[ >]*([\d.]+s)\]/.exec(plainOf(place))?.[1] ?? "");
 
-// The style in front of a block, from the last line before it that ends a style, or from the last block whose style is known.
+// The style in front of a block, from the last line before it that ends a style, or from the last block whose style is
+// known.
 const styleAt = at => {
   const { report, styles } = current;
   let from = at * BLOCK;
@@ -82,9 +84,12 @@ const fitting = (report, most) => {
   }
   return count;
 };
-// Lines as plain text, each with those behind it that are of one test: a line that begins with a style and has a time, or
-// that many dashes, begins anew.
-const begins = place => (isOwn(place) ? /^[^[\]]{1,14}\[[^\]]*\] /.test(plainOf(place)) : /^[─-]{12}$/.test(table[place]));
+// Lines as plain text, each with those behind it that are of one test: a line that begins with a style and has a time,
+// or that many dashes, begins anew.
+const begins = place => {
+  if (isOwn(place)) return /^[^[\]]{1,14}\[[^\]]*\] /.test(plainOf(place));
+  return /^[─-]{12}$/.test(table[place]);
+};
 const partsOf = places => {
   const parts = [];
   for (const place of places) {
@@ -103,7 +108,10 @@ const handlers = {
     testOf = new Uint32Array(table.length);
     for (const [k, [, , place]] of about.tests.entries()) if (place >= 0) testOf[place] = k + 1;
     const failed = new Set(about.lists.failed);
-    const tests = about.tests.map((it, k) => ({ binary: it[0], name: it[1], time: timeOf(it), hasOutput: failed.has(k) && outputOf(it) !== "" }));
+    const tests = about.tests.map((it, k) => {
+      const hasOutput = failed.has(k) && outputOf(it) !== "";
+      return { binary: it[0], name: it[1], time: timeOf(it), hasOutput };
+    });
     return { tests, lists: about.lists, note: about.note, choices: Object.keys(about.reports) };
   },
   show({ choice }) {
