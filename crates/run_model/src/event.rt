@@ -180,6 +180,10 @@ impl<'a> TestEvent<'a> {
     /// assert!(event.recorded(alloc)?.is_some());
     /// assert!(TestEvent::run_finished(time, stats).recorded(alloc)?.is_none());
     /// ```
+    ///
+    /// # Errors
+    ///
+    /// Memory was refused.
     pub fn recorded(
         &self,
         alloc: Global,

@@ -134,6 +134,10 @@ impl Model for ChildSingleOutput {
 
 impl ChildSingleOutput {
     /// The output with these bytes. It allocates unless there are none.
+    ///
+    /// # Errors
+    ///
+    /// Memory was refused. Without bytes there is no error.
     pub fn new(alloc: Global, bytes: Bytes) -> Result<Self, OutOfMemory>
         ensures bytes { IfOk result (λ output. output ≡ bytes) }
         ensures free { bytes ≡ [] → IsOk result }
@@ -153,6 +157,10 @@ impl ChildSingleOutput {
     /// let output = ChildSingleOutput::from_vec(alloc, Vec::from_slice(alloc, b"a\xffb")?)?;
     /// assert_eq!(output.as_str(), "a\u{fffd}b");
     /// ```
+    ///
+    /// # Errors
+    ///
+    /// Memory was refused. The bytes are dropped.
     pub fn from_vec(alloc: Global, bytes: Vec<u8>) -> Result<Self, OutOfMemory>
         ensures { IfOk result (λ output. output ≡ bytes.items) }
     {
@@ -214,6 +222,10 @@ impl ChildSingleOutput {
     }
 
     /// [`as_str`](Self::as_str) in the form of nextest, whose text is decoded at each call. This one is borrowed.
+    ///
+    /// # Errors
+    ///
+    /// There is none: the text is borrowed.
     #[tactic(auto, unfolding(crate::specs::Decoded::decoded_text))]
     pub fn as_str_lossy(&self, _alloc: Global) -> Result<CowStr<'_, Global>, OutOfMemory>
         ensures text { IfOk result (λ t. cow_str_bytes t ≡ encode_utf8_all (lossy_chars self.now)) }
@@ -223,6 +235,10 @@ impl ChildSingleOutput {
     }
 
     /// A copy that shares the same bytes. It allocates nothing.
+    ///
+    /// # Errors
+    ///
+    /// The shared bytes have as many owners as their counter can hold.
     pub fn try_clone(&self) -> Result<Self, TooManyOwners>
         ensures { IfOk result (λ output. output ≡ self.now) }
     {
@@ -289,6 +305,10 @@ impl ChildOutputDescription {
     /// let output = ChildOutputDescription::split(alloc, Bytes::new(), stderr)?;
     /// assert!(output.is_loaded());
     /// ```
+    ///
+    /// # Errors
+    ///
+    /// Memory was refused. Where both streams are empty there is no error.
     pub fn split(alloc: Global, stdout: Bytes, stderr: Bytes) -> Result<Self, OutOfMemory>
         ensures streams { IfOk result (λ output. output ≡ ChildOutputDescription.Split (Some stdout) (Some stderr)) }
         ensures free { stdout ≡ [] → stderr ≡ [] → IsOk result }
@@ -305,6 +325,10 @@ impl ChildOutputDescription {
     /// let output = ChildOutputDescription::combined(alloc, Bytes::from_static(b"both streams\n"))?;
     /// assert!(output.is_loaded());
     /// ```
+    ///
+    /// # Errors
+    ///
+    /// Memory was refused. Without bytes there is no error.
     pub fn combined(alloc: Global, output: Bytes) -> Result<Self, OutOfMemory>
         ensures streams { IfOk result (λ captured. captured ≡ ChildOutputDescription.Combined output) }
         ensures free { output ≡ [] → IsOk result }
@@ -322,6 +346,10 @@ impl ChildOutputDescription {
     }
 
     /// A copy that shares the same bytes. It allocates nothing.
+    ///
+    /// # Errors
+    ///
+    /// The shared bytes have as many owners as their counter can hold.
     pub fn try_clone(&self) -> Result<Self, TooManyOwners>
         ensures { IfOk result (λ output. output ≡ self.now) }
     {
@@ -507,6 +535,10 @@ impl ChildExecutionOutputDescription<LiveSpec> {
     }
 
     /// Copies its texts, which allocates. The copy shares the bytes of the output.
+    ///
+    /// # Errors
+    ///
+    /// Memory was refused, or shared bytes have as many owners as their counter can hold.
     pub fn try_clone(&self, alloc: Global) -> Result<Self, OutOfMemory>
         ensures { IfOk result (λ output. output ≡ self.now) }
     {
@@ -550,6 +582,10 @@ impl ChildExecutionOutputDescription<LiveSpec> {
     }
 
     /// The same in the form of a recorded run: its output is the names of its members, which are empty. It copies its texts.
+    ///
+    /// # Errors
+    ///
+    /// Memory was refused.
     pub fn recorded(
         &self,
         alloc: Global,
@@ -644,6 +680,10 @@ impl ErrorChain {
     /// let chain = ErrorChain::new(alloc, DescriptionText::new(alloc, "timed out")?, Vec::new(alloc))?;
     /// assert!(chain.causes().is_empty());
     /// ```
+    ///
+    /// # Errors
+    ///
+    /// Memory was refused. The texts are dropped.
     pub fn new(
         alloc: Global,
         message: DescriptionText,
@@ -672,6 +712,10 @@ impl ErrorChain {
     }
 
     /// A copy that shares the same error. It allocates nothing.
+    ///
+    /// # Errors
+    ///
+    /// The shared error has as many owners as its counter can hold.
     pub fn try_clone(&self) -> Result<Self, TooManyOwners>
         ensures { IfOk result (λ chain. chain ≡ self.now) }
     {
@@ -750,6 +794,10 @@ impl Highlight {
     }
 
     /// A copy that shares the same bytes.
+    ///
+    /// # Errors
+    ///
+    /// Memory was refused, or the shared bytes have as many owners as their counter can hold.
     pub fn try_clone(&self) -> Result<Self, OutOfMemory>
         ensures { IfOk result (λ h. h ≡ self.now) }
     {

@@ -122,6 +122,10 @@ impl ExecutionResultDescription {
     }
 
     /// Copies it; allocates only if it holds text.
+    ///
+    /// # Errors
+    ///
+    /// Memory was refused. Without text there is no error.
     pub fn try_clone(&self, alloc: Global) -> Result<Self, OutOfMemory>
         ensures same { IfOk result (λ r. r ≡ self.now) }
         ensures free { is_aborted self.now ≡ false → IsOk result }
@@ -187,6 +191,10 @@ pub enum FailureDescription {
 
 impl FailureDescription {
     /// Copies it; allocates only if it holds text.
+    ///
+    /// # Errors
+    ///
+    /// Memory was refused. For an exit code there is no error.
     pub fn try_clone(&self, alloc: Global) -> Result<Self, OutOfMemory>
         ensures same { IfOk result (λ f. f ≡ self.now) }
         ensures free { is_abort self.now ≡ false → IsOk result }
@@ -224,6 +232,10 @@ impl ExecuteStatus<LiveSpec> {
     /// let status = ExecuteStatus::new(alloc, timeout, Nanos::from_secs(60))?;
     /// assert!(!status.result.is_success());
     /// ```
+    ///
+    /// # Errors
+    ///
+    /// Memory was refused. For a result without text there is no error.
     pub fn new(
         alloc: Global,
         outcome: ExecutionResultDescription,
@@ -307,6 +319,10 @@ impl ExecuteStatus<LiveSpec> {
     }
 
     /// Copies its texts, which allocates. The copy shares the bytes of the output.
+    ///
+    /// # Errors
+    ///
+    /// Memory was refused, or shared bytes have as many owners as their counter can hold.
     pub fn try_clone(&self, alloc: Global) -> Result<Self, OutOfMemory>
         ensures { IfOk result (λ status. status ≡ self.now) }
     {
@@ -327,6 +343,10 @@ impl ExecuteStatus<LiveSpec> {
     }
 
     /// The same in the form of a recorded run. It copies its texts.
+    ///
+    /// # Errors
+    ///
+    /// Memory was refused.
     pub fn recorded(&self, alloc: Global) -> Result<ExecuteStatus<RecordingSpec>, OutOfMemory>
         ensures { IfOk result (λ status. status ≡ recorded_attempt self.now) }
     {
@@ -370,6 +390,10 @@ impl SetupScriptExecuteStatus<LiveSpec> {
     }
 
     /// The same in the form of a recorded run. It copies its texts.
+    ///
+    /// # Errors
+    ///
+    /// Memory was refused.
     pub fn recorded(
         &self,
         alloc: Global,
@@ -585,6 +609,10 @@ impl<S: OutputSpec> Model for ExecutionStatuses<S> {
 
 impl ExecutionStatuses<LiveSpec> {
     /// Copies the attempts and their texts, which allocates. The copies share the bytes of their outputs.
+    ///
+    /// # Errors
+    ///
+    /// Memory was refused, or shared bytes have as many owners as their counter can hold.
     pub fn try_clone(&self, alloc: Global) -> Result<Self, OutOfMemory>
         ensures { IfOk result (λ statuses. statuses ≡ self.now) }
     {
@@ -604,6 +632,10 @@ impl ExecutionStatuses<LiveSpec> {
     }
 
     /// The attempts in the form of a recorded run. It copies their texts.
+    ///
+    /// # Errors
+    ///
+    /// Memory was refused.
     pub fn recorded(&self, alloc: Global) -> Result<ExecutionStatuses<RecordingSpec>, OutOfMemory>
         ensures { IfOk result (λ statuses. statuses ≡ recorded_attempts self.now) }
     {
@@ -744,6 +776,10 @@ impl<S: OutputSpec> ExecutionStatuses<S> {
     }
 
     /// The outcome of the attempts, without their output. It allocates only if the last result holds text.
+    ///
+    /// # Errors
+    ///
+    /// Memory was refused. For a last result without text there is no error.
     pub fn summary(&self, alloc: Global) -> Result<StatusSummary, OutOfMemory>
         ensures summary { IfOk result (λ s. s ≡ summary_of self.now) }
         ensures free { is_aborted self.now.last.result ≡ false → IsOk result }

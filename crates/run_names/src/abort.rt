@@ -36,6 +36,10 @@ pub enum AbortDescription {
 
 impl AbortDescription {
     /// Copies it; allocates only if it holds text.
+    ///
+    /// # Errors
+    ///
+    /// Memory was refused. Without text there is no error.
     pub fn try_clone(&self, alloc: Global) -> Result<Self, OutOfMemory>
         ensures same { IfOk result (λ a. a ≡ self.now) }
         ensures free { abort_has_text self.now ≡ false → IsOk result }
@@ -90,6 +94,10 @@ impl Model for DescriptionText {
 
 impl DescriptionText {
     /// Copies the text.
+    ///
+    /// # Errors
+    ///
+    /// Memory was refused.
     pub fn new(alloc: Global, text: &str) -> Result<Self, OutOfMemory>
         ensures { IfOk result (λ description. description ≡ text.now) }
     {
@@ -106,6 +114,10 @@ impl DescriptionText {
     }
 
     /// Copies it; the copy allocates.
+    ///
+    /// # Errors
+    ///
+    /// Memory was refused.
     pub fn try_clone(&self, alloc: Global) -> Result<Self, OutOfMemory>
         ensures { IfOk result (λ description. description ≡ self.now) }
     {

@@ -105,6 +105,10 @@ impl CompiledDefaultFilter {
     /// let filter = CompiledDefaultFilter::for_default_config(alloc)?;
     /// assert_eq!(filter.profile.as_str(), "default");
     /// ```
+    ///
+    /// # Errors
+    ///
+    /// Memory was refused.
     pub fn for_default_config(alloc: Global) -> Result<Self, OutOfMemory>
         ensures { IfOk result (λ filter. filter ≡ default_config_filter) }
     {

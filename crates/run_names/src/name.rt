@@ -33,6 +33,10 @@ impl<K> Model for Name<K> {
 
 impl<K> Name<K> {
     /// Copies the text.
+    ///
+    /// # Errors
+    ///
+    /// Memory was refused.
     pub fn new(alloc: Global, text: &str) -> Result<Self, OutOfMemory>
         ensures { IfOk result (λ name. name ≡ text.now) }
     {
@@ -60,6 +64,10 @@ impl<K> Name<K> {
     }
 
     /// Makes this its text, in the memory that the name has if that suffices. If memory is refused the name is empty.
+    ///
+    /// # Errors
+    ///
+    /// Memory was refused. The name is then empty.
     pub fn replace(&mut self, text: &str) -> Result<(), OutOfMemory>
         ensures replaced { OnOk result (self.new ≡ text.now) }
         ensures emptied { OnErr result (self.new ≡ []) }
@@ -262,6 +270,10 @@ impl OwnedTestInstanceId {
     /// let test = OwnedTestInstanceId::new(alloc, "alpha", "parser::empty_input")?;
     /// assert_eq!(test.test_name.as_str(), "parser::empty_input");
     /// ```
+    ///
+    /// # Errors
+    ///
+    /// Memory was refused.
     pub fn new(alloc: Global, binary_id: &str, test_name: &str) -> Result<Self, OutOfMemory>
         ensures binary_id { IfOk result (λ test. test.binary_id ≡ binary_id.now) }
         ensures test_name { IfOk result (λ test. test.test_name ≡ test_name.now) }

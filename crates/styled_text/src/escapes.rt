@@ -10,7 +10,7 @@
 //! scanned once, and its pieces are slices of it.
 
 ghost use Rattle.std.specs.Prelude.{◌≡◌, ℕ, false, [], ◌∷◌, List, IfOk, IfSome, MatchOption, string_bytes};
-ghost use Rattle.styled_text.specs.Names.{YieldsFirstBy, item_count, sequence_len, csi_len, front_len, is_within, is_visible, is_parameter, pieces, visible, joined, stretches, HasNoEscape, piece_text};
+ghost use Rattle.styled_text.specs.Names.{YieldsFirstBy, item_count, sequence_len, csi_len, front_len, is_within, is_visible, is_parameter, pieces, visible, HasNoEscape, piece_text};
 ghost use Rattle.styled_text.specs.Names.{rest_len, is_before_backslash, StepCounts, step_of, short_step_of, final_step_of, advanced, Puts};
 ghost use Rattle.styled_text.specs.declared.escapes.Mode.TheVariants.{Text};
 ghost use Rattle.styled_text.specs.declared.escapes.State.TheVariants.{Parameters, Intermediates, Command, Short};
@@ -26,7 +26,7 @@ use writers::write_str::{WriteFault, WriteStr};
 pub const ESCAPE: u8 = 0x1B;
 
 /// A piece of a text.
-#[derive(Clone, Copy, Drop)]
+#[derive(Clone, Copy, Debug, Drop)]
 pub enum Piece<'a> {
     /// A sequence.
     Sequence(&'a str),
@@ -35,7 +35,7 @@ pub enum Piece<'a> {
 }
 
 /// The pieces of a text that are left.
-#[derive(Drop)]
+#[derive(Debug, Drop)]
 pub struct Scanner<'a> {
     rest: &'a str,
 }
@@ -80,6 +80,10 @@ impl<'a> Iterator for Scanner<'a> {
 /// ```
 /// assert_eq!(strip(alloc, "a\x1b[31\nb")?.as_str(), "a\nb");
 /// ```
+///
+/// # Errors
+///
+/// Memory was refused.
 #[tactic(auto, using(crate::proofs::lemmas::Pieces::visible_laws))]
 pub fn strip(alloc: Global, text: &str) -> Result<String, OutOfMemory>
     ensures visible { IfOk result (λ s. string_bytes s ≡ visible text.now) }
@@ -95,6 +99,10 @@ pub fn strip(alloc: Global, text: &str) -> Result<String, OutOfMemory>
 }
 
 /// Writes the text without its sequences. The stretches between them go down as they are, with no copy.
+///
+/// # Errors
+///
+/// The writer's fault. It has accepted a prefix of the text.
 pub fn write_stripped<W: WriteStr>(w: &mut W, text: &str) -> Result<(), WriteFault>
     ensures { Puts W.meaning w.old (visible text.now) result w.new }
 {
@@ -105,13 +113,6 @@ pub fn write_stripped<W: WriteStr>(w: &mut W, text: &str) -> Result<(), WriteFau
     }
     Ok(())
 }
-
-/// The law of pieces: joined they are the text, and the stretches joined are what is visible of it.
-#[tactic(auto, using(crate::proofs::lemmas::Pieces::piece_laws))]
-pub fn piece_laws()
-    ensures joined { (t : List ℕ) → joined (pieces t) ≡ t }
-    ensures visible { (t : List ℕ) → stretches (pieces t) ≡ visible t }
-{}
 
 // The first piece of a text, and what follows it.
 #[tactic(auto, using(crate::proofs::lemmas::Pieces::first_piece))]

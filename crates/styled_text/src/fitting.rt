@@ -4,8 +4,8 @@
 //! keeps every sequence. A text is cut while it is written, character by character, so that no memory is taken and
 //! stretches that meet across two writes are one.
 
-ghost use Rattle.std.specs.Prelude.{◌≡◌, ℕ, ◌-◌, ◌^◌, ◌<◌, ◌≤◌, ◌++◌, List, false, true};
-ghost use Rattle.styled_text.specs.Names.{IsUtf8, saturated, HasNoEscape, pieces, columns, fit, shrunk, shrunk_parts, sequences, part_sequences, IsPainted, ArePainted, Puts};
+ghost use Rattle.std.specs.Prelude.{◌≡◌, ◌^◌, ◌<◌, false, true};
+ghost use Rattle.styled_text.specs.Names.{IsUtf8, saturated, columns, fit, shrunk, Puts};
 
 mod column_counter;
 mod fitted;
@@ -15,17 +15,6 @@ use column_counter::ColumnCounter;
 use fitted::Fitted;
 use writers::text::WriteText;
 use writers::write_str::{WriteFault, WriteStr};
-
-/// The laws of cut texts, where each sequence of a text ends by itself: how wide they are, and that they keep each sequence.
-#[tactic(auto, using(crate::proofs::lemmas::Widths::width_laws))]
-pub fn width_laws()
-    ensures columns { (t : List ℕ) (start end : ℕ) → IsPainted t → columns (fit t start end) ≤ end - start }
-    ensures sequences { (t : List ℕ) (start end : ℕ) → IsPainted t → sequences (pieces (fit t start end)) ≡ sequences (pieces t) }
-    ensures part_columns { (ts : List (List ℕ)) (name : List ℕ) (width : ℕ) → ArePainted ts → IsPainted name → columns (shrunk_parts ts name width) ≤ width }
-    ensures part_sequences { (ts : List (List ℕ)) (name : List ℕ) (width : ℕ) → ArePainted ts → IsPainted name → sequences (pieces (shrunk_parts ts name width)) ≡ part_sequences ts ++ sequences (pieces name) }
-    ensures plain { (t : List ℕ) → IsUtf8 t → HasNoEscape t → IsPainted t }
-    ensures joined { (a b : List ℕ) → IsPainted a → IsPainted b → IsPainted (a ++ b) }
-{}
 
 /// The columns of a text, up to `u128::MAX`. It is written once, to be counted.
 pub fn count_columns<T: WriteText>(part: &T) -> u128
@@ -40,6 +29,10 @@ pub fn count_columns<T: WriteText>(part: &T) -> u128
 }
 
 /// Writes what lies between two columns of a text, and every sequence of it.
+///
+/// # Errors
+///
+/// The writer's fault. It has accepted a prefix of the text.
 pub fn write_fitted<T: WriteText, W: WriteStr>(
     w: &mut W,
     part: &T,
@@ -58,6 +51,10 @@ pub fn write_fitted<T: WriteText, W: WriteStr>(
 }
 
 /// Writes a text of this width, or its front if there is less room.
+///
+/// # Errors
+///
+/// The writer's fault. It has accepted a prefix of the text.
 #[tactic(auto, using(std::proofs::lemmas::Bool::Decides::nat_tests))]
 pub fn write_front<T: WriteText, W: WriteStr>(
     w: &mut W,
@@ -77,6 +74,10 @@ pub fn write_front<T: WriteText, W: WriteStr>(
 }
 
 /// Writes a text of this width, or its end if there is less room.
+///
+/// # Errors
+///
+/// The writer's fault. It has accepted a prefix of the text.
 #[tactic(auto, using(std::proofs::lemmas::Bool::Decides::nat_tests))]
 pub fn write_back<T: WriteText, W: WriteStr>(
     w: &mut W,

@@ -4,7 +4,7 @@
 //! into calls, the writer below gets the same bytes.
 
 ghost use Rattle.std.specs.Prelude.{◌≡◌, true, codes};
-ghost use Rattle.styled_text.specs.Names.{option_map, indent, IndentsInPieces, IndentsByBytes};
+ghost use Rattle.styled_text.specs.Names.{option_map, indent};
 
 use std::fmt;
 use std::fmt::{Formatter, Write};
@@ -52,10 +52,3 @@ impl<T: fmt::Display> fmt::Display for DisplayIndented<T> {
         result
     }
 }
-
-/// The law of indentation: a text may be cut anywhere, and a scan with one flag indents it.
-#[tactic(auto, using(crate::proofs::lemmas::Indents::onward))]
-pub fn indent_laws()
-    ensures pieces { IndentsInPieces }
-    ensures bytes { IndentsByBytes }
-{}

@@ -9,6 +9,7 @@ pub mod decimal;
 pub mod escapes;
 pub mod fitting;
 pub mod indenter;
+pub mod laws;
 pub mod lines;
 pub mod numbers;
 pub mod repeated;

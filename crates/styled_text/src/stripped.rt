@@ -14,6 +14,10 @@ use writers::write_str::{WriteFault, WriteStr};
 /// Writes a text without its escape sequences, and without a line feed that closes the rest.
 ///
 /// A sequence is scanned as a whole, and stretches between sequences are written together. It allocates nothing.
+///
+/// # Errors
+///
+/// The writer's fault. It has accepted a prefix of the text.
 #[tactic(auto, using(crate::proofs::lemmas::Pieces::fronts))]
 pub fn write_stripped_text<W: WriteStr>(w: &mut W, text: &str) -> Result<(), WriteFault>
     ensures { Puts W.meaning w.old (without_trailing_newline (visible text.now)) result w.new }

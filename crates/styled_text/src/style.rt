@@ -73,6 +73,10 @@ impl Style {
     }
 
     /// Writes a text in this style.
+    ///
+    /// # Errors
+    ///
+    /// The writer's fault. It has accepted a prefix of the text.
     #[tactic(auto, unfolding(crate::specs::Style::styled))]
     #[inline(always)]
     pub fn write<W: WriteStr>(self, w: &mut W, text: &str) -> Result<(), WriteFault>
@@ -95,6 +99,10 @@ impl Style {
     }
 
     /// Writes a number in decimal in this style.
+    ///
+    /// # Errors
+    ///
+    /// The writer's fault. It has accepted a prefix of the text.
     #[tactic(auto, unfolding(crate::specs::Style::styled))]
     pub fn write_number<W: WriteStr>(self, w: &mut W, number: u128) -> Result<(), WriteFault>
         ensures { Puts W.meaning w.old (styled self (decimal number)) result w.new }
@@ -109,6 +117,10 @@ impl Style {
     }
 
     /// Writes a text right-aligned in the given number of columns.
+    ///
+    /// # Errors
+    ///
+    /// The writer's fault. It has accepted a prefix of the text.
     #[tactic(auto, unfolding(crate::specs::Style::styled))]
     pub fn write_right<W: WriteStr>(
         self,

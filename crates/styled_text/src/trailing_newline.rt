@@ -16,7 +16,7 @@ use writers::write_str::{WriteFault, WriteStr};
 /// trailing_newline.write(&mut out, "b\n")?;
 /// assert_eq!(out.as_str(), "a\nb");
 /// ```
-#[derive(Clone, Copy, Default, PartialEq, Eq)]
+#[derive(Clone, Copy, Debug, Default, PartialEq, Eq)]
 pub struct TrailingNewline {
     is_held: bool,
 }

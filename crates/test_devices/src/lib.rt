@@ -79,6 +79,10 @@ impl Device {
     /// assert!(device.write_all(b"passed, failed").is_err());
     /// assert_eq!(device.taken(), b"passed, fa".as_slice());
     /// ```
+    ///
+    /// # Errors
+    ///
+    /// The memory was refused.
     pub fn with_room(alloc: Global, room: usize) -> Result<Device, AllocError> {
         Ok(Device {
             taken: Vec::with_capacity(alloc, room)?,

@@ -5,5 +5,6 @@
 //! tuple. No function here allocates while it writes, except `String`, which grows.
 #![tactic(auto)]
 
+pub mod laws;
 pub mod text;
 pub mod write_str;

@@ -6,13 +6,11 @@
 ghost use Rattle.std.specs.Prelude.{◌≡◌, [], OnOk, encode_utf8};
 ghost use Rattle.writers.specs.{StringWriter.string_meaning, StringWriter.string_laws, Texts.strs, Writer.Meaning, Writer.WriterLaws, Writer.Puts};
 
-mod delivery;
 mod on_formatter;
 mod pending_bytes;
 mod retry_interrupted;
 mod text_buffer;
 
-pub use delivery::delivery_law;
 pub use on_formatter::OnFormatter;
 pub use pending_bytes::CAPACITY;
 pub use retry_interrupted::RetryInterrupted;
@@ -40,10 +38,18 @@ pub trait WriteStr {
     ghost meaning: { Meaning Self };
 
     /// Writes a text.
+    ///
+    /// # Errors
+    ///
+    /// Why the writer stopped. It has accepted a prefix of the text.
     fn write_str(&mut self, s: &str) -> Result<(), WriteFault>
         ensures { Puts meaning self.old s.now result self.new };
 
     /// Writes a character.
+    ///
+    /// # Errors
+    ///
+    /// Why the writer stopped. It has accepted a prefix of the character's UTF-8.
     fn write_char(&mut self, c: char) -> Result<(), WriteFault>
         ensures { Puts meaning self.old (encode_utf8 c) result self.new }
     {
@@ -52,6 +58,10 @@ pub trait WriteStr {
     }
 
     /// Delivers all that was accepted to the writer's destination.
+    ///
+    /// # Errors
+    ///
+    /// Why the writer stopped. What the destination has not taken stays accepted.
     fn write_str_flush(&mut self) -> Result<(), WriteFault>
         ensures text { Puts meaning self.old [] result self.new }
         ensures delivered { OnOk result (meaning.is_delivered self.new) };
@@ -90,6 +100,10 @@ impl WriteStr for String {
 /// write_strs(&mut out, &["(", "1", "/", "2", ") "])?;
 /// assert_eq!(out.as_str(), "(1/2) ");
 /// ```
+///
+/// # Errors
+///
+/// The writer's fault. It has accepted a prefix of the joined texts.
 pub fn write_strs<W: WriteStr>(w: &mut W, texts: &[&str]) -> Result<(), WriteFault>
     ensures { Puts W.meaning w.old (strs texts.now) result w.new }
 {

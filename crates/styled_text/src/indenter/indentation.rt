@@ -13,7 +13,7 @@ use writers::write_str::{WriteFault, WriteStr};
 ///
 /// A line that is not empty gets the indentation before its first character, an empty one gets none. It allocates nothing:
 /// slices of the source are passed on.
-#[derive(Drop)]
+#[derive(Debug, Drop)]
 pub struct Indented<'a, W> {
     pub(super) inner: &'a mut W,
     pub(super) needs_indent: bool,

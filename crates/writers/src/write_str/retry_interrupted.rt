@@ -17,7 +17,7 @@ use std::io::{ErrorKind, Write};
 /// device.flush()?;
 /// assert_eq!(device.into_inner().as_slice(), b"done\n".as_slice());
 /// ```
-#[derive(Drop)]
+#[derive(Debug, Drop)]
 pub struct RetryInterrupted<W> {
     device: W,
 }

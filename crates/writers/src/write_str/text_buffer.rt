@@ -23,7 +23,7 @@ use std::io::Write;
 /// out.write_str("done\n")?;
 /// out.write_str_flush()?;
 /// ```
-#[derive(Drop)]
+#[derive(Debug, Drop)]
 pub struct TextBuffer<W> {
     writer: W,
     pending: PendingBytes,
@@ -35,6 +35,10 @@ impl<W: Write> TextBuffer<W> {
     ghost use Rattle.writers.specs.{TextBuffer.buffer_meaning, Writer.Puts};
 
     /// Reserves the memory, 8,192 bytes, once. If that is refused, the device is returned.
+    ///
+    /// # Errors
+    ///
+    /// The memory was refused. The device comes back with the error.
     pub fn new(alloc: Global, writer: W) -> Result<TextBuffer<W>, (AllocError, W)>
         ensures ok { IfOk result (λ b. (b.writer ≡ writer) × (b.pending ≡ []) × (b.failures ≡ 0)) }
         ensures err { IfErr result (λ refused. refused.1 ≡ writer) }
