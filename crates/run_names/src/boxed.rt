@@ -50,7 +50,7 @@ impl<T: Drop> Boxed<T> {
         &*self.value
     }
 
-    /// The value, which may be changed.
+    /// The value, mutable.
     pub fn get_mut(&mut self) -> &mut T
         ensures* lends { sem 𝓛 (LendsValue T.row self.entry result) }
         ensures value { result.now ≡ self.old }
@@ -112,6 +112,11 @@ impl<T: Drop> Shared<T> {
     }
 
     /// A copy that shares the value. It allocates nothing.
+    ///
+    /// ```
+    /// let shared = Shared::new(alloc, time)?;
+    /// assert_eq!(shared.try_clone()?.get(), shared.get());
+    /// ```
     ///
     /// # Errors
     ///

@@ -34,6 +34,10 @@ impl<K> Model for Name<K> {
 impl<K> Name<K> {
     /// Copies the text.
     ///
+    /// ```
+    /// assert_eq!(ScriptId::new(alloc, "set-up")?.as_str(), "set-up");
+    /// ```
+    ///
     /// # Errors
     ///
     /// Memory was refused.
@@ -63,7 +67,7 @@ impl<K> Name<K> {
         }
     }
 
-    /// Makes this its text, in the memory that the name has if that suffices. If memory is refused the name is empty.
+    /// Sets the text, and reuses the name's memory where that is large enough.
     ///
     /// # Errors
     ///
@@ -254,7 +258,12 @@ impl PartialOrd for TestInstanceId<'_> {
     }
 }
 
-/// A test whose names are its own.
+/// A test that owns its names.
+///
+/// ```
+/// let test = OwnedTestInstanceId::new(alloc, "alpha", "parser::empty")?;
+/// assert!(test.as_ref() < OwnedTestInstanceId::new(alloc, "beta", "t1")?.as_ref());
+/// ```
 #[derive(Debug, Drop)]
 pub struct OwnedTestInstanceId {
     /// The binary's id.

@@ -62,7 +62,7 @@ impl ShortestRunIdPrefix {
         self.rest.as_str()
     }
 
-    /// Copies it; the copy allocates.
+    /// A copy, which allocates.
     ///
     /// # Errors
     ///

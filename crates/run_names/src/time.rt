@@ -28,6 +28,10 @@ impl Nanos {
     }
 
     /// This many milliseconds.
+    ///
+    /// ```
+    /// assert_eq!(Nanos::from_millis(20), Nanos(20_000_000));
+    /// ```
     pub fn from_millis(milliseconds: u64) -> Self
         ensures { result.0 ≡ milliseconds * 1000000 }
     {

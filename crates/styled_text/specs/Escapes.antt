@@ -103,6 +103,6 @@ abbrev pub has_no_escape : Text → Bool
 has_no_escape [] = true
 has_no_escape (c ∷ t) = not (c == 27) && has_no_escape t
 
--- as a fact
+-- `has_no_escape` as a proposition
 abbrev pub HasNoEscape : Text → Type 0
 HasNoEscape t = IsTrue (has_no_escape t)

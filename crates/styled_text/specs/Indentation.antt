@@ -112,7 +112,7 @@ module _ {W : Type 0} (m : Meaning W) where
     pub below : m.stops a.inner.now (indent a.indentation.now a.needs_indent t) e b.inner.now
     pub same : b.inner.ghost_name ≡ a.inner.ghost_name
 
-  -- the writer below puts the margin of the line, and nothing else changes
+  -- the writer below gets the margin of the line, and nothing else changes
   pub record PutsMargin (a : Indented W) (t : Text) (r : Result (Unit {0}) WriteFault) (b : Indented W) : Type 0 where
     pub below : Puts m a.inner.now (margin a.indentation.now a.needs_indent t) r b.inner.now
     pub line : b.needs_indent ≡ a.needs_indent

@@ -1,8 +1,9 @@
-//! Columns of a text, and texts that are cut to some of them.
+//! The width of a text in columns, and texts that are cut to a width.
 //!
-//! A character has the columns that `unicode_width` gives it alone, a control character none, a sequence none. A cut text
-//! keeps every sequence. A text is cut while it is written, character by character, so that no memory is taken and
-//! stretches that meet across two writes are one.
+//! `unicode_width` gives the columns of each character; a control character and an escape sequence
+//! have none. A cut text keeps every sequence. A text is cut while it is written, character by
+//! character, so that nothing is allocated and it does not matter how the text is split into
+//! writes.
 
 ghost use Rattle.std.specs.Prelude.{◌≡◌, ◌^◌, ◌<◌, false, true};
 ghost use Rattle.styled_text.specs.Names.{IsUtf8, saturated, columns, fit, shrunk, Puts};
@@ -17,6 +18,10 @@ use writers::text::WriteText;
 use writers::write_str::{WriteFault, WriteStr};
 
 /// The columns of a text, up to `u128::MAX`. It is written once, to be counted.
+///
+/// ```
+/// assert_eq!(count_columns(&"\x1b[1mhi\x1b[0m"), 2);
+/// ```
 pub fn count_columns<T: WriteText>(part: &T) -> u128
     ensures utf8 { IsUtf8 (T.text part.now) }
     ensures value { result ≡ saturated (columns (T.text part.now)) }
@@ -28,7 +33,12 @@ pub fn count_columns<T: WriteText>(part: &T) -> u128
     }
 }
 
-/// Writes what lies between two columns of a text, and every sequence of it.
+/// Writes the part of a text from column `start` to column `end`, with every escape sequence of the text.
+///
+/// ```
+/// write_fitted(&mut out, &"abcdef", 1, 4)?;
+/// assert_eq!(out.as_str(), "bcd");
+/// ```
 ///
 /// # Errors
 ///
@@ -50,7 +60,7 @@ pub fn write_fitted<T: WriteText, W: WriteStr>(
     result
 }
 
-/// Writes a text of this width, or its front if there is less room.
+/// Writes a text of this width, or its first `room` columns if it is wider.
 ///
 /// # Errors
 ///
@@ -73,7 +83,7 @@ pub fn write_front<T: WriteText, W: WriteStr>(
     write_fitted(w, part, 0, room)
 }
 
-/// Writes a text of this width, or its end if there is less room.
+/// Writes a text of this width, or its last `room` columns if it is wider.
 ///
 /// # Errors
 ///

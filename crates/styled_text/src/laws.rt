@@ -1,7 +1,7 @@
 //! Laws of the definitions of texts.
 //!
-//! A law is a function that does nothing. Its clauses say what holds of the definitions in `specs/`, for every text; the
-//! prover has proved them.
+//! A law is a function that does nothing. Its clauses say what holds of the definitions in
+//! `specs/`, for every text; the prover has proved them.
 
 ghost use Rattle.std.specs.Prelude.{◌≡◌, ℕ, ◌-◌, ◌≤◌, ◌++◌, List};
 ghost use Rattle.styled_text.specs.Names.{IsUtf8, HasNoEscape, pieces, visible, joined, stretches, sequences, part_sequences};
@@ -21,7 +21,7 @@ pub fn indent_laws()
     ensures bytes { IndentsByBytes }
 {}
 
-/// Cut texts: how wide they are, and that they keep every sequence. Each sequence of the texts must end by itself.
+/// Cut texts: how wide they are, and that they keep every sequence. Each sequence must be complete.
 #[tactic(auto, using(crate::proofs::lemmas::Widths::width_laws))]
 pub fn width_laws()
     ensures columns { (t : List ℕ) (start end : ℕ) → IsPainted t → columns (fit t start end) ≤ end - start }

@@ -8,6 +8,10 @@ use std::str;
 use writers::write_str::{WriteFault, WriteStr};
 
 /// The nearest whole number of units, ties up. No sum overflows, even at the greatest number.
+///
+/// ```
+/// assert_eq!(round_to(10, 25), 3);
+/// ```
 pub fn round_to(unit: u128, n: u128) -> u128
     requires even { unit % 2 ≡ 0 }
     requires above { 1 < unit }
@@ -244,7 +248,7 @@ fn write_decimals<W: WriteStr>(w: &mut W, thousandths: u32) -> Result<(), WriteF
     w.write_str(unsafe { str::from_utf8_unchecked(&digits) })
 }
 
-// The columns that four texts leave.
+// The columns that remain after four texts.
 #[tactic(auto, using(crate::proofs::lemmas::Decimals::joined_columns))]
 pub(crate) fn columns_left(
     columns: usize,

@@ -6,6 +6,11 @@ use writers::write_str::{WriteFault, WriteStr};
 
 /// Writes the character the given number of times.
 ///
+/// ```
+/// write_repeated(&mut out, 3, '-')?;
+/// assert_eq!(out.as_str(), "---");
+/// ```
+///
 /// # Errors
 ///
 /// The writer's fault. It has accepted a prefix of the text.

@@ -11,9 +11,14 @@ use crate::trailing_newline::TrailingNewline;
 use gathered_pieces::GatheredPieces;
 use writers::write_str::{WriteFault, WriteStr};
 
-/// Writes a text without its escape sequences, and without a line feed that closes the rest.
+/// Writes a text without its escape sequences, and then without a trailing line feed.
 ///
 /// A sequence is scanned as a whole, and stretches between sequences are written together. It allocates nothing.
+///
+/// ```
+/// write_stripped_text(&mut out, "\x1b[31mred\x1b[0m\n")?;
+/// assert_eq!(out.as_str(), "red");
+/// ```
 ///
 /// # Errors
 ///

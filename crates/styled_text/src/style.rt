@@ -14,6 +14,11 @@ use writers::write_str::{WriteFault, WriteStr};
 pub const RESET_COLOR: &str = "\x1b[0m";
 
 /// How a text is shown.
+///
+/// ```
+/// Style::BoldGreen.write(&mut out, "PASS")?;
+/// assert_eq!(out.as_str(), "\x1b[32;1mPASS\x1b[0m");
+/// ```
 #[derive(Clone, Copy, Debug, Default, PartialEq, Eq)]
 pub enum Style {
     /// As it is.
@@ -46,6 +51,10 @@ impl Style {
     }
 
     /// The prefix of a text in this style: ESC `[` code `m`, or nothing.
+    ///
+    /// ```
+    /// assert_eq!(Style::Cyan.prefix(), "\x1b[36m");
+    /// ```
     pub fn prefix(self) -> &'static str
         ensures { result.now ≡ style_prefix self }
     {
@@ -74,6 +83,11 @@ impl Style {
 
     /// Writes a text in this style.
     ///
+    /// ```
+    /// Style::Plain.write(&mut out, "PASS")?;
+    /// assert_eq!(out.as_str(), "PASS");
+    /// ```
+    ///
     /// # Errors
     ///
     /// The writer's fault. It has accepted a prefix of the text.
@@ -100,6 +114,11 @@ impl Style {
 
     /// Writes a number in decimal in this style.
     ///
+    /// ```
+    /// Style::Bold.write_number(&mut out, 12)?;
+    /// assert_eq!(out.as_str(), "\x1b[1m12\x1b[0m");
+    /// ```
+    ///
     /// # Errors
     ///
     /// The writer's fault. It has accepted a prefix of the text.
@@ -117,6 +136,11 @@ impl Style {
     }
 
     /// Writes a text right-aligned in the given number of columns.
+    ///
+    /// ```
+    /// Style::Plain.write_right(&mut out, 12, "PASS")?;
+    /// assert_eq!(out.as_str(), "        PASS");
+    /// ```
     ///
     /// # Errors
     ///
@@ -165,6 +189,13 @@ impl ListStyles {
 }
 
 /// The styles of a report. By default all are plain.
+///
+/// ```
+/// let mut styles = Styles::default();
+/// assert_eq!(styles.fail, Style::Plain);
+/// styles.colorize();
+/// assert_eq!(styles.fail, Style::BoldRed);
+/// ```
 #[derive(Clone, Copy, Debug, Default, PartialEq, Eq)]
 pub struct Styles {
     /// Whether the styles are colours.

@@ -10,6 +10,12 @@ use writers::text::WriteText;
 use writers::write_str::{WriteFault, WriteStr};
 
 /// A text in a style.
+///
+/// ```
+/// use styled_text::style::Style;
+/// Toned(Style::Bold, "3").write_to(&mut out)?;
+/// assert_eq!(out.as_str(), "\x1b[1m3\x1b[0m");
+/// ```
 #[derive(Clone, Copy, Debug)]
 pub struct Toned<'a>(pub Style, pub &'a str);
 
@@ -108,6 +114,11 @@ impl WriteText for Seconds {
 }
 
 /// A text with a margin before each line that is not empty.
+///
+/// ```
+/// Indent("  ", ("a\n", "b")).write_to(&mut out)?;
+/// assert_eq!(out.as_str(), "  a\n  b");
+/// ```
 #[derive(Clone, Copy, Debug, Drop)]
 pub struct Indent<'a, T>(pub &'a str, pub T);
 

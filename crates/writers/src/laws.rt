@@ -11,8 +11,9 @@ use std::io::Write;
 
 /// What a device holds of the text that a `TextBuffer` accepted, if the device's bytes are known.
 ///
-/// What the device took, followed by what is now pending, is what was pending before, followed by the text; after a fault, by a
-/// prefix of the text. So if nothing was pending before a fault, the device took a prefix of the text.
+/// What the device took, followed by what is now pending, is what was pending before, followed by
+/// the text; after a fault, by a prefix of the text. So if nothing was pending before a fault, the
+/// device took a prefix of the text.
 #[tactic(auto, using(crate::proofs::lemmas::Deliveries::accepted_delivers))]
 pub fn delivery_law<W: Write>()
     ensures accepted { (a b : TextBuffer W) (old new text : List ℕ) → W.contents a.writer ≡ Some old → W.contents b.writer ≡ Some new →

@@ -6,7 +6,7 @@ ghost use Rattle.{std.specs.Option.option_map_or, std.specs.Fmt.decimal, writers
 use crate::write_str::{WriteFault, WriteStr};
 use itoa::Buffer;
 
-/// A text that can be written more than once, each time the same.
+/// A value that is written as a text, the same each time.
 ///
 /// ```
 /// (Decimal(2), " tests", Unless(is_quiet, ", of which none failed")).write_to(&mut out)?;

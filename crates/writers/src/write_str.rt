@@ -1,7 +1,7 @@
 //! Writers of text.
 //!
-//! A writer says what it accepted, also if a device fails in the middle of a text, so that what reaches a terminal
-//! or a file is always a prefix of the intended text.
+//! If a device fails in the middle of a text, the writer has accepted a prefix of it. So what
+//! reaches a terminal or a file is always a prefix of the intended text.
 
 ghost use Rattle.std.specs.Prelude.{◌≡◌, [], OnOk, encode_utf8};
 ghost use Rattle.writers.specs.{StringWriter.string_meaning, StringWriter.string_laws, Texts.strs, Writer.Meaning, Writer.WriterLaws, Writer.Puts};
@@ -19,6 +19,10 @@ pub use text_buffer::TextBuffer;
 use thiserror::Error;
 
 /// Why a text could not be written whole. A prefix of it was accepted.
+///
+/// ```
+/// assert_eq!(WriteFault::Memory.to_string(alloc)?.as_str(), "out of memory");
+/// ```
 #[derive(Clone, Copy, Debug, PartialEq, Eq, Error)]
 pub enum WriteFault {
     /// The device failed.
@@ -31,8 +35,16 @@ pub enum WriteFault {
 
 /// A writer of text.
 ///
-/// `meaning` says what acceptance is, with laws for every writer: two texts in sequence are accepted as
-/// one, a fault leaves a prefix, and `Device` and `Memory` occur only if a device failed or memory may be refused.
+/// `meaning` defines what it is to accept a text, and `laws` hold for every writer: two texts in
+/// sequence are accepted as one, a fault leaves a prefix, and `Device` and `Memory` occur only if a
+/// device failed or memory may be refused.
+///
+/// ```
+/// out.write_str("2 tests")?;
+/// out.write_char('\n')?;
+/// out.write_str_flush()?;
+/// assert_eq!(out.as_str(), "2 tests\n");
+/// ```
 pub trait WriteStr {
     /// What a text does to the writer.
     ghost meaning: { Meaning Self };

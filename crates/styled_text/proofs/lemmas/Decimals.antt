@@ -5,7 +5,7 @@ use Rattle.std.proofs.lemmas.Str.{chars-IsAscii, IsAscii-append, IsUtf8-from_asc
 use Rattle.std.proofs.lemmas.{Bool.cases_lt, Bool.Decides.nat_tests, List.replicate-append-replicate}
 use Rattle.std.proofs.lemmas.Fmt.{IsAscii-decimal_wide, decimal_digit, decimal_step}
 
--- one byte, and a list with one more in front
+-- one byte, and a list with one more before it
 pub IsAscii-cons : (c : ℕ) (t : Text) → c < 128 → IsAscii t → IsAscii (c ∷ t)
 IsAscii-cons c t h rest zero = h
 IsAscii-cons c t h rest (suc i) = rest i

@@ -19,7 +19,7 @@ stretch_len-cut c (d ∷ t) = elim (eqb_tells d 27) [
   | inr n ↦ rw n.0 (cut_on c d t (front_len is_visible t) (stretch_len-cut d t))
 ]
 
--- a text may be cut at such a place
+-- an index at which a text may be split
 pub boundary : (c : ℕ) (t : Text) (n : ℕ) → IsUtf8 (c ∷ t) → IsCut c t n → IsCharBoundary (c ∷ t) (n + 1)
 boundary c t n u (h, inl a) = IsCharBoundary-after_ascii (c ∷ t) n u (omega arith) a
 boundary c t n u (h, inr b) = (omega arith, rw add-one (λ x y. absurd (omega (arith, b, x, y))))

@@ -9,12 +9,12 @@ module _ {S : Type 0} {m : Meaning S} (laws : WriterLaws m) where
   puts_then a b c t u (Ok x) p q = laws.joins a b c t u p q
   puts_then a b c t u (Err e) p q = laws.goes_on a b c t u e p q
 
-  -- the exit of a `?`
+  -- a fault that `?` returns
   pub at_exit : (a b : S) (t : List ℕ) (e : WriteFault) (r : Result (Unit {0}) WriteFault) → IsErrAnd r (λ f. f ≡ e) → m.stops a t e b → Puts m a t r b
   at_exit a b t e (Ok x) h s = absurd h
   at_exit a b t e (Err f) h s = subst (λ x. m.stops a t x b) (sym h) s
 
-  -- a text that stops within its front
+  -- a fault in the first part of a text
   pub stops_early : (a b : S) (t u v : List ℕ) (e : WriteFault) → v ≡ t ++ u → m.stops a t e b → m.stops a v e b
   stops_early a b t u v e h s = subst (λ x. m.stops a x e b) (sym h) (laws.stops_within a b t u e s)
 

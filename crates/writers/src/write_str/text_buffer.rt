@@ -1,7 +1,7 @@
 //! Text that is gathered for a device.
 //!
-//! Reports consist of short texts, and a system call for each would cost more than the texts do. The memory is reserved once,
-//! and no later call allocates.
+//! Reports consist of short texts, and a system call for each would cost more than the texts do.
+//! The memory is reserved once, and no later call allocates.
 
 ghost use Rattle.std.specs.Prelude.{◌≡◌, ◌≤◌, length, take};
 ghost use Rattle.std.specs.{Bool.OnTrue, Io.KnownBytes.Appends};
@@ -54,6 +54,14 @@ impl<W: Write> TextBuffer<W> {
     }
 
     /// The device, and the bytes that it has not taken.
+    ///
+    /// ```
+    /// let mut buffer = TextBuffer::new(alloc, Vec::new(alloc))?;
+    /// buffer.write_str("done\n")?;
+    /// let (device, pending) = buffer.into_inner();
+    /// assert!(device.is_empty());
+    /// assert_eq!(pending.as_slice(), b"done\n".as_slice());
+    /// ```
     pub fn into_inner(self) -> (W, Vec<u8>)
         ensures writer { result.0 ≡ self.writer }
         ensures pending { result.1.items ≡ self.pending }
