@@ -66,7 +66,7 @@ IsPainted t = IsUtf8 t × AreClosed (sequences (pieces t))
 abbrev pub shrunk : Bool → Text → ℕ → Text
 shrunk is_name t r = if nat_le (columns t) r then t else (if is_name then fit t (columns t - r) (columns t) else fit t 0 r)
 
--- parts, each in what the ones before it left of r columns
+-- parts, each cut to the columns of r that the parts before it leave
 abbrev pub shrunk_parts : List Text → Text → ℕ → Text
 shrunk_parts [] name r = shrunk true name r
 shrunk_parts (t ∷ ts) name r = shrunk false t r ++ shrunk_parts ts name (r - columns t)

@@ -35,7 +35,7 @@ onto_front : (q l : Text) (ls : List Text) → join_with_byte 10 ((q ++ l) ∷ l
 onto_front q l [] = refl
 onto_front q l (m ∷ ls) = append_assoc q l (10 ∷ join_with_byte 10 (m ∷ ls))
 
--- by lines and byte by byte it is equal
+-- indentation by lines equals indentation byte by byte
 pub indent-onward : (p : Text) (b : Bool) (t : Text) → indent p b t ≡ indent_onward p b t
 unfolding indent
 indent-onward p b [] = refl

@@ -2,6 +2,16 @@
 //!
 //! A law is a function that does nothing. Its clauses say what holds of the definitions in
 //! `specs/`, for every text; the prover has proved them.
+//!
+//! ```
+//! use styled_text::escapes::{Piece, pieces};
+//! for piece in pieces("\x1b[1mhi\x1b[0m") {
+//!     match piece {
+//!         Piece::Sequence(text) | Piece::Stretch(text) => out.write_str(text)?,
+//!     }
+//! }
+//! assert_eq!(out.as_str(), "\x1b[1mhi\x1b[0m"); // by `piece_laws`
+//! ```
 
 ghost use Rattle.std.specs.Prelude.{◌≡◌, ℕ, ◌-◌, ◌≤◌, ◌++◌, List};
 ghost use Rattle.styled_text.specs.Names.{IsUtf8, HasNoEscape, pieces, visible, joined, stretches, sequences, part_sequences};

@@ -2,6 +2,13 @@
 //!
 //! A law is a function that does nothing. Its clauses say what holds of the definitions in `specs/`, for every text and
 //! writer; the prover has proved them.
+//!
+//! ```
+//! let mut buffer = TextBuffer::new(alloc, Vec::new(alloc))?;
+//! buffer.write_str("done\n")?;
+//! let (device, pending) = buffer.into_inner();
+//! assert_eq!(device.len() + pending.len(), 5); // by `delivery_law`
+//! ```
 
 ghost use Rattle.std.specs.Prelude.{◌≡◌, ℕ, [], List, Some};
 ghost use Rattle.writers.specs.TextBuffer.{buffer_meaning, Delivers, DeliversWithin, GrowsWithin};

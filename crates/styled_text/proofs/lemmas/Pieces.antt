@@ -194,7 +194,7 @@ pub ruleset fronts = (visible-front, visible-stretch, visible-sequence, front_bo
 pub front_len-on : (p : ℕ → Bool) (t : Text) (i none : ℕ) → i < length t → p (get_or t i none) ≡ true → front_len p (drop i t) ≡ suc (front_len p (drop (i + 1) t))
 front_len-on p t i none h e = rw (drop-cons t i none, e, add-one) refl
 
--- it ends at one that does not, or with the text
+-- a run ends at a byte that does not pass, or with the text
 pub front_len-off : (p : ℕ → Bool) (t : Text) (i none : ℕ) → i < length t → p (get_or t i none) ≡ false → front_len p (drop i t) ≡ 0
 front_len-off p t i none h e = rw (drop-cons t i none, e) refl
 

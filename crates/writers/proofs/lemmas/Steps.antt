@@ -26,7 +26,7 @@ module _ {S : Type 0} {m : Meaning S} (laws : WriterLaws m) where
   pub owes_accepted : (a b c : S) (text rest t u : List ℕ) → Owes m a text b rest → rest ≡ t ++ u → m.accepts b t c → Owes m a text c u
   owes_accepted a b c text rest t u o h p r d q = o r d (subst (λ x. Puts m b x r d) (sym h) (puts_then b c d t u r p q))
 
-  -- A prefix of what is owed is stopped, at the exit of a `?`.
+  -- A fault in a prefix of what is owed, which `?` returns.
   pub owes_stopped : (a b c : S) (text rest t u : List ℕ) (e : WriteFault) (r : Result (Unit {0}) WriteFault) → Owes m a text b rest → rest ≡ t ++ u → IsErrAnd r (λ f. f ≡ e) → m.stops b t e c → Puts m a text r c
   owes_stopped a b c text rest t u e r o h x s = o r c (at_exit b c rest e r x (stops_early b c t u rest e h s))
 
