@@ -1,5 +1,4 @@
-//! Refused memory: the one error of whatever had to grow and could not. It is the lowest crate, so that texts and values that do not know
-//! each other return the same error.
+//! The error of refused memory. This is the lowest crate, so that all others return the same error.
 #![tactic(auto)]
 
 ghost use Rattle.std.specs.Prelude.{◌≡◌};
@@ -8,7 +7,11 @@ use std::alloc::{AllocError, AllocFailed};
 use std::error::Error;
 use std::fmt;
 
-/// A growth of memory was refused. It says nothing else, and what was to grow is as it was.
+/// Memory was refused. What was to grow has not changed.
+///
+/// ```
+/// assert_eq!(OutOfMemory.to_string(alloc)?.as_str(), "out of memory");
+/// ```
 #[derive(Clone, Copy, Debug, PartialEq, Eq)]
 pub struct OutOfMemory;
 

@@ -21,6 +21,6 @@ test_attempt_failed_will_retry elapsed test status delay =
 abbrev pub test_finished : Nanos → TestInstanceId → Attempts LiveSpec ChildOutputDescription → RunStats → TestEvent
 test_finished elapsed test statuses stats = record { elapsed = elapsed; kind = TestFinished None test Never Immediate statuses stats }
 
--- a run that is no rerun with tests that it has not seen
+-- the end of a run that has seen all outstanding tests
 abbrev pub run_finished : Nanos → RunStats → TestEvent
 run_finished elapsed stats = record { elapsed = elapsed; kind = RunFinished elapsed (Single stats) None }

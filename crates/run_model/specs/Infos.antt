@@ -1,4 +1,4 @@
--- What is known of units that are asked what they are doing.
+-- The responses of units that are asked for their state.
 use Rattle.std.specs.Prelude.{ℕ, Bool, true, false, List, codes}
 use Rattle.run_model.specs.declared.info.{UnitState.UnitState, UnitTerminateReason.UnitTerminateReason}
 use Rattle.run_model.specs.declared.info.UnitState.TheVariants.{Running, Exiting, Terminating, Exited, DelayBeforeNextAttempt}

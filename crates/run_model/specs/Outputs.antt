@@ -54,13 +54,13 @@ abbrev pub has_errors : {S O : Type 0} → ChildExecutionOutputDescription S O �
 has_errors (StartError chain) = true
 has_errors (Output result output errors highlight) = is_some errors || is_known_failure result
 
--- captured output is there, and not left unread
+-- captured output is loaded
 abbrev pub is_loaded : ChildOutputDescription → Bool
 is_loaded (captured.Split stdout stderr) = true
 is_loaded (captured.Combined output) = true
 is_loaded captured.NotLoaded = false
 
--- what is known of an execution can be shown: it could not be started, or its output is there
+-- an execution can be shown: its output is loaded, or the process could not be started
 abbrev pub has_loaded_output : {S : Type 0} → ChildExecutionOutputDescription S ChildOutputDescription → Bool
 has_loaded_output (Output result output errors highlight) = is_loaded output
 has_loaded_output (StartError chain) = true

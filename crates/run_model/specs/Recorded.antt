@@ -1,4 +1,4 @@
--- Decided events as a record has them: the same metadata, and the names of archive members in place of output.
+-- Events in the form of a recorded run: the same metadata, and names of archive members in place of output.
 use Rattle.std.specs.Prelude.{ℕ, List, [], map, Option, None, Some}
 use Rattle.{std.specs.Option.option_map, run_model.specs.Attempts.Attempts, run_model.specs.declared.event.TestEventKind.TestEventKind}
 use Rattle.run_model.specs.declared.event.TestEventKind.TheVariants.{SetupScriptFinished, TestAttemptFailedWillRetry, TestFinished}
@@ -46,7 +46,7 @@ recorded_attempts a = record {
   flaky_result = a.flaky_result;
 }
 
--- none for the kinds that are not decided
+-- `None` for kinds without captured output
 abbrev pub recorded_kind : TestEventKind → Option (OutputEventKind RecordingSpec RecordedOutput)
 recorded_kind (SetupScriptFinished stress script program args status) = Some (decided.SetupScriptFinished stress (recorded_script status))
 recorded_kind (TestAttemptFailedWillRetry stress test status delay display) = Some (decided.TestAttemptFailedWillRetry stress (recorded_attempt status) delay display)

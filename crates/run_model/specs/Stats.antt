@@ -57,7 +57,7 @@ stats_under (Some reason) s = Cancelled (Some reason) (failure_kind s)
 abbrev pub final_stats_of : RunStats → FinalRunStats
 final_stats_of s = stats_under s.cancel_reason s
 
--- the outcome of a stress run: a cancelled last iteration comes before a failure of any, and that before everything else
+-- the outcome of a stress run, the first that applies: the last iteration was cancelled, one failed, the rest
 abbrev pub stress_stats_by : FinalRunStats → ℕ → StressFinalRunStats
 stress_stats_by (Cancelled reason kind) failed = stress.Cancelled
 stress_stats_by (Failed kind) failed = if nat_lt 0 failed then stress.Failed else stress.Success

@@ -90,7 +90,7 @@ is_success_case Success = true
 is_success_case (Flaky result) = true
 is_success_case Failure = false
 
--- the level from which on the status line is shown
+-- the lowest level that shows the status line
 abbrev pub status_level_by : StatusCase → ExecutionResultDescription → StatusLevel
 status_level_by Success last = if is_leaky_success last then status.Leak else status.Pass
 status_level_by (Flaky flaky.Pass) last = status.Retry
@@ -100,7 +100,7 @@ status_level_by Failure last = status.Fail
 abbrev pub status_level_of : StatusSummary → StatusLevel
 status_level_of s = status_level_by s.case s.result
 
--- the level from which on the summary lists the test; the flag says that the last attempt was slow
+-- the lowest level at which the summary lists the test; the flag is set if the last attempt was slow
 abbrev pub final_level_by : StatusCase → ExecutionResultDescription → Bool → FinalStatusLevel
 final_level_by Success last is_slow =
     if is_slow then final.Slow else (if is_leaky_success last then final.Leak else final.Pass)

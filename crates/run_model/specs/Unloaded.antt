@@ -1,4 +1,4 @@
--- Events whose captured output is left unread: that of every attempt. All else stays.
+-- Events whose captured output is not loaded, for all attempts. All else stays.
 use Rattle.{run_model.specs.declared.status.ExecuteStatus.ExecuteStatus, run_model.specs.declared.status.SetupScriptExecuteStatus.SetupScriptExecuteStatus, std.specs.Prelude.map}
 use Rattle.run_model.specs.{Attempts.Attempts, declared.event.TestEvent.TestEvent, declared.event.TestEventKind.TestEventKind}
 use Rattle.run_model.specs.declared.event.TestEventKind.TheVariants.{SetupScriptFinished, TestAttemptFailedWillRetry, TestFinished}
@@ -20,7 +20,7 @@ unloaded_script status = record status { output = unloaded_output status.output 
 abbrev pub unloaded_attempts : {S : Type 0} → Attempts S ChildOutputDescription → Attempts S ChildOutputDescription
 unloaded_attempts a = record a { earlier = map unloaded_attempt a.earlier; last = unloaded_attempt a.last }
 
--- the three kinds that hold captured output and are decided by their metadata; others stay
+-- the three kinds that hold captured output; others do not change
 abbrev pub unloaded_kind : TestEventKind → TestEventKind
 unloaded_kind (SetupScriptFinished stress script program args status) = SetupScriptFinished stress script program args (unloaded_script status)
 unloaded_kind (TestAttemptFailedWillRetry stress test status delay display) = TestAttemptFailedWillRetry stress test (unloaded_attempt status) delay display

@@ -1,4 +1,4 @@
-//! What a reporter is asked.
+//! The calls of a reporter, as values.
 
 use crate::event::TestEvent;
 use crate::replay::ReplayHeader;
@@ -14,7 +14,7 @@ use run_names::run_id::ShortestRunIdPrefix;
 pub enum ReportCall<'a> {
     /// Writes the text of an event.
     Event(TestEvent<'a>),
-    /// Writes what a replay says before it.
+    /// Writes the header of a replay.
     Header(ReplayHeader),
     /// Takes the unique prefix of the run's id, which later starts of a run show. It writes nothing.
     Prefix(ShortestRunIdPrefix),

@@ -59,7 +59,7 @@ impl<'a> TestEvent<'a> {
         }
     }
 
-    /// A test is not to run.
+    /// A test is skipped.
     ///
     /// ```
     /// let event = TestEvent::test_skipped(time, test.as_ref());
@@ -104,8 +104,8 @@ impl<'a> TestEvent<'a> {
         }
     }
 
-    /// A test has finished, this long after the run began. Its output is shown by nextest's defaults: immediately if the test
-    /// failed, and never if it passed.
+    /// A test has finished, `elapsed` after the run began. Its output is shown by nextest's defaults: immediately if
+    /// the test failed, and never if it passed.
     ///
     /// ```
     /// let statuses = ExecutionStatuses::single(alloc, ExecuteStatus::passed(time));
@@ -152,7 +152,8 @@ impl<'a> TestEvent<'a> {
         }
     }
 
-    /// Leaves the captured output of every attempt of a decided event unread. Other events stay. It allocates nothing.
+    /// Replaces the captured output of every attempt by `NotLoaded`, in an event of a kind that
+    /// [`OutputEventKind`] has. Other events do not change. It allocates nothing.
     ///
     /// ```
     /// let mut event = TestEvent::test_finished(time, test.as_ref(), statuses, stats);
@@ -172,14 +173,17 @@ impl<'a> TestEvent<'a> {
         }
     }
 
-    /// The event in the form of a recorded run, with the same metadata; `None` for kinds without captured output. It copies its texts.
-    ///
-    /// The names of the archive's members are empty.
+    /// The event in the form of a recorded run, with the same metadata and empty names of the
+    /// archive's members. It copies the texts. `None` for kinds without captured output.
     ///
     /// ```
     /// assert!(event.recorded(alloc)?.is_some());
     /// assert!(TestEvent::run_finished(time, stats).recorded(alloc)?.is_none());
     /// ```
+    ///
+    /// # Errors
+    ///
+    /// Memory was refused.
     pub fn recorded(
         &self,
         alloc: Global,
@@ -349,14 +353,14 @@ pub enum TestEventKind<'a> {
         /// The counts of the run, this test among them.
         current_stats: RunStats,
     },
-    /// A test is not to run.
+    /// A test is skipped.
     TestSkipped {
         /// Which iteration of a stress run it belongs to.
         stress_index: Option<StressIndex>,
         /// The test.
         test_instance: TestInstanceId<'a>,
     },
-    /// The run is about to be cancelled: what runs is waited for, or ended.
+    /// The run is about to be cancelled: running units are waited for or terminated.
     RunBeginCancel {
         /// How many setup scripts run.
         setup_scripts_running: usize,
@@ -365,7 +369,7 @@ pub enum TestEventKind<'a> {
         /// How many tests run.
         running: usize,
     },
-    /// The run is about to be killed: what runs is ended at once.
+    /// The run is about to be killed: running units are ended at once.
     RunBeginKill {
         /// How many setup scripts run.
         setup_scripts_running: usize,
@@ -374,14 +378,14 @@ pub enum TestEventKind<'a> {
         /// How many tests run.
         running: usize,
     },
-    /// The run was stopped for a while, by a signal.
+    /// The run was paused by a signal.
     RunPaused {
         /// How many setup scripts run.
         setup_scripts_running: usize,
         /// How many tests run.
         running: usize,
     },
-    /// The run goes on after it was stopped.
+    /// The run goes on after a pause.
     RunContinued {
         /// How many setup scripts run.
         setup_scripts_running: usize,
@@ -401,7 +405,7 @@ pub enum TestEventKind<'a> {
         index: usize,
         /// How many units were asked.
         total: usize,
-        /// What it says.
+        /// The response.
         response: InfoResponse<'a>,
     },
     /// The reporter waits for no further responses.
@@ -409,7 +413,7 @@ pub enum TestEventKind<'a> {
         /// How many units have not responded.
         missing: usize,
     },
-    /// The state of the run was asked for, by a key.
+    /// The user pressed Enter, to see the state of the run.
     InputEnter {
         /// The counts of the run.
         current_stats: RunStats,
@@ -448,11 +452,16 @@ pub struct TestCounts {
     pub run_count: usize,
     /// The binaries that were listed.
     pub listed_binary_count: usize,
-    /// What is not to run.
+    /// What is skipped.
     pub skip_counts: SkipCounts,
 }
 
 /// How many tests and binaries a run skips, and why.
+///
+/// ```
+/// let skipped = SkipCounts { skipped_tests: 3, skipped_tests_default_filter: 2, ..SkipCounts::default() };
+/// assert_eq!(skipped.skipped_binaries, 0);
+/// ```
 #[derive(Clone, Copy, Debug, Default, PartialEq, Eq)]
 pub struct SkipCounts {
     /// Tests that are skipped, those below among them.

@@ -123,7 +123,7 @@ pub enum UnitState {
 }
 
 impl UnitState {
-    /// Whether the response's output is the unit's own: between two attempts it is not.
+    /// Whether the response's output is that of the current attempt: between two attempts there is none.
     pub fn has_valid_output(&self) -> bool
         ensures { result ≡ has_valid_output self.now }
     {
@@ -154,7 +154,7 @@ pub struct UnitTerminatingState {
     pub remaining: Nanos,
 }
 
-/// Why a process is ended. It prints its name in lower case.
+/// Why a process is ended. It is displayed as its name in lower case.
 ///
 /// ```
 /// assert_eq!(UnitTerminateReason::Timeout.to_string(alloc)?.as_str(), "timeout");

@@ -23,7 +23,7 @@ pub trait OutputSpec {
     type ChildOutput: fmt::Debug + Drop;
 }
 
-/// Output of a run that is going on.
+/// Output of a live run, held in memory.
 #[derive(Clone, Copy, Debug, PartialEq, Eq)]
 pub struct LiveSpec;
 
@@ -31,7 +31,7 @@ impl OutputSpec for LiveSpec {
     type ChildOutput = ChildOutputDescription;
 }
 
-/// Output of a recorded run.
+/// Output of a recorded run, held by name in its archive.
 #[derive(Clone, Copy, Debug, PartialEq, Eq)]
 pub struct RecordingSpec;
 
@@ -41,7 +41,8 @@ impl OutputSpec for RecordingSpec {
 
 /// The bytes of one stream, or of several that were captured together. Contracts see the bytes.
 ///
-/// Most streams are empty: those hold nothing. Others are decoded once, here, and share what they hold with their copies.
+/// An empty stream, as most are, holds no memory. Any other is decoded once, when it is made, and its copies share its
+/// memory.
 ///
 /// ```
 /// let output = ChildSingleOutput::new(alloc, Bytes::from_static(b"a\xffb"))?;
@@ -56,12 +57,12 @@ pub struct ChildSingleOutput {
 #[derive(Debug, Drop)]
 enum Captured {
     Nothing,
-    // Alone in its memory, so that it takes the least.
+    // UTF-8 from `from_vec`. It takes less memory than `Shared`.
     Text(Arc<String>),
     Shared(Arc<CapturedText>),
 }
 
-// The text, and the bytes where they are not UTF-8. Most are.
+// The text, and the bytes if they are not UTF-8.
 #[derive(Debug, Drop)]
 struct CapturedText {
     text: ByteStr,
@@ -134,6 +135,10 @@ impl Model for ChildSingleOutput {
 
 impl ChildSingleOutput {
     /// The output with these bytes. It allocates unless there are none.
+    ///
+    /// # Errors
+    ///
+    /// Memory was refused. Without bytes there is no error.
     pub fn new(alloc: Global, bytes: Bytes) -> Result<Self, OutOfMemory>
         ensures bytes { IfOk result (λ output. output ≡ bytes) }
         ensures free { bytes ≡ [] → IsOk result }
@@ -147,12 +152,16 @@ impl ChildSingleOutput {
         })
     }
 
-    /// The same, of bytes that nothing else shares. It takes less memory for text.
+    /// Like [`new`](Self::new), from bytes that nothing else shares. UTF-8 takes less memory this way.
     ///
     /// ```
     /// let output = ChildSingleOutput::from_vec(alloc, Vec::from_slice(alloc, b"a\xffb")?)?;
     /// assert_eq!(output.as_str(), "a\u{fffd}b");
     /// ```
+    ///
+    /// # Errors
+    ///
+    /// Memory was refused. The bytes are dropped.
     pub fn from_vec(alloc: Global, bytes: Vec<u8>) -> Result<Self, OutOfMemory>
         ensures { IfOk result (λ output. output ≡ bytes.items) }
     {
@@ -167,6 +176,10 @@ impl ChildSingleOutput {
     }
 
     /// The output of no bytes.
+    ///
+    /// ```
+    /// assert!(ChildSingleOutput::empty().is_empty());
+    /// ```
     pub fn empty() -> Self
         ensures { result ≡ [] }
     {
@@ -213,7 +226,11 @@ impl ChildSingleOutput {
         }
     }
 
-    /// [`as_str`](Self::as_str) in the form of nextest, whose text is decoded at each call. This one is borrowed.
+    /// [`as_str`](Self::as_str) by nextest's name. nextest decodes at each call; this text is borrowed.
+    ///
+    /// # Errors
+    ///
+    /// There is none: the text is borrowed.
     #[tactic(auto, unfolding(crate::specs::Decoded::decoded_text))]
     pub fn as_str_lossy(&self, _alloc: Global) -> Result<CowStr<'_, Global>, OutOfMemory>
         ensures text { IfOk result (λ t. cow_str_bytes t ≡ encode_utf8_all (lossy_chars self.now)) }
@@ -223,6 +240,10 @@ impl ChildSingleOutput {
     }
 
     /// A copy that shares the same bytes. It allocates nothing.
+    ///
+    /// # Errors
+    ///
+    /// The shared bytes have as many owners as their counter can hold.
     pub fn try_clone(&self) -> Result<Self, TooManyOwners>
         ensures { IfOk result (λ output. output ≡ self.now) }
     {
@@ -236,6 +257,12 @@ impl ChildSingleOutput {
 }
 
 /// What a process wrote, as it was captured.
+///
+/// ```
+/// let stdout = Some(ChildSingleOutput::from_vec(alloc, Vec::from_slice(alloc, b"done\n")?)?);
+/// let output = ChildOutputDescription::Split { stdout, stderr: None };
+/// assert!(output.is_loaded());
+/// ```
 #[derive(Debug, Drop)]
 pub enum ChildOutputDescription {
     /// Each stream by itself.
@@ -250,12 +277,12 @@ pub enum ChildOutputDescription {
         /// Their bytes.
         output: ChildSingleOutput,
     },
-    /// A replay has left it unread, as no report shows it.
+    /// Not loaded, because no report shows it.
     NotLoaded,
 }
 
 impl ChildOutputDescription {
-    // Whether it is that of a process that wrote nothing, and owns no memory.
+    // Whether both streams were captured, are empty and own no memory.
     #[inline(always)]
     fn is_silent(&self) -> bool
         ensures { IsTrue result → self.now ≡ silent_output }
@@ -269,7 +296,7 @@ impl ChildOutputDescription {
         }
     }
 
-    // Makes it that of a process that wrote nothing. One that is that already, as most are, is left as it is.
+    // Sets it to two captured streams that are empty. Most are that already and are not written again.
     #[inline(always)]
     fn replace_with_silent(&mut self)
         ensures { self.new ≡ silent_output }
@@ -282,13 +309,17 @@ impl ChildOutputDescription {
         }
     }
 
-    /// What was captured of each stream by itself. It allocates for streams that are not empty.
+    /// The output of two streams that were captured separately. It allocates unless both are empty.
     ///
     /// ```
     /// let stderr = Bytes::from_static(b"no such file\n");
     /// let output = ChildOutputDescription::split(alloc, Bytes::new(), stderr)?;
     /// assert!(output.is_loaded());
     /// ```
+    ///
+    /// # Errors
+    ///
+    /// Memory was refused. Where both streams are empty there is no error.
     pub fn split(alloc: Global, stdout: Bytes, stderr: Bytes) -> Result<Self, OutOfMemory>
         ensures streams { IfOk result (λ output. output ≡ ChildOutputDescription.Split (Some stdout) (Some stderr)) }
         ensures free { stdout ≡ [] → stderr ≡ [] → IsOk result }
@@ -299,12 +330,16 @@ impl ChildOutputDescription {
         })
     }
 
-    /// What was captured of both streams together. It allocates unless that is empty.
+    /// The output of both streams captured together. It allocates unless that is empty.
     ///
     /// ```
     /// let output = ChildOutputDescription::combined(alloc, Bytes::from_static(b"both streams\n"))?;
     /// assert!(output.is_loaded());
     /// ```
+    ///
+    /// # Errors
+    ///
+    /// Memory was refused. Without bytes there is no error.
     pub fn combined(alloc: Global, output: Bytes) -> Result<Self, OutOfMemory>
         ensures streams { IfOk result (λ captured. captured ≡ ChildOutputDescription.Combined output) }
         ensures free { output ≡ [] → IsOk result }
@@ -314,7 +349,11 @@ impl ChildOutputDescription {
         })
     }
 
-    /// Whether it is there, and not left unread.
+    /// Whether the output is loaded: it is not `NotLoaded`.
+    ///
+    /// ```
+    /// assert!(!ChildOutputDescription::NotLoaded.is_loaded());
+    /// ```
     pub fn is_loaded(&self) -> bool
         ensures { result ≡ is_loaded self.now }
     {
@@ -322,6 +361,10 @@ impl ChildOutputDescription {
     }
 
     /// A copy that shares the same bytes. It allocates nothing.
+    ///
+    /// # Errors
+    ///
+    /// The shared bytes have as many owners as their counter can hold.
     pub fn try_clone(&self) -> Result<Self, TooManyOwners>
         ensures { IfOk result (λ output. output ≡ self.now) }
     {
@@ -337,7 +380,7 @@ impl ChildOutputDescription {
         })
     }
 
-    // The same by the names of members of an archive, which are empty. It allocates for these.
+    // The output in the form of a recorded run, with empty names of the archive's members.
     fn recorded(&self, alloc: Global) -> Result<RecordedOutput, OutOfMemory>
         ensures { IfOk result (λ output. output ≡ recorded_output self.now) }
     {
@@ -354,7 +397,7 @@ impl ChildOutputDescription {
     }
 }
 
-// The member name of a stream that was captured.
+// The empty member name of a stream, if it was captured.
 fn recorded_member(
     alloc: Global,
     stream: &Option<ChildSingleOutput>,
@@ -367,7 +410,7 @@ fn recorded_member(
     }
 }
 
-// Another stream with the same bytes.
+// A copy of the stream that shares its bytes, if there is one.
 fn copy_stream(
     stream: &Option<ChildSingleOutput>,
 ) -> Result<Option<ChildSingleOutput>, TooManyOwners>
@@ -394,7 +437,7 @@ pub enum RecordedOutput {
         /// The name of their member.
         output: DescriptionText,
     },
-    /// It is left unread.
+    /// Not loaded.
     NotLoaded,
 }
 
@@ -403,13 +446,13 @@ pub enum RecordedOutput {
 pub enum ChildExecutionOutputDescription<S: OutputSpec> {
     /// The process was started.
     Output {
-        /// How it ended, where it has.
+        /// How it ended, if it has.
         result: Option<ExecutionResultDescription>,
         /// What it wrote.
         output: S::ChildOutput,
         /// What went wrong while it was run.
         errors: Option<ErrorChain>,
-        /// The part of the output to point out.
+        /// The part of the output to highlight.
         highlight: Option<Boxed<Highlight>>,
     },
     /// The process could not be started.
@@ -418,6 +461,11 @@ pub enum ChildExecutionOutputDescription<S: OutputSpec> {
 
 impl<S: OutputSpec> ChildExecutionOutputDescription<S> {
     /// Whether something went wrong: a start error, errors while it was run, or a result that is no success.
+    ///
+    /// ```
+    /// let failed = ExecutionResultDescription::failed(101);
+    /// assert!(ChildExecutionOutputDescription::silent(failed).has_errors());
+    /// ```
     pub fn has_errors(&self) -> bool
         ensures { result ≡ has_errors self.now }
     {
@@ -455,9 +503,11 @@ impl ChildExecutionOutputDescription<LiveSpec> {
         }
     }
 
-    /// Turns it into a process that ended with this result and wrote `captured` or nothing, and returns true. It allocates nothing,
-    /// so this works only for a process without errors that passed or failed with an exit code. Otherwise it returns false, and its
-    /// value is unspecified.
+    /// Turns it into a process that ended with `outcome` and wrote `captured` or nothing, and returns true.
+    ///
+    /// It allocates nothing, so it works only on a process without errors, and if `outcome` is a pass or an exit code.
+    /// Otherwise it returns false, and the value is unspecified. Only the programs that read scenes need it.
+    #[doc(hidden)]
     #[inline(always)]
     pub fn replace(
         &mut self,
@@ -486,7 +536,7 @@ impl ChildExecutionOutputDescription<LiveSpec> {
         }
     }
 
-    /// The same, where the process wrote this. One that could not be started wrote nothing, and stays as it is.
+    /// Sets what the process wrote. One that could not be started wrote nothing, and does not change.
     pub fn with_output(self, captured: ChildOutputDescription) -> Self
         ensures { result ≡ execution_with_output self captured }
     {
@@ -507,6 +557,10 @@ impl ChildExecutionOutputDescription<LiveSpec> {
     }
 
     /// Copies its texts, which allocates. The copy shares the bytes of the output.
+    ///
+    /// # Errors
+    ///
+    /// Memory was refused, or shared bytes have as many owners as their counter can hold.
     pub fn try_clone(&self, alloc: Global) -> Result<Self, OutOfMemory>
         ensures { IfOk result (λ output. output ≡ self.now) }
     {
@@ -527,7 +581,7 @@ impl ChildExecutionOutputDescription<LiveSpec> {
         })
     }
 
-    /// Whether it can be shown: the process could not be started, or its output is there.
+    /// Whether it can be shown: its output is loaded, or the process could not be started.
     pub fn has_loaded_output(&self) -> bool
         ensures { result ≡ has_loaded_output self.now }
     {
@@ -537,7 +591,7 @@ impl ChildExecutionOutputDescription<LiveSpec> {
         }
     }
 
-    /// Leaves its captured output unread. A start error has none and stays; so do result, errors and highlight.
+    /// Replaces the captured output by `NotLoaded`. All else stays, and so does a start error.
     pub fn unload(&mut self)
         ensures { self.new ≡ unloaded_output self.old }
     {
@@ -549,7 +603,11 @@ impl ChildExecutionOutputDescription<LiveSpec> {
         }
     }
 
-    /// The same in the form of a recorded run: its output is the names of its members, which are empty. It copies its texts.
+    /// The execution in the form of a recorded run, with empty names of the archive's members. It copies the texts.
+    ///
+    /// # Errors
+    ///
+    /// Memory was refused.
     pub fn recorded(
         &self,
         alloc: Global,
@@ -587,7 +645,7 @@ fn copy_result(
     }
 }
 
-// Another error with the same parts, if there is one.
+// A copy that shares the error, if there is one.
 fn copy_errors(errors: &Option<ErrorChain>) -> Result<Option<ErrorChain>, TooManyOwners>
     ensures { IfOk result (λ e. e ≡ errors.now) }
 {
@@ -597,7 +655,7 @@ fn copy_errors(errors: &Option<ErrorChain>) -> Result<Option<ErrorChain>, TooMan
     }
 }
 
-// Another highlight of the same bytes.
+// A copy of the highlight that shares its bytes, if there is one.
 fn copy_highlight(
     alloc: Global,
     highlight: &Option<Boxed<Highlight>>,
@@ -644,6 +702,10 @@ impl ErrorChain {
     /// let chain = ErrorChain::new(alloc, DescriptionText::new(alloc, "timed out")?, Vec::new(alloc))?;
     /// assert!(chain.causes().is_empty());
     /// ```
+    ///
+    /// # Errors
+    ///
+    /// Memory was refused. The texts are dropped.
     pub fn new(
         alloc: Global,
         message: DescriptionText,
@@ -665,6 +727,12 @@ impl ErrorChain {
     }
 
     /// Why, from the nearest cause on.
+    ///
+    /// ```
+    /// let causes = vec![in alloc; DescriptionText::new(alloc, "no such file")?]?;
+    /// let chain = ErrorChain::new(alloc, DescriptionText::new(alloc, "cannot spawn")?, causes)?;
+    /// assert_eq!(chain.causes()[0].as_str(), "no such file");
+    /// ```
     pub fn causes(&self) -> &[DescriptionText]
         ensures { result.now ≡ self.now.causes }
     {
@@ -672,6 +740,10 @@ impl ErrorChain {
     }
 
     /// A copy that shares the same error. It allocates nothing.
+    ///
+    /// # Errors
+    ///
+    /// The shared error has as many owners as its counter can hold.
     pub fn try_clone(&self) -> Result<Self, TooManyOwners>
         ensures { IfOk result (λ chain. chain ≡ self.now) }
     {
@@ -692,7 +764,7 @@ pub enum HighlightStream {
     Combined,
 }
 
-/// A part of the captured output to point out, as the lines of a panic.
+/// A part of the captured output to highlight, such as the message of a panic.
 ///
 /// ```
 /// let slice = Bytes::from_static(b"thread 't1' panicked");
@@ -703,7 +775,7 @@ pub enum HighlightStream {
 pub struct Highlight {
     /// Its stream.
     pub stream: HighlightStream,
-    /// The place of its first byte in the stream.
+    /// The index of its first byte in the stream.
     pub start: usize,
     /// Its bytes.
     pub slice: Bytes,
@@ -714,7 +786,7 @@ pub struct Highlight {
 pub struct ByteSubslice<'a> {
     /// The bytes of the part.
     pub slice: &'a [u8],
-    /// The place of the first one.
+    /// The index of the first one.
     pub start: usize,
 }
 
@@ -750,6 +822,10 @@ impl Highlight {
     }
 
     /// A copy that shares the same bytes.
+    ///
+    /// # Errors
+    ///
+    /// Memory was refused, or the shared bytes have as many owners as their counter can hold.
     pub fn try_clone(&self) -> Result<Self, OutOfMemory>
         ensures { IfOk result (λ h. h ≡ self.now) }
     {
@@ -760,7 +836,7 @@ impl Highlight {
         })
     }
 
-    // The part, whatever the stream.
+    // The part, in any stream.
     fn subslice(&self) -> ByteSubslice<'_>
         ensures start { result.start ≡ self.now.start }
         ensures slice { result.slice.now ≡ self.now.slice }

@@ -1,4 +1,4 @@
-//! Events whose captured output a replay can leave unread.
+//! Events whose captured output a replay loads only if the report shows it.
 
 use crate::output::OutputSpec;
 use crate::stats::RunStats;
@@ -7,7 +7,12 @@ use run_names::config::TestOutputDisplay;
 use run_names::stress::StressIndex;
 use run_names::time::Nanos;
 
-/// A decided event, without its names: its result, and its output if that is held.
+/// An event with captured output, without the names of its unit: what a replay knows before it loads the output.
+///
+/// ```
+/// let kind = event.recorded(alloc)?;
+/// assert!(matches!(kind, Some(OutputEventKind::TestFinished { .. })));
+/// ```
 #[derive(Debug, Drop)]
 pub enum OutputEventKind<S: OutputSpec> {
     /// A setup script has finished.

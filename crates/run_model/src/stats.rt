@@ -1,4 +1,4 @@
-//! How many tests of a run passed, failed and so on, and what that makes of the run.
+//! How many tests of a run passed, failed and so on, and the outcome of the run.
 
 ghost use Rattle.std.specs.Prelude.{◌≡◌};
 ghost use Rattle.run_model.specs.Stats.{has_failures, failure_kind, final_stats_of, final_stats_of_run, planned_stats, stress_stats_of};
@@ -62,6 +62,10 @@ impl RunStats {
     }
 
     /// Whether a test or a setup script failed, could not be started or timed out.
+    ///
+    /// ```
+    /// assert!(RunStats { finished_count: 1, failed: 1, ..RunStats::new(2) }.has_failures());
+    /// ```
     pub fn has_failures(&self) -> bool
         ensures { result ≡ has_failures self.now }
     {
@@ -73,7 +77,8 @@ impl RunStats {
             || self.setup_scripts_timed_out > 0
     }
 
-    /// The outcome of the run: cancelled for a reason, failed, without tests, cut short or a success, whichever applies first.
+    /// The outcome of the run, the first that applies: cancelled for a reason, failed, without
+    /// tests, cut short, a success.
     ///
     /// ```
     /// assert_eq!(RunStats::new(0).summarize_final(), FinalRunStats::NoTestsRun);
@@ -102,7 +107,7 @@ impl RunStats {
         }
     }
 
-    // Whether a setup script failed, else how many tests did not run.
+    // A setup script that failed comes first; otherwise how many tests did not run.
     fn failure_kind(&self) -> RunStatsFailureKind
         ensures { result ≡ failure_kind self.now }
     {
@@ -121,6 +126,11 @@ impl RunStats {
 }
 
 /// The outcome of a run.
+///
+/// ```
+/// let stats = RunStats { finished_count: 1, passed: 1, ..RunStats::new(1) };
+/// assert_eq!(stats.summarize_final(), FinalRunStats::Success);
+/// ```
 #[derive(Clone, Copy, Debug, PartialEq, Eq)]
 pub enum FinalRunStats {
     /// All tests ran, and none failed.
@@ -176,7 +186,7 @@ pub struct StressRunStats {
 }
 
 impl StressRunStats {
-    /// The outcome of the stress run: cancelled, failed, without tests or a success, whichever applies first.
+    /// The outcome of the stress run, the first that applies: cancelled, failed, without tests, a success.
     pub fn summarize_final(&self) -> StressFinalRunStats
         ensures { result ≡ stress_stats_of self.now }
     {
@@ -217,6 +227,10 @@ pub enum RunFinishedStats {
 
 impl RunFinishedStats {
     /// The outcome of the run; for a stress run, that of its last iteration.
+    ///
+    /// ```
+    /// assert_eq!(RunFinishedStats::Single(RunStats::new(0)).final_stats(), FinalRunStats::NoTestsRun);
+    /// ```
     pub fn final_stats(&self) -> FinalRunStats
         ensures { result ≡ final_stats_of_run self.now }
     {

@@ -19,6 +19,11 @@ use std::alloc::Global;
 use std::marker::Model;
 
 /// Which attempt of a test this is.
+///
+/// ```
+/// let second = RetryData { attempt: 2, total_attempts: 3 };
+/// assert!(!second.is_last_attempt());
+/// ```
 #[derive(Clone, Copy, Debug, PartialEq, Eq)]
 pub struct RetryData {
     /// The attempt, from 1.
@@ -51,6 +56,11 @@ impl RetryData {
 }
 
 /// How an attempt ended.
+///
+/// ```
+/// let leaky = ExecutionResultDescription::Leak { result: LeakTimeoutResult::Pass };
+/// assert!(leaky.is_success());
+/// ```
 #[derive(Debug, Drop, PartialEq, Eq)]
 pub enum ExecutionResultDescription {
     /// It passed.
@@ -77,7 +87,7 @@ pub enum ExecutionResultDescription {
 }
 
 impl ExecutionResultDescription {
-    /// A failure with this exit code, which left no handle open; Rust's test harness ends with 101. It allocates nothing.
+    /// A failure with this exit code that left no handle open. Rust's test harness exits with 101.
     ///
     /// ```
     /// assert!(!ExecutionResultDescription::failed(101).is_success());
@@ -92,6 +102,11 @@ impl ExecutionResultDescription {
     }
 
     /// Whether it counts as a success.
+    ///
+    /// ```
+    /// let timeout = ExecutionResultDescription::Timeout { result: SlowTimeoutResult::Fail };
+    /// assert!(!timeout.is_success());
+    /// ```
     pub fn is_success(&self) -> bool
         ensures { result ≡ is_success self.now }
     {
@@ -121,7 +136,11 @@ impl ExecutionResultDescription {
         )
     }
 
-    /// Copies it; allocates only if it holds text.
+    /// A copy, which allocates only if there is a text.
+    ///
+    /// # Errors
+    ///
+    /// Memory was refused. Without text there is no error.
     pub fn try_clone(&self, alloc: Global) -> Result<Self, OutOfMemory>
         ensures same { IfOk result (λ r. r ≡ self.now) }
         ensures free { is_aborted self.now ≡ false → IsOk result }
@@ -144,7 +163,7 @@ impl ExecutionResultDescription {
     }
 }
 
-/// What a test counts as that passed but left handles open.
+/// What a test that passed but left handles open counts as.
 #[derive(Clone, Copy, Debug, PartialEq, Eq)]
 pub enum LeakTimeoutResult {
     /// A success.
@@ -153,7 +172,7 @@ pub enum LeakTimeoutResult {
     Fail,
 }
 
-/// What a test counts as that ran for too long.
+/// What a test that ran for too long counts as.
 #[derive(Clone, Copy, Debug, PartialEq, Eq)]
 pub enum SlowTimeoutResult {
     /// A success.
@@ -186,7 +205,11 @@ pub enum FailureDescription {
 }
 
 impl FailureDescription {
-    /// Copies it; allocates only if it holds text.
+    /// A copy, which allocates only if there is a text.
+    ///
+    /// # Errors
+    ///
+    /// Memory was refused. For an exit code there is no error.
     pub fn try_clone(&self, alloc: Global) -> Result<Self, OutOfMemory>
         ensures same { IfOk result (λ f. f ≡ self.now) }
         ensures free { is_abort self.now ≡ false → IsOk result }
@@ -201,6 +224,11 @@ impl FailureDescription {
 }
 
 /// An attempt of a test.
+///
+/// ```
+/// let slow = ExecuteStatus { is_slow: true, ..ExecuteStatus::passed(Nanos::from_secs(90)) };
+/// assert!(slow.retry_data.is_last_attempt());
+/// ```
 #[derive(Debug, Drop)]
 pub struct ExecuteStatus<S: OutputSpec> {
     /// How long it ran.
@@ -216,14 +244,18 @@ pub struct ExecuteStatus<S: OutputSpec> {
 }
 
 impl ExecuteStatus<LiveSpec> {
-    /// The only attempt of a test, which ended with this result after this time, was not slow and wrote nothing. It allocates if the
-    /// result holds text.
+    /// The only attempt of a test, with this result and duration, not slow and without output. It
+    /// allocates if the result holds text.
     ///
     /// ```
     /// let timeout = ExecutionResultDescription::Timeout { result: SlowTimeoutResult::Fail };
     /// let status = ExecuteStatus::new(alloc, timeout, Nanos::from_secs(60))?;
     /// assert!(!status.result.is_success());
     /// ```
+    ///
+    /// # Errors
+    ///
+    /// Memory was refused. For a result without text there is no error.
     pub fn new(
         alloc: Global,
         outcome: ExecutionResultDescription,
@@ -241,7 +273,7 @@ impl ExecuteStatus<LiveSpec> {
         })
     }
 
-    /// The only attempt of a test, which passed after this time, was not slow and wrote nothing.
+    /// The only attempt of a test, which passed in this time, was not slow and wrote nothing.
     ///
     /// ```
     /// let status = ExecuteStatus::passed(Nanos::from_millis(20));
@@ -259,7 +291,7 @@ impl ExecuteStatus<LiveSpec> {
         }
     }
 
-    /// The only attempt of a test, which failed with this exit code after this time, was not slow and wrote nothing.
+    /// The only attempt of a test, which failed with this exit code, was not slow and wrote nothing.
     ///
     /// ```
     /// let stderr = Bytes::from_static(b"a bracket is missing\n");
@@ -281,7 +313,12 @@ impl ExecuteStatus<LiveSpec> {
         }
     }
 
-    /// This attempt, which wrote this. One that could not be started wrote nothing, and stays as it is.
+    /// Sets what the attempt wrote. One that could not be started wrote nothing, and does not change.
+    ///
+    /// ```
+    /// let output = ChildOutputDescription::combined(alloc, Bytes::from_static(b"warning\n"))?;
+    /// assert!(ExecuteStatus::passed(time).with_output(output).output.has_loaded_output());
+    /// ```
     pub fn with_output(self, output: ChildOutputDescription) -> Self
         ensures { result ≡ attempt_with_output self output }
     {
@@ -299,7 +336,7 @@ impl ExecuteStatus<LiveSpec> {
     /// assert!(!status.retry_data.is_last_attempt());
     /// ```
     ///
-    /// Attempts count from 1, as nextest's do. Nothing looks at whether the total is as large.
+    /// Attempts count from 1, as nextest's do. The total is not checked.
     pub fn with_retry_data(self, retry_data: RetryData) -> Self
         ensures { result ≡ attempt_with_retry_data self retry_data }
     {
@@ -307,6 +344,10 @@ impl ExecuteStatus<LiveSpec> {
     }
 
     /// Copies its texts, which allocates. The copy shares the bytes of the output.
+    ///
+    /// # Errors
+    ///
+    /// Memory was refused, or shared bytes have as many owners as their counter can hold.
     pub fn try_clone(&self, alloc: Global) -> Result<Self, OutOfMemory>
         ensures { IfOk result (λ status. status ≡ self.now) }
     {
@@ -319,14 +360,18 @@ impl ExecuteStatus<LiveSpec> {
         })
     }
 
-    /// Leaves its captured output unread.
+    /// Replaces the captured output by `NotLoaded`.
     pub fn unload(&mut self)
         ensures { self.new ≡ unloaded_attempt self.old }
     {
         self.output.unload();
     }
 
-    /// The same in the form of a recorded run. It copies its texts.
+    /// The status in the form of a recorded run, with empty names of the archive's members. It copies the texts.
+    ///
+    /// # Errors
+    ///
+    /// Memory was refused.
     pub fn recorded(&self, alloc: Global) -> Result<ExecuteStatus<RecordingSpec>, OutOfMemory>
         ensures { IfOk result (λ status. status ≡ recorded_attempt self.now) }
     {
@@ -362,14 +407,18 @@ pub struct SetupScriptExecuteStatus<S: OutputSpec> {
 }
 
 impl SetupScriptExecuteStatus<LiveSpec> {
-    /// Leaves its captured output unread.
+    /// Replaces the captured output by `NotLoaded`.
     pub fn unload(&mut self)
         ensures { self.new ≡ unloaded_script self.old }
     {
         self.output.unload();
     }
 
-    /// The same in the form of a recorded run. It copies its texts.
+    /// The status in the form of a recorded run, with empty names of the archive's members. It copies the texts.
+    ///
+    /// # Errors
+    ///
+    /// Memory was refused.
     pub fn recorded(
         &self,
         alloc: Global,
@@ -385,7 +434,7 @@ impl SetupScriptExecuteStatus<LiveSpec> {
     }
 }
 
-/// What a test counts as that passed after earlier attempts.
+/// What a test that passed after earlier attempts counts as.
 #[derive(Clone, Copy, Debug, PartialEq, Eq)]
 pub enum FlakyResult {
     /// A success.
@@ -424,7 +473,7 @@ pub enum StatusCase {
 }
 
 impl StatusCase {
-    // The level from which on the status line is shown, by how the last attempt ended.
+    // The lowest level that shows the status line, by how the last attempt ended.
     fn status_level(self, last: &ExecutionResultDescription) -> StatusLevel
         ensures { result ≡ status_level_by self last.now }
     {
@@ -446,7 +495,7 @@ impl StatusCase {
         }
     }
 
-    // The level from which on the summary lists the test, by how the last attempt ended and whether it was slow.
+    // The lowest level at which the summary lists the test, by how the last attempt ended and whether it was slow.
     fn final_status_level(
         self,
         last: &ExecutionResultDescription,
@@ -476,14 +525,14 @@ impl StatusCase {
 }
 
 impl StatusSummary {
-    /// The level from which on the status line is shown while the run goes on.
+    /// The lowest level that shows the status line.
     pub fn status_level(&self) -> StatusLevel
         ensures { result ≡ status_level_of self.now }
     {
         self.case.status_level(&self.result)
     }
 
-    /// The level from which on the summary lists the test.
+    /// The lowest level at which the final summary lists the test.
     pub fn final_status_level(&self) -> FinalStatusLevel
         ensures { result ≡ final_level_of self.now }
     {
@@ -492,6 +541,11 @@ impl StatusSummary {
 }
 
 /// The outcome of a test's attempts, with the attempts.
+///
+/// ```
+/// let is_success = matches!(statuses.describe(), ExecutionDescription::Success { .. });
+/// assert!(is_success);
+/// ```
 #[derive(Clone, Copy, Debug)]
 pub enum ExecutionDescription<'a, S: OutputSpec> {
     /// One attempt, which succeeded.
@@ -518,14 +572,14 @@ pub enum ExecutionDescription<'a, S: OutputSpec> {
 }
 
 impl<'a, S: OutputSpec> ExecutionDescription<'a, S> {
-    /// The level from which on the status line is shown while the run goes on. It is that of the summary.
+    /// The lowest level that shows the status line, as in [`StatusSummary`].
     pub fn status_level(&self) -> StatusLevel
         ensures { result ≡ status_level_of (described_summary self.now) }
     {
         self.case().status_level(&self.last_status().result)
     }
 
-    /// The level from which on the summary lists the test. It is that of the summary.
+    /// The lowest level at which the final summary lists the test, as in [`StatusSummary`].
     pub fn final_status_level(&self) -> FinalStatusLevel
         ensures { result ≡ final_level_of (described_summary self.now) }
     {
@@ -533,8 +587,8 @@ impl<'a, S: OutputSpec> ExecutionDescription<'a, S> {
         self.case().final_status_level(&last.result, last.is_slow)
     }
 
-    /// Whether the setting for tests that succeed says when the output is shown, also where a success after earlier
-    /// attempts counts as a failure.
+    /// Whether the output is shown by the setting for tests that succeed. It is for every flaky test, also for one that
+    /// counts as a failure.
     pub fn is_success_for_output(&self) -> bool
         ensures { result ≡ is_success_case (described_case self.now) }
     {
@@ -568,6 +622,12 @@ impl<'a, S: OutputSpec> ExecutionDescription<'a, S> {
 }
 
 /// The attempts of a test, in order. There is at least one.
+///
+/// ```
+/// let attempts = vec![in alloc; ExecuteStatus::failed(1, time), ExecuteStatus::passed(time)]?;
+/// let statuses = ExecutionStatuses::new(attempts, FlakyResult::Pass);
+/// assert!(statuses.is_some_and(|statuses| statuses.last_status().result.is_success()));
+/// ```
 #[derive(Debug, Drop)]
 pub struct ExecutionStatuses<S: OutputSpec> {
     last: ExecuteStatus<S>,
@@ -585,6 +645,10 @@ impl<S: OutputSpec> Model for ExecutionStatuses<S> {
 
 impl ExecutionStatuses<LiveSpec> {
     /// Copies the attempts and their texts, which allocates. The copies share the bytes of their outputs.
+    ///
+    /// # Errors
+    ///
+    /// Memory was refused, or shared bytes have as many owners as their counter can hold.
     pub fn try_clone(&self, alloc: Global) -> Result<Self, OutOfMemory>
         ensures { IfOk result (λ statuses. statuses ≡ self.now) }
     {
@@ -595,7 +659,7 @@ impl ExecutionStatuses<LiveSpec> {
         })
     }
 
-    /// Leaves the captured output of every attempt unread.
+    /// Replaces the captured output of every attempt by `NotLoaded`.
     pub fn unload(&mut self)
         ensures { self.new ≡ unloaded_attempts self.old }
     {
@@ -603,7 +667,11 @@ impl ExecutionStatuses<LiveSpec> {
         self.last.unload();
     }
 
-    /// The attempts in the form of a recorded run. It copies their texts.
+    /// The attempts in the form of a recorded run, with empty names of the archive's members. It copies the texts.
+    ///
+    /// # Errors
+    ///
+    /// Memory was refused.
     pub fn recorded(&self, alloc: Global) -> Result<ExecutionStatuses<RecordingSpec>, OutOfMemory>
         ensures { IfOk result (λ statuses. statuses ≡ recorded_attempts self.now) }
     {
@@ -615,7 +683,7 @@ impl ExecutionStatuses<LiveSpec> {
     }
 }
 
-// Leaves the captured output of every attempt unread.
+// Replaces the captured output of every attempt by `NotLoaded`.
 fn unload_attempts(attempts: &mut [ExecuteStatus<LiveSpec>])
     ensures { attempts.new ≡ map unloaded_attempt attempts.old }
 {
@@ -638,7 +706,7 @@ fn recorded_earlier(
     Ok(recorded)
 }
 
-// Copies the attempts; allocates nothing where there is none.
+// Copies the attempts. Without attempts it allocates nothing.
 fn copy_attempts(
     alloc: Global,
     attempts: &[ExecuteStatus<LiveSpec>],
@@ -653,7 +721,7 @@ fn copy_attempts(
 }
 
 impl<S: OutputSpec> ExecutionStatuses<S> {
-    /// The attempts in order, unless there is none; and what a success after earlier attempts counts as.
+    /// The attempts, in order, and what a success after earlier attempts counts as. `None` without attempts.
     ///
     /// ```
     /// let attempts = vec![in alloc; ExecuteStatus::failed(1, time), ExecuteStatus::passed(time)]?;
@@ -680,7 +748,7 @@ impl<S: OutputSpec> ExecutionStatuses<S> {
     /// assert!(statuses.last_status().result.is_success());
     /// ```
     ///
-    /// It allocates nothing. What a success after other attempts counts as does not matter, as there are none.
+    /// It allocates nothing. The flaky result does not matter, as no attempt came before.
     pub fn single(alloc: Global, status: ExecuteStatus<S>) -> Self
         ensures earlier { result.earlier ≡ [] }
         ensures last { result.last ≡ status }
@@ -689,7 +757,7 @@ impl<S: OutputSpec> ExecutionStatuses<S> {
         ExecutionStatuses::with_last(Vec::new(alloc), status, FlakyResult::Pass)
     }
 
-    /// The attempts before the last one, in order, and the last; and what a success after earlier attempts counts as.
+    /// The attempts before the last one, in order, the last one, and what a success after earlier attempts counts as.
     ///
     /// ```
     /// let earlier = vec![in alloc; ExecuteStatus::failed(1, time)]?;
@@ -744,6 +812,15 @@ impl<S: OutputSpec> ExecutionStatuses<S> {
     }
 
     /// The outcome of the attempts, without their output. It allocates only if the last result holds text.
+    ///
+    /// ```
+    /// let summary = statuses.summary(alloc)?;
+    /// assert_eq!(summary.case, StatusCase::Success);
+    /// ```
+    ///
+    /// # Errors
+    ///
+    /// Memory was refused. For a last result without text there is no error.
     pub fn summary(&self, alloc: Global) -> Result<StatusSummary, OutOfMemory>
         ensures summary { IfOk result (λ s. s ≡ summary_of self.now) }
         ensures free { is_aborted self.now.last.result ≡ false → IsOk result }

@@ -1,4 +1,4 @@
--- What a run leaves out where nothing is configured.
+-- The default filter of a run without configuration.
 use Rattle.{std.specs.Prelude.codes, run_names.specs.declared.config.CompiledDefaultFilter.CompiledDefaultFilter, run_names.specs.declared.config.CompiledDefaultFilterSection.TheVariants.Profile}
 
 -- the default profile's own filter

@@ -25,7 +25,7 @@ final_rank final.Leak = 5
 final_rank final.Pass = 6
 final_rank final.All = 7
 
--- a reason's place among the reasons; none is below each of them
+-- the rank of a reason; no reason ranks below each of them
 abbrev pub reason_rank : Option CancelReason → ℕ
 reason_rank None = 0
 reason_rank (Some reason.SetupScriptFailure) = 1

@@ -8,13 +8,13 @@ begins_with_colons [] = false
 begins_with_colons (c ∷ []) = false
 begins_with_colons (c ∷ d ∷ t) = (c == 58) && (d == 58)
 
--- a place in a text with one byte more in front: the place 0 where there is no later one and the flag is set
+-- an index once one more byte comes before the text; without an index, 0 if the flag is set
 abbrev pub place_after : Bool → Option ℕ → Option ℕ
 place_after here (Some i) = Some (suc i)
 place_after true None = Some 0
 place_after false None = None
 
--- where the text has its last `::`
+-- the index of the last `::` of the text, if it has one
 unfoldable pub last_colons : List ℕ → Option ℕ
 last_colons [] = None
 last_colons (c ∷ t) = place_after (begins_with_colons (c ∷ t)) (last_colons t)
@@ -27,6 +27,6 @@ module_path_of t = option_map (λ i. take i t) (last_colons t)
 abbrev pub last_name_of : List ℕ → List ℕ
 last_name_of t = option_map_or (λ i. drop (i + 2) t) (last_colons t) t
 
--- what the reference points to
+-- the text that the reference points to, if there is one
 abbrev pub optional_text : Option (Bor (List ℕ)) → Option (List ℕ)
 optional_text o = option_map (λ (s : Bor (List ℕ)). s.now) o

@@ -34,7 +34,7 @@ remaining_value (remaining.Count n) = Iterations (non_zero_u32_get n)
 remaining_value remaining.Infinite = Endless
 remaining_value (remaining.Time t) = TimeLeft t.0
 
--- iterations remain where fewer than all have finished, and time where less than all has passed
+-- iterations remain if fewer than `count` have finished, and time if less than `all` has passed
 abbrev pub count_left : ℕ → ℕ → Option Remaining
 count_left count completed = if nat_lt completed count then Some (Iterations (count - completed)) else None
 

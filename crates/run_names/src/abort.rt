@@ -20,14 +20,14 @@ pub enum AbortDescription {
     UnixSignal {
         /// The signal's number.
         signal: i32,
-        /// Its name without the `SIG` in front, if it is known.
+        /// Its name without the prefix `SIG`, if it is known.
         name: Option<DescriptionText>,
     },
-    /// By an NT status that is a fault, on Windows.
+    /// By an NT status that reports a fault, on Windows.
     WindowsNtStatus {
         /// The status.
         code: i32,
-        /// What the system says of it, if it is known.
+        /// The system's message for it, if it is known.
         message: Option<DescriptionText>,
     },
     /// Together with its job object, on Windows.
@@ -35,7 +35,16 @@ pub enum AbortDescription {
 }
 
 impl AbortDescription {
-    /// Copies it; allocates only if it holds text.
+    /// A copy, which allocates only if there is a text.
+    ///
+    /// ```
+    /// let abort = AbortDescription::UnixSignal { signal: 6, name: None };
+    /// assert_eq!(abort.try_clone(alloc)?, abort);
+    /// ```
+    ///
+    /// # Errors
+    ///
+    /// Memory was refused. Without text there is no error.
     pub fn try_clone(&self, alloc: Global) -> Result<Self, OutOfMemory>
         ensures same { IfOk result (λ a. a ≡ self.now) }
         ensures free { abort_has_text self.now ≡ false → IsOk result }
@@ -55,7 +64,7 @@ impl AbortDescription {
     }
 }
 
-// Copies the text, if there is one, which allocates.
+// A copy of the text, if there is one, which allocates.
 fn copy_text(
     alloc: Global,
     text: &Option<DescriptionText>,
@@ -90,6 +99,10 @@ impl Model for DescriptionText {
 
 impl DescriptionText {
     /// Copies the text.
+    ///
+    /// # Errors
+    ///
+    /// Memory was refused.
     pub fn new(alloc: Global, text: &str) -> Result<Self, OutOfMemory>
         ensures { IfOk result (λ description. description ≡ text.now) }
     {
@@ -105,7 +118,11 @@ impl DescriptionText {
         self.text.as_str()
     }
 
-    /// Copies it; the copy allocates.
+    /// A copy, which allocates.
+    ///
+    /// # Errors
+    ///
+    /// Memory was refused.
     pub fn try_clone(&self, alloc: Global) -> Result<Self, OutOfMemory>
         ensures { IfOk result (λ description. description ≡ self.now) }
     {

@@ -30,6 +30,10 @@ impl<T: Drop> Boxed<T> {
     ghost use Rattle.run_names.specs.Boxes.{LendsValue};
 
     /// Puts a value on the heap.
+    ///
+    /// # Errors
+    ///
+    /// Memory was refused. The value is dropped.
     #[inline(always)]
     pub fn new(alloc: Global, value: T) -> Result<Self, OutOfMemory>
         ensures { IfOk result (λ b. b ≡ value) }
@@ -46,7 +50,7 @@ impl<T: Drop> Boxed<T> {
         &*self.value
     }
 
-    /// The value, which may be changed.
+    /// The value, mutable.
     pub fn get_mut(&mut self) -> &mut T
         ensures* lends { sem 𝓛 (LendsValue T.row self.entry result) }
         ensures value { result.now ≡ self.old }
@@ -88,6 +92,10 @@ impl<T> Model for Shared<T> {
 
 impl<T: Drop> Shared<T> {
     /// Puts a value on the heap.
+    ///
+    /// # Errors
+    ///
+    /// Memory was refused. The value is dropped.
     pub fn new(alloc: Global, value: T) -> Result<Self, OutOfMemory>
         ensures { IfOk result (λ s. s ≡ value) }
     {
@@ -104,6 +112,15 @@ impl<T: Drop> Shared<T> {
     }
 
     /// A copy that shares the value. It allocates nothing.
+    ///
+    /// ```
+    /// let shared = Shared::new(alloc, time)?;
+    /// assert_eq!(shared.try_clone()?.get(), shared.get());
+    /// ```
+    ///
+    /// # Errors
+    ///
+    /// The shared value has as many owners as its counter can hold.
     pub fn try_clone(&self) -> Result<Self, TooManyOwners>
         ensures { IfOk result (λ s. s ≡ self.now) }
     {

@@ -29,6 +29,10 @@ impl Model for CommandLine {
 
 impl CommandLine {
     /// A command of these words. It allocates.
+    ///
+    /// # Errors
+    ///
+    /// Memory was refused. The words are dropped.
     pub fn new(alloc: Global, words: Vec<String>) -> Result<Self, OutOfMemory>
         ensures { IfOk result (λ command. command ≡ map string_bytes words.items) }
     {
@@ -43,6 +47,10 @@ impl CommandLine {
     /// let command = CommandLine::from_words(alloc, &["cargo", "build", "--release"])?;
     /// assert_eq!(command.words()[2].as_str(), "--release");
     /// ```
+    ///
+    /// # Errors
+    ///
+    /// Memory was refused.
     pub fn from_words(alloc: Global, words: &[&str]) -> Result<Self, OutOfMemory>
         ensures { IfOk result (λ command. command ≡ map (λ word. word.now) words.now) }
     {
@@ -61,6 +69,10 @@ impl CommandLine {
     }
 
     /// A copy that shares the same words. It allocates nothing.
+    ///
+    /// # Errors
+    ///
+    /// The shared words have as many owners as their counter can hold.
     pub fn try_clone(&self) -> Result<Self, TooManyOwners>
         ensures { IfOk result (λ command. command ≡ self.now) }
     {

@@ -1,4 +1,4 @@
-//! What kind of run it is, and what a profile leaves out.
+//! The mode of a run, when output is shown, and a profile's default filter.
 
 ghost use Rattle.std.specs.Prelude.{◌≡◌, ◌≢◌, IfOk, MatchOption};
 ghost use Rattle.run_names.specs.{Displays.display_name, Displays.is_immediate, Displays.is_final, Filters.default_config_filter, declared.config.TestOutputDisplay.TestOutputDisplay};
@@ -8,6 +8,10 @@ use crate::name::ProfileName;
 use std::alloc::Global;
 
 /// Whether a run runs tests or benchmarks.
+///
+/// ```
+/// assert_ne!(NextestRunMode::Test, NextestRunMode::Benchmark);
+/// ```
 #[derive(Clone, Copy, Debug, PartialEq, Eq)]
 pub enum NextestRunMode {
     /// Tests.
@@ -59,6 +63,10 @@ impl TestOutputDisplay {
     }
 
     /// The name in a configuration: `immediate`, `immediate-final`, `final` or `never`.
+    ///
+    /// ```
+    /// assert_eq!(TestOutputDisplay::ImmediateFinal.name(), "immediate-final");
+    /// ```
     pub fn name(self) -> &'static str
         ensures { result.now ≡ display_name self }
     {
@@ -99,12 +107,16 @@ pub struct CompiledDefaultFilter {
 }
 
 impl CompiledDefaultFilter {
-    /// The filter of the profile `default` itself, nextest's where nothing is configured. It allocates the profile's name.
+    /// The filter of the profile `default`, which nextest uses without configuration. It allocates the profile's name.
     ///
     /// ```
     /// let filter = CompiledDefaultFilter::for_default_config(alloc)?;
     /// assert_eq!(filter.profile.as_str(), "default");
     /// ```
+    ///
+    /// # Errors
+    ///
+    /// Memory was refused.
     pub fn for_default_config(alloc: Global) -> Result<Self, OutOfMemory>
         ensures { IfOk result (λ filter. filter ≡ default_config_filter) }
     {
@@ -120,6 +132,6 @@ impl CompiledDefaultFilter {
 pub enum CompiledDefaultFilterSection {
     /// The profile's own.
     Profile,
-    /// An override's own, by its index.
+    /// An override's, by its index.
     Override(usize),
 }

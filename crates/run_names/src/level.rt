@@ -1,18 +1,22 @@
 //! Which results are shown, and why a run is cancelled.
 //!
-//! The order of the variants is their order: the later one is the greater.
+//! The variants of each type are in ascending order.
 
 ghost use Rattle.std.specs.Prelude.{◌≡◌, IsTrue, ◌↔◌, ◌<◌, ◌≤◌, ◌-◌, Some};
 ghost use Rattle.run_names.specs.Levels.{reason_rank, reason_words, status_rank, final_rank};
 
-/// The least status level that is shown while the run goes on. Each level shows what those before it show.
+/// Which status lines are shown during a run. Each level also shows what the levels before it show.
+///
+/// ```
+/// assert!(StatusLevel::Fail < StatusLevel::Pass);
+/// ```
 #[derive(Clone, Copy, Debug, PartialEq, Eq, PartialOrd, Ord)]
 pub enum StatusLevel {
     /// Nothing.
     None,
     /// Tests that failed.
     Fail,
-    /// Attempts that are tried again.
+    /// Attempts that are retried.
     Retry,
     /// Slow tests.
     Slow,
@@ -27,7 +31,7 @@ pub enum StatusLevel {
 }
 
 impl StatusLevel {
-    /// Whether what has this level is shown where `shown` is the configured level.
+    /// Whether a result of this level is shown if `shown` is the configured level.
     ///
     /// ```
     /// assert!(StatusLevel::Fail.is_shown_at(StatusLevel::Pass));
@@ -39,7 +43,11 @@ impl StatusLevel {
     }
 }
 
-/// The least level of a test that the summary lists. Each level shows what those before it show.
+/// Which tests the final summary lists. Each level also lists what the levels before it list.
+///
+/// ```
+/// assert!(FinalStatusLevel::Fail < FinalStatusLevel::Pass);
+/// ```
 #[derive(Clone, Copy, Debug, PartialEq, Eq, PartialOrd, Ord)]
 pub enum FinalStatusLevel {
     /// Nothing.
@@ -61,7 +69,7 @@ pub enum FinalStatusLevel {
 }
 
 impl FinalStatusLevel {
-    /// Whether what has this level is listed where `shown` is the configured level.
+    /// Whether a test of this level is listed if `shown` is the configured level.
     ///
     /// ```
     /// assert!(FinalStatusLevel::Fail.is_shown_at(FinalStatusLevel::Flaky));
@@ -72,8 +80,10 @@ impl FinalStatusLevel {
         self <= shown
     }
 
-    /// How many levels below `All` this one is, from 0 for `All` to 7 for `None`. A summary lists by this number, so that
-    /// failures come last, next to the prompt.
+    /// How many levels below `All` this one is, from 0 for `All` to 7 for `None`.
+    ///
+    /// A summary is sorted by this number, so that failures come last, next to the prompt. Only the reporter needs it.
+    #[doc(hidden)]
     pub fn below_all(self) -> u8
         ensures { result ≡ 7 - final_rank self }
     {
@@ -91,23 +101,27 @@ impl FinalStatusLevel {
 }
 
 /// Why a run is cancelled. A greater reason replaces a smaller one.
+///
+/// ```
+/// assert!(CancelReason::TestFailure < CancelReason::Signal);
+/// ```
 #[derive(Clone, Copy, Debug, PartialEq, Eq, PartialOrd, Ord)]
 pub enum CancelReason {
     /// A setup script failed.
     SetupScriptFailure,
-    /// A test failed, and the tests that run are waited for.
+    /// A test failed. Running tests are waited for.
     TestFailure,
     /// The report could not be written.
     ReportError,
     /// The run took too long.
     GlobalTimeout,
-    /// A test failed, and the tests that run are terminated.
+    /// A test failed. Running tests are terminated.
     TestFailureImmediate,
-    /// A signal other than an interrupt came.
+    /// A signal other than an interrupt was received.
     Signal,
-    /// An interrupt came.
+    /// An interrupt was received.
     Interrupt,
-    /// A second signal came, and the tests that run are killed.
+    /// A second signal was received. Running tests are killed.
     SecondSignal,
 }
 
@@ -123,7 +137,7 @@ impl CancelReason {
         self > other
     }
 
-    /// The words that a report says it by.
+    /// The reason in words, as a report shows it.
     ///
     /// ```
     /// assert_eq!(CancelReason::TestFailureImmediate.as_str(), "test failure");

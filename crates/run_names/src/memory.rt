@@ -7,6 +7,10 @@ use std::fmt;
 
 /// A shared value has as many owners as its counter can hold. Sharing allocates nothing, so this is not
 /// [`OutOfMemory`]; `?` converts it where a caller does not need the difference.
+///
+/// ```
+/// assert_eq!(OutOfMemory::from(TooManyOwners), OutOfMemory);
+/// ```
 #[derive(Clone, Copy, Debug, PartialEq, Eq)]
 pub struct TooManyOwners;
 

@@ -33,6 +33,14 @@ impl<K> Model for Name<K> {
 
 impl<K> Name<K> {
     /// Copies the text.
+    ///
+    /// ```
+    /// assert_eq!(ScriptId::new(alloc, "set-up")?.as_str(), "set-up");
+    /// ```
+    ///
+    /// # Errors
+    ///
+    /// Memory was refused.
     pub fn new(alloc: Global, text: &str) -> Result<Self, OutOfMemory>
         ensures { IfOk result (λ name. name ≡ text.now) }
     {
@@ -59,7 +67,11 @@ impl<K> Name<K> {
         }
     }
 
-    /// Makes this its text, in the memory that the name has if that suffices. If memory is refused the name is empty.
+    /// Sets the text, and reuses the name's memory where that is large enough.
+    ///
+    /// # Errors
+    ///
+    /// Memory was refused. The name is then empty.
     pub fn replace(&mut self, text: &str) -> Result<(), OutOfMemory>
         ensures replaced { OnOk result (self.new ≡ text.now) }
         ensures emptied { OnErr result (self.new ≡ []) }
@@ -246,7 +258,12 @@ impl PartialOrd for TestInstanceId<'_> {
     }
 }
 
-/// A test whose names are its own.
+/// A test that owns its names.
+///
+/// ```
+/// let test = OwnedTestInstanceId::new(alloc, "alpha", "parser::empty")?;
+/// assert!(test.as_ref() < OwnedTestInstanceId::new(alloc, "beta", "t1")?.as_ref());
+/// ```
 #[derive(Debug, Drop)]
 pub struct OwnedTestInstanceId {
     /// The binary's id.
@@ -262,6 +279,10 @@ impl OwnedTestInstanceId {
     /// let test = OwnedTestInstanceId::new(alloc, "alpha", "parser::empty_input")?;
     /// assert_eq!(test.test_name.as_str(), "parser::empty_input");
     /// ```
+    ///
+    /// # Errors
+    ///
+    /// Memory was refused.
     pub fn new(alloc: Global, binary_id: &str, test_name: &str) -> Result<Self, OutOfMemory>
         ensures binary_id { IfOk result (λ test. test.binary_id ≡ binary_id.now) }
         ensures test_name { IfOk result (λ test. test.test_name ≡ test_name.now) }

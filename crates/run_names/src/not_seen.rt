@@ -24,6 +24,10 @@ pub struct NotSeen {
 
 impl NotSeen {
     /// A copy that shares the same list. It allocates nothing.
+    ///
+    /// # Errors
+    ///
+    /// The shared list has as many owners as its counter can hold.
     pub fn try_clone(&self) -> Result<Self, TooManyOwners>
         ensures { IfOk result (λ copy. copy ≡ self.now) }
     {
@@ -55,6 +59,10 @@ impl Model for TestInstanceList {
 
 impl TestInstanceList {
     /// These tests. It allocates.
+    ///
+    /// # Errors
+    ///
+    /// Memory was refused. The tests are dropped.
     pub fn new(alloc: Global, instances: Vec<OwnedTestInstanceId>) -> Result<Self, OutOfMemory>
         ensures { IfOk result (λ list. list ≡ instances.items) }
     {
@@ -71,6 +79,10 @@ impl TestInstanceList {
     }
 
     /// A copy that shares the same tests. It allocates nothing.
+    ///
+    /// # Errors
+    ///
+    /// The shared list has as many owners as its counter can hold.
     pub fn try_clone(&self) -> Result<Self, TooManyOwners>
         ensures { IfOk result (λ list. list ≡ self.now) }
     {

@@ -34,6 +34,10 @@ impl ShortestRunIdPrefix {
     /// let id = ShortestRunIdPrefix::new(alloc, "01", "890a5d")?;
     /// assert_eq!((id.prefix(), id.rest()), ("01", "890a5d"));
     /// ```
+    ///
+    /// # Errors
+    ///
+    /// Memory was refused.
     pub fn new(alloc: Global, prefix: &str, rest: &str) -> Result<Self, OutOfMemory>
         ensures prefix { IfOk result (λ p. p.prefix ≡ prefix.now) }
         ensures rest { IfOk result (λ p. p.rest ≡ rest.now) }
@@ -58,7 +62,11 @@ impl ShortestRunIdPrefix {
         self.rest.as_str()
     }
 
-    /// Copies it; the copy allocates.
+    /// A copy, which allocates.
+    ///
+    /// # Errors
+    ///
+    /// Memory was refused.
     pub fn try_clone(&self, alloc: Global) -> Result<Self, OutOfMemory>
         ensures { IfOk result (λ p. p ≡ self.now) }
     {

@@ -1,4 +1,4 @@
-//! Runs of the same tests again and again, to find those that fail now and then.
+//! Stress runs: the tests run many times, to find those that fail now and then.
 
 ghost use Rattle.std.specs.{Prelude.◌≡◌, Option.option_map, Int.NonZero.non_zero_u32_get, Ordering.nat_cmp, Cmp.Lexicographic.slice_cmp};
 ghost use Rattle.run_names.specs.Stress.{completed_of, count_left, elapsed_of, remaining_of, remaining_value, stress_key, time_left};
@@ -9,7 +9,7 @@ use std::num::NonZeroU32;
 
 /// Which iteration of a stress run it is.
 ///
-/// Its order is by the iteration, then by how many there are; without that number it comes first.
+/// Ordered by the iteration, then by the total. An unknown total comes first.
 ///
 /// ```
 /// use std::num::NonZeroU32;
@@ -25,7 +25,8 @@ pub struct StressIndex {
 }
 
 impl StressIndex {
-    /// Compares as `cmp` does.
+    /// `cmp` with a contract that names the order. Only the reporter needs it.
+    #[doc(hidden)]
     pub fn compare(&self, other: &StressIndex) -> Ordering
         ensures { result ≡ slice_cmp nat_cmp (stress_key self.now) (stress_key other.now) }
     {
@@ -85,6 +86,11 @@ impl StressProgress {
     }
 
     /// How many iterations have finished.
+    ///
+    /// ```
+    /// let progress = StressProgress::Count { total: StressCount::Infinite, elapsed: time, completed: 2 };
+    /// assert_eq!(progress.completed(), 2);
+    /// ```
     pub fn completed(&self) -> u32
         ensures { result ≡ completed_of self.now }
     {
@@ -118,7 +124,7 @@ impl StressProgress {
     }
 }
 
-// The iterations that remain of this many, if there are any.
+// The iterations that remain, if any do.
 fn count_left(count: NonZeroU32, completed: u32) -> Option<StressRemaining>
     ensures { option_map remaining_value result ≡ count_left (non_zero_u32_get count) completed }
 {
@@ -126,7 +132,7 @@ fn count_left(count: NonZeroU32, completed: u32) -> Option<StressRemaining>
     Some(StressRemaining::Count(left))
 }
 
-// The time that remains, if there is any.
+// The time that remains, if any does.
 fn time_left(total: Nanos, elapsed: Nanos) -> Option<StressRemaining>
     ensures { option_map remaining_value result ≡ time_left total.0 elapsed.0 }
 {

@@ -1,4 +1,4 @@
--- Texts that are alike.
+-- Texts that are equal but for spaces at the ends of lines.
 use Rattle.std.specs.Prelude.{◌≡◌, Bool, true, ◌&&◌, ◌==◌, [], ◌∷◌, if◌then◌else◌}
 use Rattle.styled_text.specs.Texts.{Text}
 

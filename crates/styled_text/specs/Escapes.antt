@@ -11,7 +11,7 @@ abbrev pub front_len : (ℕ → Bool) → Text → ℕ
 front_len p [] = 0
 front_len p (c ∷ t) = if p c then suc (front_len p t) else 0
 
--- whether a first byte is there and passes, as a number
+-- 1 if there is a first byte and it passes, else 0
 abbrev pub one_len : (ℕ → Bool) → Text → ℕ
 one_len p [] = 0
 one_len p (c ∷ t) = if p c then 1 else 0
@@ -103,6 +103,6 @@ abbrev pub has_no_escape : Text → Bool
 has_no_escape [] = true
 has_no_escape (c ∷ t) = not (c == 27) && has_no_escape t
 
--- as a fact
+-- `has_no_escape` as a proposition
 abbrev pub HasNoEscape : Text → Type 0
 HasNoEscape t = IsTrue (has_no_escape t)

@@ -16,7 +16,7 @@ abbrev pub moved_by : ℕ → ScanState → ℕ → Option Mode → ScanState
 moved_by end s c (Some m) = record { mode = m; place = s.place; is_open = false }
 moved_by end s c None = record { mode = mode.Text; place = next_place end s.place (char_columns c); is_open = s.is_open || nat_lt s.place end }
 
--- the state after the character, whatever the scan says of it
+-- the state after the character, inside or outside a sequence
 abbrev pub moved : ℕ → ScanState → ℕ → ScanState
 moved end s c = moved_by end s c (advanced s.mode c)
 
@@ -25,7 +25,7 @@ abbrev pub is_char_kept_by : ℕ → ℕ → ScanState → ℕ → Option Mode �
 is_char_kept_by start end s c (Some m) = true
 is_char_kept_by start end s c None = (s.is_open || nat_lt s.place end) && (nat_le start s.place && nat_le (s.place + char_columns c) end)
 
--- whether it is kept, whatever the scan says of it
+-- whether the character is kept, inside or outside a sequence
 abbrev pub is_char_kept : ℕ → ℕ → ScanState → ℕ → Bool
 is_char_kept start end s c = is_char_kept_by start end s c (advanced s.mode c)
 
@@ -55,11 +55,11 @@ unfolding scan_after
 scan_after-append end s [] ds = refl
 scan_after-append end s (c ∷ cs) ds = scan_after-append end (moved end s c) cs ds
 
--- what such a writer keeps of a text
+-- what a `Fitted` keeps of a text
 abbrev pub fitted_text : {W : Type 0} → Fitted W → Text → Text
 fitted_text a t = kept_from a.start a.end a.scan (chars t)
 
--- a text in two pieces, of which the first is text
+-- what is kept of two pieces, the first of which is UTF-8
 pub fitted_text-append : {W : Type 0} (a : Fitted W) (t u : Text) → IsUtf8 t → fitted_text a (t ++ u) ≡ fitted_text a t ++ kept_from a.start a.end (scan_after a.end a.scan (chars t)) (chars u)
 fitted_text-append a t u h = ap (kept_from a.start a.end a.scan) (chars-append t u h) ∙ kept_from-append a.start a.end a.scan (chars t) (chars u)
 
@@ -86,7 +86,7 @@ module _ {W : Type 0} (m : Meaning W) where
     pub below : m.stops a.inner.now (fitted_text a front) e b.inner.now
     pub same : b.inner.ghost_name ≡ a.inner.ghost_name
 
-  -- the writer below puts the character if it is kept
+  -- the writer below gets the character if it is kept
   pub record PutsChar (a : Fitted W) (c : ℕ) (r : Result (Unit {0}) WriteFault) (b : Fitted W) : Type 0 where
     pub below : Puts m a.inner.now (kept_char a.start a.end a.scan c) r b.inner.now
     pub scan : b.scan ≡ moved a.end a.scan c

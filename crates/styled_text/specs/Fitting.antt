@@ -49,16 +49,16 @@ sequences [] = []
 sequences (SequenceText s ∷ ps) = s ∷ sequences ps
 sequences (StretchText s ∷ ps) = sequences ps
 
--- a sequence that ends by itself, whatever follows
+-- a sequence that is complete: where it ends does not depend on what follows
 abbrev pub IsClosed : Text → Type 0
 IsClosed s = (u : Text) → pieces (s ++ u) ≡ SequenceText s ∷ pieces u
 
--- each of the sequences ends by itself
+-- each of the sequences is complete
 abbrev pub AreClosed : List Text → Type 0
 AreClosed [] = Unit {0}
 AreClosed (s ∷ ss) = IsClosed s × AreClosed ss
 
--- a text each of whose sequences ends by itself
+-- a text whose sequences are all complete
 abbrev pub IsPainted : Text → Type 0
 IsPainted t = IsUtf8 t × AreClosed (sequences (pieces t))
 
@@ -66,12 +66,12 @@ IsPainted t = IsUtf8 t × AreClosed (sequences (pieces t))
 abbrev pub shrunk : Bool → Text → ℕ → Text
 shrunk is_name t r = if nat_le (columns t) r then t else (if is_name then fit t (columns t - r) (columns t) else fit t 0 r)
 
--- parts, each in what the ones before it left of r columns
+-- parts, each cut to the columns of r that the parts before it leave
 abbrev pub shrunk_parts : List Text → Text → ℕ → Text
 shrunk_parts [] name r = shrunk true name r
 shrunk_parts (t ∷ ts) name r = shrunk false t r ++ shrunk_parts ts name (r - columns t)
 
--- each of the parts is such a text
+-- each of the parts is painted
 abbrev pub ArePainted : List Text → Type 0
 ArePainted [] = Unit {0}
 ArePainted (t ∷ ts) = IsPainted t × ArePainted ts

@@ -3,8 +3,8 @@ use Rattle.std.specs.Prelude.{◌++◌, Result, MatchResult}
 use Rattle.styled_text.specs.{TrailingNewline.without_trailing_newline, TrailingNewline.held, Texts.Text, declared.stripped.gathered_pieces.GatheredPieces.GatheredPieces}
 use Rattle.writers.specs.{Writer.Meaning, Writer.Owes, declared.write_str.WriteFault.WriteFault}
 
--- what will be written before a following text: a line feed that is held back, what is gathered, and the text, without the
--- line feed that closes it
+-- what will be written before a following text: a line feed that is held back, what is gathered, and the text,
+-- without the line feed that closes it
 abbrev pub unwritten : GatheredPieces → Text → Text
 unwritten g rest = without_trailing_newline (held g.trailing_newline.is_held ++ (g.pending ++ rest))
 

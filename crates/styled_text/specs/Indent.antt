@@ -27,7 +27,7 @@ indented_lines p b (l ∷ ls) = indented_line p b l ∷ indented_lines p true ls
 unfoldable pub indent : Text → Bool → Text → Text
 indent p b t = join_with_byte 10 (indented_lines p b (lines t))
 
--- whether a line begins after these: the last is empty, and one is before it or the flag is set
+-- whether a line begins after these lines: the last is empty, and another comes before it or the flag is set
 abbrev pub begins_line : Bool → List Text → Bool
 begins_line b [] = b
 begins_line b (l ∷ []) = is_empty l && b

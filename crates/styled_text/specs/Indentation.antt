@@ -35,7 +35,7 @@ onto_front : (q l : Text) (ls : List Text) → join_with_byte 10 ((q ++ l) ∷ l
 onto_front q l [] = refl
 onto_front q l (m ∷ ls) = append_assoc q l (10 ∷ join_with_byte 10 (m ∷ ls))
 
--- by lines and byte by byte it is equal
+-- indentation by lines equals indentation byte by byte
 pub indent-onward : (p : Text) (b : Bool) (t : Text) → indent p b t ≡ indent_onward p b t
 unfolding indent
 indent-onward p b [] = refl
@@ -112,7 +112,7 @@ module _ {W : Type 0} (m : Meaning W) where
     pub below : m.stops a.inner.now (indent a.indentation.now a.needs_indent t) e b.inner.now
     pub same : b.inner.ghost_name ≡ a.inner.ghost_name
 
-  -- the writer below puts the margin of the line, and nothing else changes
+  -- the writer below gets the margin of the line, and nothing else changes
   pub record PutsMargin (a : Indented W) (t : Text) (r : Result (Unit {0}) WriteFault) (b : Indented W) : Type 0 where
     pub below : Puts m a.inner.now (margin a.indentation.now a.needs_indent t) r b.inner.now
     pub line : b.needs_indent ≡ a.needs_indent

@@ -15,7 +15,7 @@ pub record IsOneLine (t : Text) : Type 0 where
   pub is_there : 0 < length t
   pub is_line : HasNoLineFeed (take (length t - 1) t)
 
--- a byte before the lines of a text joins the first one
+-- a byte before a text joins its first line
 abbrev pub onto_first_line : ℕ → List Text → List Text
 onto_first_line c [] = (c ∷ []) ∷ []
 onto_first_line c (l ∷ ls) = (c ∷ l) ∷ ls

@@ -15,7 +15,7 @@ last_digits (suc k) n = last_digits k (n / 10) ++ (48 + n % 10) ∷ []
 abbrev pub digit_column : ℕ → ℕ → ℕ
 digit_column n power = if nat_lt n power then 32 else 48 + n / power % 10
 
--- a number of units, 10 ^ k of which are one, with a point before the last k digits
+-- a number divided by 10 ^ k, in decimal with k digits after the point
 unfoldable pub with_point : ℕ → ℕ → Text
 with_point k units = decimal (units / 10 ^ k) ++ codes "." ++ last_digits k units
 

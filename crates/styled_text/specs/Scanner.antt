@@ -19,7 +19,7 @@ abbrev pub is_before_backslash : Text → Bool
 is_before_backslash [] = false
 is_before_backslash (c ∷ t) = c == 92
 
--- the step before t, if n bytes from this one on still belong
+-- the step at a character before t, if n bytes from that character on belong to the sequence
 abbrev pub StepCounts : Step → ℕ → Text → Type 0
 StepCounts (Inside s) n t = n ≡ suc (rest_len s t)
 StepCounts (Ends k) n t = n ≡ k

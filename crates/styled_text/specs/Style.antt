@@ -31,7 +31,7 @@ abbrev pub style_suffix : Style → Text
 style_suffix style.Plain = []
 style_suffix s = reset_color
 
--- a text in a style: a word that a proof treats as a whole
+-- a text in a style, by a definition that a proof need not unfold
 unfoldable pub styled : Style → Text → Text
 styled s t = style_prefix s ++ (t ++ style_suffix s)
 

@@ -3,14 +3,15 @@
 //! Every escape character that is not inside a sequence begins one:
 //!
 //! - `ESC [`, parameters, intermediates and one final byte, a control sequence such as a colour;
-//! - `ESC ]` up to BEL or `ESC \`, a command, which another control character ends before itself, so none passes a line;
+//! - `ESC ]` up to BEL or `ESC \`, a command; any other control character ends it before itself, so
+//!   none crosses a line;
 //! - ESC, intermediates and one final byte; or ESC alone.
 //!
 //! A sequence that is not finished ends before the first character that does not fit. All else is text. A text is
 //! scanned once, and its pieces are slices of it.
 
 ghost use Rattle.std.specs.Prelude.{◌≡◌, ℕ, false, [], ◌∷◌, List, IfOk, IfSome, MatchOption, string_bytes};
-ghost use Rattle.styled_text.specs.Names.{YieldsFirstBy, item_count, sequence_len, csi_len, front_len, is_within, is_visible, is_parameter, pieces, visible, joined, stretches, HasNoEscape, piece_text};
+ghost use Rattle.styled_text.specs.Names.{YieldsFirstBy, item_count, sequence_len, csi_len, front_len, is_within, is_visible, is_parameter, pieces, visible, HasNoEscape, piece_text};
 ghost use Rattle.styled_text.specs.Names.{rest_len, is_before_backslash, StepCounts, step_of, short_step_of, final_step_of, advanced, Puts};
 ghost use Rattle.styled_text.specs.declared.escapes.Mode.TheVariants.{Text};
 ghost use Rattle.styled_text.specs.declared.escapes.State.TheVariants.{Parameters, Intermediates, Command, Short};
@@ -26,16 +27,21 @@ use writers::write_str::{WriteFault, WriteStr};
 pub const ESCAPE: u8 = 0x1B;
 
 /// A piece of a text.
-#[derive(Clone, Copy, Drop)]
+///
+/// ```
+/// let sequences = pieces("\x1b[1mhi\x1b[0m").filter(|piece| matches!(piece, Piece::Sequence(_)));
+/// assert_eq!(sequences.count(), 2);
+/// ```
+#[derive(Clone, Copy, Debug, Drop)]
 pub enum Piece<'a> {
     /// A sequence.
     Sequence(&'a str),
-    /// A longest stretch without one.
+    /// The text up to the next sequence or the end.
     Stretch(&'a str),
 }
 
-/// The pieces of a text that are left.
-#[derive(Drop)]
+/// An iterator over the pieces of a text.
+#[derive(Debug, Drop)]
 pub struct Scanner<'a> {
     rest: &'a str,
 }
@@ -75,11 +81,15 @@ impl<'a> Iterator for Scanner<'a> {
     }
 }
 
-/// The text without its sequences, as a text of its own. An error says that memory was refused.
+/// The text without its sequences, in memory of its own.
 ///
 /// ```
 /// assert_eq!(strip(alloc, "a\x1b[31\nb")?.as_str(), "a\nb");
 /// ```
+///
+/// # Errors
+///
+/// Memory was refused.
 #[tactic(auto, using(crate::proofs::lemmas::Pieces::visible_laws))]
 pub fn strip(alloc: Global, text: &str) -> Result<String, OutOfMemory>
     ensures visible { IfOk result (λ s. string_bytes s ≡ visible text.now) }
@@ -94,7 +104,16 @@ pub fn strip(alloc: Global, text: &str) -> Result<String, OutOfMemory>
     }
 }
 
-/// Writes the text without its sequences. The stretches between them go down as they are, with no copy.
+/// Writes the text without its sequences. The text between them is passed on without a copy.
+///
+/// ```
+/// write_stripped(&mut out, "\x1b[31mred\x1b[0m, plain")?;
+/// assert_eq!(out.as_str(), "red, plain");
+/// ```
+///
+/// # Errors
+///
+/// The writer's fault. It has accepted a prefix of the text.
 pub fn write_stripped<W: WriteStr>(w: &mut W, text: &str) -> Result<(), WriteFault>
     ensures { Puts W.meaning w.old (visible text.now) result w.new }
 {
@@ -105,13 +124,6 @@ pub fn write_stripped<W: WriteStr>(w: &mut W, text: &str) -> Result<(), WriteFau
     }
     Ok(())
 }
-
-/// The law of pieces: joined they are the text, and the stretches joined are what is visible of it.
-#[tactic(auto, using(crate::proofs::lemmas::Pieces::piece_laws))]
-pub fn piece_laws()
-    ensures joined { (t : List ℕ) → joined (pieces t) ≡ t }
-    ensures visible { (t : List ℕ) → stretches (pieces t) ≡ visible t }
-{}
 
 // The first piece of a text, and what follows it.
 #[tactic(auto, using(crate::proofs::lemmas::Pieces::first_piece))]
@@ -165,7 +177,7 @@ pub(crate) fn sequence_len(after: &[u8]) -> usize
     }
 }
 
-// The same, a step at a time.
+// `sequence_len`, one step at a time.
 #[inline(never)]
 #[tactic(auto, using(crate::proofs::lemmas::Cuts::ended))]
 fn stepwise_len(after: &[u8]) -> usize
@@ -185,7 +197,8 @@ fn stepwise_len(after: &[u8]) -> usize
     count
 }
 
-// How many bytes of what follows `ESC [` belong to its sequence, if no intermediates come before its final byte, as in a colour.
+// How many bytes of what follows `ESC [` belong to its sequence, if no intermediates come before
+// its final byte, as in a colour.
 #[inline(always)]
 #[tactic(auto, using(crate::proofs::lemmas::Pieces::len_laws))]
 fn colour_len(after: &[u8]) -> Option<usize>
@@ -234,7 +247,7 @@ fn is_within(low: u8, high: u8, byte: u8) -> bool
 /// The state of a scan of a sequence, after its escape character.
 #[derive(Clone, Copy)]
 pub(crate) enum State {
-    /// Nothing else is read.
+    /// No further character was read.
     Start,
     /// In a control sequence, parameters may come.
     Parameters,
@@ -334,12 +347,12 @@ pub(crate) enum Mode {
     Text,
     /// In a sequence.
     Sequence(State),
-    /// In a command, after an escape character that a backslash makes its end.
+    /// In a command, after an escape character. A backslash ends the command.
     Terminator,
 }
 
-/// The state of a scan after a character that belongs to a sequence, and `None` at one that belongs to none. So a text
-/// can be scanned in pieces, each from the state after the one before.
+/// The state of a scan after a character of a sequence; `None` for a character outside sequences. So a text can be
+/// scanned in pieces, each from the state after the one before.
 pub(crate) fn advance(mode: Mode, c: char) -> Option<Mode>
     ensures { result ≡ advanced mode c }
 {

@@ -1,11 +1,12 @@
-//! Columns of a text, and texts that are cut to some of them.
+//! The width of a text in columns, and texts that are cut to a width.
 //!
-//! A character has the columns that `unicode_width` gives it alone, a control character none, a sequence none. A cut text
-//! keeps every sequence. A text is cut while it is written, character by character, so that no memory is taken and
-//! stretches that meet across two writes are one.
+//! `unicode_width` gives the columns of each character; a control character and an escape sequence
+//! have none. A cut text keeps every sequence. A text is cut while it is written, character by
+//! character, so that nothing is allocated and it does not matter how the text is split into
+//! writes.
 
-ghost use Rattle.std.specs.Prelude.{◌≡◌, ℕ, ◌-◌, ◌^◌, ◌<◌, ◌≤◌, ◌++◌, List, false, true};
-ghost use Rattle.styled_text.specs.Names.{IsUtf8, saturated, HasNoEscape, pieces, columns, fit, shrunk, shrunk_parts, sequences, part_sequences, IsPainted, ArePainted, Puts};
+ghost use Rattle.std.specs.Prelude.{◌≡◌, ◌^◌, ◌<◌, false, true};
+ghost use Rattle.styled_text.specs.Names.{IsUtf8, saturated, columns, fit, shrunk, Puts};
 
 mod column_counter;
 mod fitted;
@@ -16,18 +17,11 @@ use fitted::Fitted;
 use writers::text::WriteText;
 use writers::write_str::{WriteFault, WriteStr};
 
-/// The laws of cut texts, where each sequence of a text ends by itself: how wide they are, and that they keep each sequence.
-#[tactic(auto, using(crate::proofs::lemmas::Widths::width_laws))]
-pub fn width_laws()
-    ensures columns { (t : List ℕ) (start end : ℕ) → IsPainted t → columns (fit t start end) ≤ end - start }
-    ensures sequences { (t : List ℕ) (start end : ℕ) → IsPainted t → sequences (pieces (fit t start end)) ≡ sequences (pieces t) }
-    ensures part_columns { (ts : List (List ℕ)) (name : List ℕ) (width : ℕ) → ArePainted ts → IsPainted name → columns (shrunk_parts ts name width) ≤ width }
-    ensures part_sequences { (ts : List (List ℕ)) (name : List ℕ) (width : ℕ) → ArePainted ts → IsPainted name → sequences (pieces (shrunk_parts ts name width)) ≡ part_sequences ts ++ sequences (pieces name) }
-    ensures plain { (t : List ℕ) → IsUtf8 t → HasNoEscape t → IsPainted t }
-    ensures joined { (a b : List ℕ) → IsPainted a → IsPainted b → IsPainted (a ++ b) }
-{}
-
 /// The columns of a text, up to `u128::MAX`. It is written once, to be counted.
+///
+/// ```
+/// assert_eq!(count_columns(&"\x1b[1mhi\x1b[0m"), 2);
+/// ```
 pub fn count_columns<T: WriteText>(part: &T) -> u128
     ensures utf8 { IsUtf8 (T.text part.now) }
     ensures value { result ≡ saturated (columns (T.text part.now)) }
@@ -39,7 +33,16 @@ pub fn count_columns<T: WriteText>(part: &T) -> u128
     }
 }
 
-/// Writes what lies between two columns of a text, and every sequence of it.
+/// Writes the part of a text from column `start` to column `end`, with every escape sequence of the text.
+///
+/// ```
+/// write_fitted(&mut out, &"abcdef", 1, 4)?;
+/// assert_eq!(out.as_str(), "bcd");
+/// ```
+///
+/// # Errors
+///
+/// The writer's fault. It has accepted a prefix of the text.
 pub fn write_fitted<T: WriteText, W: WriteStr>(
     w: &mut W,
     part: &T,
@@ -57,7 +60,11 @@ pub fn write_fitted<T: WriteText, W: WriteStr>(
     result
 }
 
-/// Writes a text of this width, or its front if there is less room.
+/// Writes a text of this width, or its first `room` columns if it is wider.
+///
+/// # Errors
+///
+/// The writer's fault. It has accepted a prefix of the text.
 #[tactic(auto, using(std::proofs::lemmas::Bool::Decides::nat_tests))]
 pub fn write_front<T: WriteText, W: WriteStr>(
     w: &mut W,
@@ -76,7 +83,11 @@ pub fn write_front<T: WriteText, W: WriteStr>(
     write_fitted(w, part, 0, room)
 }
 
-/// Writes a text of this width, or its end if there is less room.
+/// Writes a text of this width, or its last `room` columns if it is wider.
+///
+/// # Errors
+///
+/// The writer's fault. It has accepted a prefix of the text.
 #[tactic(auto, using(std::proofs::lemmas::Bool::Decides::nat_tests))]
 pub fn write_back<T: WriteText, W: WriteStr>(
     w: &mut W,

@@ -1,10 +1,10 @@
 //! Indentation of each line of a text, as it is written.
 //!
-//! The main type is [`Indented`], which wraps a writer. Only the whole text that is written counts: however it is cut
-//! into calls, the writer below gets the same bytes.
+//! The main type is [`Indented`], which wraps a writer. It does not matter how a text is split into
+//! calls.
 
 ghost use Rattle.std.specs.Prelude.{◌≡◌, true, codes};
-ghost use Rattle.styled_text.specs.Names.{option_map, indent, IndentsInPieces, IndentsByBytes};
+ghost use Rattle.styled_text.specs.Names.{option_map, indent};
 
 use std::fmt;
 use std::fmt::{Formatter, Write};
@@ -32,7 +32,12 @@ pub fn indented<W>(inner: &mut W) -> Indented<'_, W>
     }
 }
 
-/// An item whose text is indented where it is displayed, like an error of several lines.
+/// An item whose lines are indented when it is displayed, such as an error of several lines.
+///
+/// ```
+/// let shown = DisplayIndented { item: "a\nb", indent: "> " };
+/// assert_eq!(shown.to_string(alloc)?.as_str(), "> a\n> b");
+/// ```
 #[derive(Clone, Copy, Debug, Drop)]
 pub struct DisplayIndented<T> {
     /// What is displayed.
@@ -52,10 +57,3 @@ impl<T: fmt::Display> fmt::Display for DisplayIndented<T> {
         result
     }
 }
-
-/// The law of indentation: a text may be cut anywhere, and a scan with one flag indents it.
-#[tactic(auto, using(crate::proofs::lemmas::Indents::onward))]
-pub fn indent_laws()
-    ensures pieces { IndentsInPieces }
-    ensures bytes { IndentsByBytes }
-{}

@@ -1,7 +1,7 @@
-//! The texts that know nothing of a run: styles, escape sequences, lines, indentation, columns, numbers.
+//! Texts that do not depend on a run: styles, escape sequences, lines, indentation, columns, numbers.
 //!
-//! Each function that writes takes a [`writers::write_str::WriteStr`] and has one clause: what was written, or a beginning of it
-//! where a fault came. No function here allocates while it writes.
+//! Each function that writes takes a [`writers::write_str::WriteStr`] and has one clause: the text was
+//! written, or a prefix of it if the writer had a fault. No function here allocates while it writes.
 #![tactic(auto)]
 
 mod blocks;
@@ -9,6 +9,7 @@ pub mod decimal;
 pub mod escapes;
 pub mod fitting;
 pub mod indenter;
+pub mod laws;
 pub mod lines;
 pub mod numbers;
 pub mod repeated;

@@ -8,6 +8,10 @@ use std::str;
 use writers::write_str::{WriteFault, WriteStr};
 
 /// The nearest whole number of units, ties up. No sum overflows, even at the greatest number.
+///
+/// ```
+/// assert_eq!(round_to(10, 25), 3);
+/// ```
 pub fn round_to(unit: u128, n: u128) -> u128
     requires even { unit % 2 ≡ 0 }
     requires above { 1 < unit }
@@ -84,6 +88,10 @@ fn char_count(text: &str) -> usize
 }
 
 /// Writes a text right-aligned in the given number of columns, one for each character.
+///
+/// # Errors
+///
+/// The writer's fault. It has accepted a prefix of the text.
 #[tactic(auto, unfolding(crate::specs::Texts::right_in))]
 pub fn write_right<W: WriteStr>(w: &mut W, columns: usize, text: &str) -> Result<(), WriteFault>
     ensures { Puts W.meaning w.old (right_in columns text.now) result w.new }
@@ -100,6 +108,10 @@ pub fn write_right<W: WriteStr>(w: &mut W, columns: usize, text: &str) -> Result
 /// write_bracketed_seconds(&mut out, 5_000_000)?;
 /// assert_eq!(out.as_str(), "[   0.005s] ");
 /// ```
+///
+/// # Errors
+///
+/// The writer's fault. It has accepted a prefix of the text.
 pub fn write_bracketed_seconds<W: WriteStr>(w: &mut W, nanos: u128) -> Result<(), WriteFault>
     ensures { Puts W.meaning w.old (codes "[" ++ (right_in 8 (seconds 3 nanos) ++ codes "s] ")) result w.new }
 {
@@ -158,6 +170,10 @@ fn digit_or_space(number: u32, power: u32) -> u8
 /// write_seconds_between(&mut out, "[", 8, 5_000_000, "s] ")?;
 /// assert_eq!(out.as_str(), "[   0.005s] ");
 /// ```
+///
+/// # Errors
+///
+/// The writer's fault. It has accepted a prefix of the text.
 pub fn write_seconds_between<W: WriteStr>(
     w: &mut W,
     before: &str,
@@ -174,6 +190,10 @@ pub fn write_seconds_between<W: WriteStr>(
 }
 
 /// Writes nanoseconds as seconds with three decimals.
+///
+/// # Errors
+///
+/// The writer's fault. It has accepted a prefix of the text.
 #[tactic(auto, unfolding(writers::specs::Texts::plain, crate::specs::Numbers::seconds, crate::specs::Numbers::with_point))]
 pub fn write_seconds<W: WriteStr>(w: &mut W, nanos: u128) -> Result<(), WriteFault>
     ensures { Puts W.meaning w.old (plain (seconds 3 nanos)) result w.new }
@@ -228,7 +248,7 @@ fn write_decimals<W: WriteStr>(w: &mut W, thousandths: u32) -> Result<(), WriteF
     w.write_str(unsafe { str::from_utf8_unchecked(&digits) })
 }
 
-// The columns that four texts leave.
+// The columns that remain after four texts.
 #[tactic(auto, using(crate::proofs::lemmas::Decimals::joined_columns))]
 pub(crate) fn columns_left(
     columns: usize,

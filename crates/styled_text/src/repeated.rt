@@ -5,6 +5,15 @@ ghost use Rattle.{std.specs.Prelude.encode_utf8, styled_text.specs.Names.repeat,
 use writers::write_str::{WriteFault, WriteStr};
 
 /// Writes the character the given number of times.
+///
+/// ```
+/// write_repeated(&mut out, 3, '-')?;
+/// assert_eq!(out.as_str(), "---");
+/// ```
+///
+/// # Errors
+///
+/// The writer's fault. It has accepted a prefix of the text.
 pub fn write_repeated<W: WriteStr>(
     w: &mut W,
     count: usize,

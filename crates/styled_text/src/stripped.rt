@@ -11,9 +11,18 @@ use crate::trailing_newline::TrailingNewline;
 use gathered_pieces::GatheredPieces;
 use writers::write_str::{WriteFault, WriteStr};
 
-/// Writes a text without its escape sequences, and without a line feed that closes the rest.
+/// Writes a text without its escape sequences, and then without a trailing line feed.
 ///
 /// A sequence is scanned as a whole, and stretches between sequences are written together. It allocates nothing.
+///
+/// ```
+/// write_stripped_text(&mut out, "\x1b[31mred\x1b[0m\n")?;
+/// assert_eq!(out.as_str(), "red");
+/// ```
+///
+/// # Errors
+///
+/// The writer's fault. It has accepted a prefix of the text.
 #[tactic(auto, using(crate::proofs::lemmas::Pieces::fronts))]
 pub fn write_stripped_text<W: WriteStr>(w: &mut W, text: &str) -> Result<(), WriteFault>
     ensures { Puts W.meaning w.old (without_trailing_newline (visible text.now)) result w.new }

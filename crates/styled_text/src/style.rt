@@ -14,6 +14,11 @@ use writers::write_str::{WriteFault, WriteStr};
 pub const RESET_COLOR: &str = "\x1b[0m";
 
 /// How a text is shown.
+///
+/// ```
+/// Style::BoldGreen.write(&mut out, "PASS")?;
+/// assert_eq!(out.as_str(), "\x1b[32;1mPASS\x1b[0m");
+/// ```
 #[derive(Clone, Copy, Debug, Default, PartialEq, Eq)]
 pub enum Style {
     /// As it is.
@@ -46,6 +51,10 @@ impl Style {
     }
 
     /// The prefix of a text in this style: ESC `[` code `m`, or nothing.
+    ///
+    /// ```
+    /// assert_eq!(Style::Cyan.prefix(), "\x1b[36m");
+    /// ```
     pub fn prefix(self) -> &'static str
         ensures { result.now ≡ style_prefix self }
     {
@@ -73,6 +82,15 @@ impl Style {
     }
 
     /// Writes a text in this style.
+    ///
+    /// ```
+    /// Style::Plain.write(&mut out, "PASS")?;
+    /// assert_eq!(out.as_str(), "PASS");
+    /// ```
+    ///
+    /// # Errors
+    ///
+    /// The writer's fault. It has accepted a prefix of the text.
     #[tactic(auto, unfolding(crate::specs::Style::styled))]
     #[inline(always)]
     pub fn write<W: WriteStr>(self, w: &mut W, text: &str) -> Result<(), WriteFault>
@@ -95,6 +113,15 @@ impl Style {
     }
 
     /// Writes a number in decimal in this style.
+    ///
+    /// ```
+    /// Style::Bold.write_number(&mut out, 12)?;
+    /// assert_eq!(out.as_str(), "\x1b[1m12\x1b[0m");
+    /// ```
+    ///
+    /// # Errors
+    ///
+    /// The writer's fault. It has accepted a prefix of the text.
     #[tactic(auto, unfolding(crate::specs::Style::styled))]
     pub fn write_number<W: WriteStr>(self, w: &mut W, number: u128) -> Result<(), WriteFault>
         ensures { Puts W.meaning w.old (styled self (decimal number)) result w.new }
@@ -109,6 +136,15 @@ impl Style {
     }
 
     /// Writes a text right-aligned in the given number of columns.
+    ///
+    /// ```
+    /// Style::Plain.write_right(&mut out, 12, "PASS")?;
+    /// assert_eq!(out.as_str(), "        PASS");
+    /// ```
+    ///
+    /// # Errors
+    ///
+    /// The writer's fault. It has accepted a prefix of the text.
     #[tactic(auto, unfolding(crate::specs::Style::styled))]
     pub fn write_right<W: WriteStr>(
         self,
@@ -153,6 +189,13 @@ impl ListStyles {
 }
 
 /// The styles of a report. By default all are plain.
+///
+/// ```
+/// let mut styles = Styles::default();
+/// assert_eq!(styles.fail, Style::Plain);
+/// styles.colorize();
+/// assert_eq!(styles.fail, Style::BoldRed);
+/// ```
 #[derive(Clone, Copy, Debug, Default, PartialEq, Eq)]
 pub struct Styles {
     /// Whether the styles are colours.

@@ -10,7 +10,13 @@ use writers::text::WriteText;
 use writers::write_str::{WriteFault, WriteStr};
 
 /// A text in a style.
-#[derive(Clone, Copy)]
+///
+/// ```
+/// use styled_text::style::Style;
+/// Toned(Style::Bold, "3").write_to(&mut out)?;
+/// assert_eq!(out.as_str(), "\x1b[1m3\x1b[0m");
+/// ```
+#[derive(Clone, Copy, Debug)]
 pub struct Toned<'a>(pub Style, pub &'a str);
 
 impl WriteText for Toned<'_> {
@@ -23,7 +29,7 @@ impl WriteText for Toned<'_> {
 }
 
 /// A text of several parts in a style.
-#[derive(Clone, Copy, Drop)]
+#[derive(Clone, Copy, Debug, Drop)]
 pub struct Painted<T>(pub Style, pub T);
 
 impl<T: WriteText> WriteText for Painted<T> {
@@ -42,7 +48,7 @@ impl<T: WriteText> WriteText for Painted<T> {
 }
 
 /// A number in a style.
-#[derive(Clone, Copy)]
+#[derive(Clone, Copy, Debug)]
 pub struct Number(pub Style, pub u128);
 
 impl WriteText for Number {
@@ -54,7 +60,7 @@ impl WriteText for Number {
 }
 
 /// A text right-aligned in the given number of columns, with the padding inside the style.
-#[derive(Clone, Copy)]
+#[derive(Clone, Copy, Debug)]
 pub struct Right<'a>(pub usize, pub Style, pub &'a str);
 
 impl WriteText for Right<'_> {
@@ -71,7 +77,7 @@ impl WriteText for Right<'_> {
 /// RightJoined(12, "TRY ", "2", " ", "FAIL").write_to(&mut out)?;
 /// assert_eq!(out.as_str(), "  TRY 2 FAIL");
 /// ```
-#[derive(Clone, Copy)]
+#[derive(Clone, Copy, Debug)]
 pub struct RightJoined<'a>(
     pub usize,
     pub &'a str,
@@ -95,7 +101,7 @@ impl WriteText for RightJoined<'_> {
 }
 
 /// Nanoseconds as seconds with three decimals.
-#[derive(Clone, Copy)]
+#[derive(Clone, Copy, Debug)]
 pub struct Seconds(pub u128);
 
 impl WriteText for Seconds {
@@ -108,7 +114,12 @@ impl WriteText for Seconds {
 }
 
 /// A text with a margin before each line that is not empty.
-#[derive(Clone, Copy, Drop)]
+///
+/// ```
+/// Indent("  ", ("a\n", "b")).write_to(&mut out)?;
+/// assert_eq!(out.as_str(), "  a\n  b");
+/// ```
+#[derive(Clone, Copy, Debug, Drop)]
 pub struct Indent<'a, T>(pub &'a str, pub T);
 
 impl<T: WriteText> WriteText for Indent<'_, T> {
@@ -124,7 +135,7 @@ impl<T: WriteText> WriteText for Indent<'_, T> {
 }
 
 /// A text with a margin before each line but the first.
-#[derive(Clone, Copy, Drop)]
+#[derive(Clone, Copy, Debug, Drop)]
 pub struct IndentLater<'a, T>(pub &'a str, pub T);
 
 impl<T: WriteText> WriteText for IndentLater<'_, T> {

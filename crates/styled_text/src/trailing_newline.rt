@@ -1,13 +1,13 @@
-//! A text that comes in pieces, without a line feed that closes it.
+//! A text that is written in pieces, without its trailing line feed.
 
 ghost use Rattle.std.specs.Prelude.{◌≡◌, ◌++◌, false, OnOk};
 ghost use Rattle.styled_text.specs.Names.{without_trailing_newline, ends_in_line_feed, held, Puts};
 
 use writers::write_str::{WriteFault, WriteStr};
 
-/// Writes a text that comes in pieces, without a line feed that closes it.
+/// Writes a text in pieces, without its trailing line feed.
 ///
-/// A line feed at the end of a piece is held back until more follows. It allocates nothing: slices of the pieces are passed on.
+/// A line feed at the end of a piece is held back until more follows. It allocates nothing.
 ///
 /// ```
 /// let mut trailing_newline = TrailingNewline::new();
@@ -16,7 +16,7 @@ use writers::write_str::{WriteFault, WriteStr};
 /// trailing_newline.write(&mut out, "b\n")?;
 /// assert_eq!(out.as_str(), "a\nb");
 /// ```
-#[derive(Clone, Copy, Default, PartialEq, Eq)]
+#[derive(Clone, Copy, Debug, Default, PartialEq, Eq)]
 pub struct TrailingNewline {
     is_held: bool,
 }
@@ -58,7 +58,7 @@ fn write_held<W: WriteStr>(w: &mut W, is_held: bool) -> Result<(), WriteFault>
     Ok(())
 }
 
-/// A text without one line feed that closes it, and whether one does.
+/// A text without one trailing line feed, and whether it had one.
 ///
 /// ```
 /// assert_eq!(split_trailing_newline("a\n\n"), ("a\n", true));

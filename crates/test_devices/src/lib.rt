@@ -1,4 +1,4 @@
-//! A device for tests, which fails at a given call. It has its own crate, so that all crates of tests have the same one.
+//! A device for tests, which fails at a given call. All crates of tests share it.
 #![tactic(auto)]
 
 ghost use Rattle.std.specs.Prelude.{◌≤◌, IfOk, length};
@@ -21,7 +21,7 @@ pub enum Failure {
     FlushError,
 }
 
-/// A device for tests: it takes at most [`BYTES_AT_ONCE`] a call, and fails from a call of its on, in a chosen way.
+/// A device for tests: it takes at most [`BYTES_AT_ONCE`] a call, and from a given call on it fails.
 #[derive(Debug, Drop)]
 pub struct Device {
     taken: Vec<u8>,
@@ -34,7 +34,7 @@ pub struct Device {
 }
 
 impl Device {
-    /// One that works for this many of the calls that can fail, and fails then.
+    /// One whose calls fail after this many of them succeeded. Only calls that `failure` names count.
     ///
     /// ```
     /// use std::io::Write;
@@ -54,7 +54,7 @@ impl Device {
         }
     }
 
-    /// One that works, but whose every write and every flush is interrupted so often first.
+    /// One that works, but whose every write and every flush is interrupted this many times first.
     ///
     /// ```
     /// use std::io::Write;
@@ -70,8 +70,7 @@ impl Device {
         }
     }
 
-    /// One that takes this many bytes, and whose writes fail then. It has their memory from the start, and allocates nothing as it takes them.
-    /// The error is that this memory was refused.
+    /// One that takes this many bytes, and whose writes then fail. The memory is reserved here, and no write allocates.
     ///
     /// ```
     /// use std::io::Write;
@@ -79,6 +78,10 @@ impl Device {
     /// assert!(device.write_all(b"passed, failed").is_err());
     /// assert_eq!(device.taken(), b"passed, fa".as_slice());
     /// ```
+    ///
+    /// # Errors
+    ///
+    /// The memory was refused.
     pub fn with_room(alloc: Global, room: usize) -> Result<Device, AllocError> {
         Ok(Device {
             taken: Vec::with_capacity(alloc, room)?,
@@ -91,7 +94,7 @@ impl Device {
         })
     }
 
-    /// The same, whose errors are of this kind. Without this they are `Other`.
+    /// Sets the kind of its errors, which is `Other` at first.
     ///
     /// ```
     /// use std::io::{ErrorKind, Write};
@@ -116,7 +119,7 @@ impl Device {
         Ok(())
     }
 
-    // Interrupts a call, so often before one works.
+    // Interrupts a call, `interrupts` times before one works.
     fn interrupt(&mut self) -> io::Result<()> {
         if self.interrupts_left > 0 {
             self.interrupts_left -= 1;
@@ -126,7 +129,7 @@ impl Device {
         Ok(())
     }
 
-    // Takes the front of these bytes, where there is room.
+    // Takes the first of these bytes, as many as there is room for.
     fn take(&mut self, buf: &[u8]) -> io::Result<usize>
         ensures { IfOk result (λ n. n ≤ length buf.now) }
     {

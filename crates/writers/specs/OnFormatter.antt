@@ -4,7 +4,7 @@ use Rattle.std.specs.{Fmt.HasWritten, Fmt.IsPlainFormatter, declared.fmt.Formatt
 use Rattle.writers.specs.Writer.{Meaning, WriterLaws, successor}
 use Rattle.writers.specs.{declared.write_str.WriteFault.WriteFault, declared.write_str.on_formatter.OnFormatter.OnFormatter, declared.write_str.WriteFault.TheVariants.Memory, declared.write_str.WriteFault.TheVariants.Device}
 
--- steps, and then more steps
+-- the steps of two lists, in sequence, are those of the joined list
 pub folds_append : {W : Type 0} (took : W → List ℕ → W → Type 0) (s t u : W) (xs ys : List (List ℕ)) → FoldsTo took s xs t → FoldsTo took t ys u → FoldsTo took s (xs ++ ys) u
 folds_append took s t u [] ys p q = subst (λ x. FoldsTo took x ys u) (sym p) q
 folds_append took s t u (x ∷ xs) ys p q = (p.0, p.1, folds_append took p.0 t u xs ys p.2 q)

@@ -11,20 +11,20 @@ pub record GrowsWithin (old new text : List ℕ) : Type 0 where
   pub whole : text ≡ front ++ rest
   pub grown : new ≡ old ++ front
 
--- The device holds what it held and then what it took since; followed by what is pending, that is what was pending and the text.
+-- What the device took, followed by what is pending now, is what was pending before, followed by the text.
 pub record Delivers (old held new pending text : List ℕ) : Type 0 where
   pub taken : List ℕ
   pub device : new ≡ old ++ taken
   pub rest : taken ++ pending ≡ held ++ text
 
--- and this is a prefix of the text
+-- `Delivers`, of a prefix of the text
 pub record DeliversWithin (old held new pending text : List ℕ) : Type 0 where
   pub front : List ℕ
   pub rest : List ℕ
   pub whole : text ≡ front ++ rest
   pub delivers : Delivers old held new pending front
 
--- what a device holds stays, and more may follow
+-- what the device held is a prefix of what it holds
 pub record Holds (old new : Option (List ℕ)) : Type 0 where
   pub more : List ℕ
   pub grown : Appends old new more

@@ -4,10 +4,10 @@ use Rattle.std.specs.{Prelude.ℕ, Prelude.List, List.flat_map, Borrow.Bor}
 abbrev pub Text : Type 0
 Text = List ℕ
 
--- a text as it is: a word that a proof treats as a whole
+-- the text itself, by a definition that a proof need not unfold
 unfoldable pub plain : Text → Text
 plain t = t
 
--- the texts behind these references, joined
+-- the texts of these references, joined
 abbrev pub strs : List (Bor Text) → Text
 strs ss = flat_map (λ s. s.now) ss

@@ -3,13 +3,14 @@ use Rattle.std.specs.Prelude.{◌≡◌, ℕ, ◌+◌, ◌%◌, ◌^◌, List, [
 use Rattle.std.specs.Io.KnownBytes.{Appends}
 use Rattle.writers.specs.declared.write_str.WriteFault.{WriteFault, TheVariants.Device, TheVariants.Memory}
 
--- what "accepted", "delivered" and a fault mean for one type of writer: for a `String`, `accepts old text new` is `new ≡ old ++ text`
+-- what "accepted", "delivered" and a fault mean for one type of writer: for a `String`, `accepts old text new` is
+-- `new ≡ old ++ text`
 pub record Meaning (S : Type 0) : Type 1 where
-  -- from the first writer, the text was accepted, and led to the second
+  -- the first writer accepted the text and became the second
   pub accepts : S → List ℕ → S → Type 0
-  -- from the first writer, a fault stopped the text, of which a prefix was accepted, and led to the second
+  -- the first writer accepted a prefix of the text, had this fault and became the second
   pub stops : S → List ℕ → WriteFault → S → Type 0
-  -- the text that was accepted, for an indenting writer by the one below, if it is known
+  -- the text that was accepted so far, if it is known; of an indenting writer, what the writer below accepted
   pub text : S → Option (List ℕ)
   -- what accepting a text adds to that
   pub adds : S → List ℕ → List ℕ
@@ -24,11 +25,11 @@ pub record Meaning (S : Type 0) : Type 1 where
 abbrev pub successor : ℕ → ℕ
 successor n = (n + 1) % 2 ^ 64
 
--- From old to new, the text was accepted if r is `Ok`; if r is a fault, it stopped the text.
+-- A write of the text had the result r, and old became new.
 abbrev pub Puts : {S : Type 0} → Meaning S → S → List ℕ → Result (Unit {0}) WriteFault → S → Type 0
 Puts m old text r new = MatchResult r (λ _. m.accepts old text new) (λ e. m.stops old text e new)
 
--- to write the rest from b is to write the text from a
+-- writing `rest` to b completes writing `text` to a
 abbrev pub Owes : {S : Type 0} → Meaning S → S → List ℕ → S → List ℕ → Type 0
 Owes {S} m a text b rest = (r : Result (Unit {0}) WriteFault) (c : S) → Puts m b rest r c → Puts m a text r c
 
@@ -44,9 +45,9 @@ pub record WriterLaws {S : Type 0} (m : Meaning S) : Type 0 where
   pub nothing : (a : S) → m.accepts a [] a
   -- two acceptances in sequence are one of the joined text
   pub joins : (a b c : S) (t u : List ℕ) → m.accepts a t b → m.accepts b u c → m.accepts a (t ++ u) c
-  -- what stops a text after another stops the joined text
+  -- a fault in the second of two texts is one in the joined text
   pub goes_on : (a b c : S) (t u : List ℕ) (e : WriteFault) → m.accepts a t b → m.stops b u e c → m.stops a (t ++ u) e c
-  -- a prefix of a text is one of a longer text
+  -- a fault in a text is one in a longer text
   pub stops_within : (a b : S) (t u : List ℕ) (e : WriteFault) → m.stops a t e b → m.stops a (t ++ u) e b
   -- the accepted text grows by what is added, and at a fault by a prefix of it
   pub grows : (a b : S) (t : List ℕ) → m.accepts a t b → Appends (m.text a) (m.text b) (m.adds a t)

@@ -6,7 +6,7 @@ ghost use Rattle.{std.specs.Option.option_map_or, std.specs.Fmt.decimal, writers
 use crate::write_str::{WriteFault, WriteStr};
 use itoa::Buffer;
 
-/// A text that can be written more than once, each time the same.
+/// A value that is written as a text, the same each time.
 ///
 /// ```
 /// (Decimal(2), " tests", Unless(is_quiet, ", of which none failed")).write_to(&mut out)?;
@@ -17,6 +17,10 @@ pub trait WriteText {
     ghost text: { Self → List ℕ };
 
     /// Writes the text.
+    ///
+    /// # Errors
+    ///
+    /// The writer's fault. It has accepted a prefix of the text.
     fn write_to<W: WriteStr>(&self, w: &mut W) -> Result<(), WriteFault>
         ensures { Puts W.meaning w.old (text self.now) result w.new };
 }
@@ -116,7 +120,7 @@ impl<A: WriteText, B: WriteText, C: WriteText, D: WriteText, E: WriteText, F: Wr
 }
 
 /// A text, unless this is true.
-#[derive(Clone, Copy, Drop)]
+#[derive(Clone, Copy, Debug, Drop)]
 pub struct Unless<T>(pub bool, pub T);
 
 impl<T: WriteText> WriteText for Unless<T> {
@@ -129,7 +133,7 @@ impl<T: WriteText> WriteText for Unless<T> {
 }
 
 /// A text, if this is true.
-#[derive(Clone, Copy, Drop)]
+#[derive(Clone, Copy, Debug, Drop)]
 pub struct When<T>(pub bool, pub T);
 
 impl<T: WriteText> WriteText for When<T> {
@@ -142,7 +146,7 @@ impl<T: WriteText> WriteText for When<T> {
 }
 
 /// A number in decimal.
-#[derive(Clone, Copy)]
+#[derive(Clone, Copy, Debug)]
 pub struct Decimal(pub u128);
 
 impl WriteText for Decimal {

@@ -1,4 +1,4 @@
-//! Statuses that take the place of others, and allocate nothing: a call can be made of an event where the last one stood.
+//! Statuses that are replaced in place, without allocating: an event can be made in the memory of the one before.
 
 ghost use Rattle.std.specs.Prelude.{◌≡◌, IsTrue, [], false};
 ghost use Rattle.std.specs.Option.{unwrap_or};
@@ -11,8 +11,9 @@ use crate::output::{ChildOutputDescription, LiveSpec};
 use run_names::time::Nanos;
 
 impl ExecutionResultDescription {
-    /// Makes it a copy of another one and returns true, if that is a pass or a failure with an exit code, as most are; else it returns
-    /// false and stays as it is. It allocates nothing.
+    /// Copies `other` and returns true if that is a pass or a failure with an exit code, which allocates nothing.
+    /// Otherwise it changes nothing and returns false. Only the programs that read scenes need it.
+    #[doc(hidden)]
     #[inline(always)]
     pub fn replace(&mut self, other: &Self) -> bool
         ensures copied { IsTrue result → self.new ≡ other.now }
@@ -39,9 +40,11 @@ impl ExecutionResultDescription {
 }
 
 impl ExecutionStatuses<LiveSpec> {
-    /// Turns them into a test whose only attempt ended with this result and wrote `captured` or nothing, and returns true. It allocates
-    /// nothing, so this works only for one attempt without errors that passed or failed with an exit code. Otherwise it
-    /// returns false, and their value is unspecified.
+    /// Turns them into a single attempt that ended with `outcome` and wrote `captured` or nothing, and returns true.
+    ///
+    /// It allocates nothing, so it works only on a single attempt without errors, and if `outcome` is a pass or an exit
+    /// code. Otherwise it returns false, and the value is unspecified. Only the programs that read scenes need it.
+    #[doc(hidden)]
     #[inline(always)]
     pub fn replace_only(
         &mut self,

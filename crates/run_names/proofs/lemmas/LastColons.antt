@@ -3,7 +3,7 @@ use Rattle.std.proofs.Common.{◌≡◌, ◌≢◌, ℕ, zero, suc, ◌+◌, ◌
 use Rattle.std.{specs.Str.Pattern.RFindsText, specs.Str.Pattern.LacksTextAt, specs.Str.Pattern.SplitsAroundMatch, proofs.lemmas.Bool.cases_lt, proofs.lemmas.Bool.Decides.eqb_tells, proofs.lemmas.List.drop_all}
 use Rattle.run_names.specs.Names.{begins_with_colons, last_colons, module_path_of, last_name_of}
 
--- no place has them
+-- where no index has `::`, there is no last one
 last_colons-none : (t : List ℕ) → ((k : ℕ) → begins_with_colons (drop k t) ≡ false) → last_colons t ≡ None
 unfolding last_colons
 last_colons-none [] lacks = refl
@@ -12,7 +12,7 @@ last_colons-none (c ∷ t) lacks =
     let here : begins_with_colons (c ∷ t) ≡ false = lacks 0 in
     rw (later, here) refl
 
--- a place has them, and no later one
+-- an index that has `::`, with none after it, is the last one
 last_colons-some : (t : List ℕ) (i : ℕ) → begins_with_colons (drop i t) ≡ true → ((k : ℕ) → i < k → begins_with_colons (drop k t) ≡ false) → last_colons t ≡ Some i
 unfolding last_colons
 last_colons-some [] zero here_is lacks = cc
@@ -35,7 +35,7 @@ lacks_colons (c ∷ d ∷ t) lacks = elim (eqb_tells c 58) [
 has_colons : (u rest : List ℕ) → u ≡ 58 ∷ 58 ∷ rest → begins_with_colons u ≡ true
 has_colons u rest h = rw h refl
 
--- places past the end have none
+-- past the end there is no `::`
 lacks_at : (t : List ℕ) (k : ℕ) → (k ≤ length t → LacksTextAt (58 ∷ 58 ∷ []) t k) → begins_with_colons (drop k t) ≡ false
 lacks_at t k lacks = elim (cases_lt (length t) k) [ inl past ↦ rw (drop_all k t (omega arith)) refl | inr within ↦ lacks_colons (drop k t) (lacks within) ]
 

@@ -5,7 +5,7 @@ use Rattle.std.proofs.lemmas.Str.{chars-IsAscii, IsAscii-append, IsUtf8-from_asc
 use Rattle.std.proofs.lemmas.{Bool.cases_lt, Bool.Decides.nat_tests, List.replicate-append-replicate}
 use Rattle.std.proofs.lemmas.Fmt.{IsAscii-decimal_wide, decimal_digit, decimal_step}
 
--- one byte, and a list with one more in front
+-- one byte, and a list with one more before it
 pub IsAscii-cons : (c : ℕ) (t : Text) → c < 128 → IsAscii t → IsAscii (c ∷ t)
 IsAscii-cons c t h rest zero = h
 IsAscii-cons c t h rest (suc i) = rest i
@@ -88,7 +88,7 @@ IsUtf8-row whole r a b c p q s =
     IsUtf8-from_ascii (row_of whole r a b c)
     (ascii_each (row_of whole r a b c) (lit< tt, (rw p (digit_column-small whole 1000), (rw q (digit_column-small whole 100), (rw s (digit_column-small whole 10), (omega arith, (lit< tt, thousandths)))))))
 
--- they are what the definition says
+-- these bytes are those of the definition
 pub bracketed-row : (n whole r a b c : ℕ) → n < 9999000000000 → r ≡ rounded 1000000 n → whole ≡ r / 1000 → a ≡ digit_column whole 1000 → b ≡ digit_column whole 100 → c ≡ digit_column whole 10
     → row_of whole r a b c ≡ codes "[" ++ (right_in 8 (seconds 3 n) ++ codes "s] ")
 bracketed-row n whole r a b c h is over p q s =

@@ -45,7 +45,7 @@ module _ (start end : ℕ) where
   kept_chars-cons : (pos c : ℕ) (cs : List ℕ) → encode_utf8_all (kept_chars start end pos (c ∷ cs)) ≡ cond (nat_le start pos && nat_le (pos + char_columns c) end) (encode_utf8 c) [] ++ encode_utf8_all (kept_chars start end (pos + char_columns c) cs)
   kept_chars-cons pos c cs = grind (arith, nat_tests)
 
-  -- after a stretch, of which this front is kept
+  -- after a stretch whose prefix of this length is kept
   record Passed (is_open : Bool) (front : Text) (place pos : ℕ) (cs : List ℕ) (ms : List Mark) : Type 0 where
     next : ℕ
     is_place : IsPlace next (pos + columns_of cs)

@@ -1,4 +1,4 @@
--- Indentation, and texts that are alike (for `colour_pair-indent`).
+-- Indentation of texts that are equal but for end spaces (for `colour_pair-indent`).
 use Rattle.std.proofs.Common.{length, arith, append_assoc, ap₂, ◌≢◌, ◌≡◌, ℕ, zero, suc, Bool, true, false, cond, ◌&&◌, ◌==◌, List, [], ◌∷◌, ◌++◌, map, refl, sym, ◌∙◌, ap, inl, inr, append-nil}
 use Rattle.styled_text.specs.Names.{AllByRecursion, onto_first, join_with_byte, Text, sequence_len, visible_after, visible, HasNoEscape, lines, indented_line, indented_lines, indent, ends_line}
 use Rattle.styled_text.specs.Names.{without_end_spaces, IsEqualButEndSpaces}
@@ -105,7 +105,7 @@ end_spaces-by_lines : IsByLines without_end_spaces
 unfolding without_end_spaces
 end_spaces-by_lines = by_lines without_end_spaces refl end_spaces-line line-end_spaces
 
--- lines that are alike one by one
+-- lines that are equal but for end spaces, one by one
 abbrev AreEqualButEndSpaces : List Text → List Text → Type 0
 AreEqualButEndSpaces ls ms = map without_end_spaces ls ≡ map without_end_spaces ms
 
@@ -134,7 +134,7 @@ visible-indented_lines : (p : Text) (b : Bool) (ls : List Text) → HasNoEscape 
 visible-indented_lines p b [] h blank = refl
 visible-indented_lines p b (l ∷ ls) h blank = ap₂ (λ x xs. x ∷ xs) (visible-indented_line p b l h blank) (visible-indented_lines p true ls h blank)
 
--- the visible part of an indented text is alike the indented visible text
+-- the visible part of an indented text is the indented visible text, but for end spaces
 pub indent-visible : (p : Text) (b : Bool) (t : Text) → HasNoEscape p → IsBlank p → IsEqualButEndSpaces (visible (indent p b t)) (indent p b (visible t))
 unfolding indent
 indent-visible p b t h blank =
@@ -159,7 +159,7 @@ indented_lines-alike p b (l ∷ ls) (m ∷ ms) blank h =
     let first : IsEqualButEndSpaces l m = cc in let rest : AreEqualButEndSpaces ls ms = cc in
     ap₂ (λ x xs. x ∷ xs) (indented_line-alike p b l m blank first) (indented_lines-alike p true ls ms blank rest)
 
--- texts that are alike are so when they are indented
+-- texts that are equal but for end spaces are so when they are indented
 pub indent-alike : (p : Text) (b : Bool) (t u : Text) → IsBlank p → IsEqualButEndSpaces t u → IsEqualButEndSpaces (indent p b t) (indent p b u)
 unfolding indent
 indent-alike p b t u blank h = alike-joined (indented_lines p b (lines t)) (indented_lines p b (lines u)) (indented_lines-alike p b (lines t) (lines u) blank (lines-alike t u h))

@@ -19,7 +19,7 @@ stretch_len-cut c (d ∷ t) = elim (eqb_tells d 27) [
   | inr n ↦ rw n.0 (cut_on c d t (front_len is_visible t) (stretch_len-cut d t))
 ]
 
--- a text may be cut at such a place
+-- an index at which a text may be split
 pub boundary : (c : ℕ) (t : Text) (n : ℕ) → IsUtf8 (c ∷ t) → IsCut c t n → IsCharBoundary (c ∷ t) (n + 1)
 boundary c t n u (h, inl a) = IsCharBoundary-after_ascii (c ∷ t) n u (omega arith) a
 boundary c t n u (h, inr b) = (omega arith, rw add-one (λ x y. absurd (omega (arith, b, x, y))))
@@ -194,7 +194,7 @@ pub ruleset fronts = (visible-front, visible-stretch, visible-sequence, front_bo
 pub front_len-on : (p : ℕ → Bool) (t : Text) (i none : ℕ) → i < length t → p (get_or t i none) ≡ true → front_len p (drop i t) ≡ suc (front_len p (drop (i + 1) t))
 front_len-on p t i none h e = rw (drop-cons t i none, e, add-one) refl
 
--- it ends at one that does not, or with the text
+-- a run ends at a byte that does not pass, or with the text
 pub front_len-off : (p : ℕ → Bool) (t : Text) (i none : ℕ) → i < length t → p (get_or t i none) ≡ false → front_len p (drop i t) ≡ 0
 front_len-off p t i none h e = rw (drop-cons t i none, e) refl
 

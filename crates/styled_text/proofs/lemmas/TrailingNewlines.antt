@@ -133,7 +133,7 @@ module _ {S : Type 0} {m : Meaning S} (laws : WriterLaws m) where
   pub carried : (a b c : S) (t u v w : Text) → Owes m a t b u → u ≡ v → Owes m b v c w → Owes m a t c w
   carried a b c t u v w o h p = λ r d q. o r d (subst (λ y. Puts m b y r d) (sym h) (p r d q))
 
-  -- a step that stops, at the exit of a `?`
+  -- a step with a fault, which `?` returns
   pub carried_off : (a b c : S) (t u v : Text) (e : WriteFault) (r : Result (Unit {0}) WriteFault) → Owes m a t b u → u ≡ v → IsErrAnd r (λ f. f ≡ e) → m.stops b v e c → Puts m a t r c
   carried_off a b c t u v e r o h x s = o r c (at_exit laws b c u e r x (subst (λ y. m.stops b y e c) (sym h) s))
 

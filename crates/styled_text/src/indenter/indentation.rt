@@ -11,9 +11,9 @@ use writers::write_str::{WriteFault, WriteStr};
 
 /// Indents each line of what is written to the writer below.
 ///
-/// A line that is not empty gets the indentation before its first character, an empty one gets none. It allocates nothing:
-/// slices of the source are passed on.
-#[derive(Drop)]
+/// A line that is not empty gets the indentation before its first character, an empty one gets
+/// none. It allocates nothing: slices of the source are passed on.
+#[derive(Debug, Drop)]
 pub struct Indented<'a, W> {
     pub(super) inner: &'a mut W,
     pub(super) needs_indent: bool,

@@ -1,4 +1,4 @@
-//! Pieces of a text that are written together, without a closing line feed.
+//! Pieces of a text that are written together, without a trailing line feed.
 
 ghost use Rattle.std.specs.Prelude.{◌≡◌, [], false, take, OnOk};
 ghost use Rattle.styled_text.specs.Names.{IsCharBoundary, unwritten, Carries};

@@ -66,8 +66,9 @@ impl PieceBuffer {
         self.len = end;
     }
 
-    /// Gathers the first bytes of a text as a block of 16, and returns whether it did: they must fit into a block, and the
-    /// text and the buffer must hold one. Stripping a coloured line costs a tenth less than with a copy of exactly these bytes.
+    /// Gathers the first bytes of a text as a block of 16, and returns whether it did: they must
+    /// fit into a block, and the text and the buffer must hold one. Stripping a coloured line costs
+    /// a tenth less than with a copy of exactly these bytes.
     #[inline(always)]
     pub(super) fn push_in_block(&mut self, text: &str, count: usize) -> bool
         requires { IsCharBoundary text.now count }

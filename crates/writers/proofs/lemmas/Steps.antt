@@ -9,12 +9,12 @@ module _ {S : Type 0} {m : Meaning S} (laws : WriterLaws m) where
   puts_then a b c t u (Ok x) p q = laws.joins a b c t u p q
   puts_then a b c t u (Err e) p q = laws.goes_on a b c t u e p q
 
-  -- the exit of a `?`
+  -- a fault that `?` returns
   pub at_exit : (a b : S) (t : List ℕ) (e : WriteFault) (r : Result (Unit {0}) WriteFault) → IsErrAnd r (λ f. f ≡ e) → m.stops a t e b → Puts m a t r b
   at_exit a b t e (Ok x) h s = absurd h
   at_exit a b t e (Err f) h s = subst (λ x. m.stops a t x b) (sym h) s
 
-  -- a text that stops within its front
+  -- a fault in the first part of a text
   pub stops_early : (a b : S) (t u v : List ℕ) (e : WriteFault) → v ≡ t ++ u → m.stops a t e b → m.stops a v e b
   stops_early a b t u v e h s = subst (λ x. m.stops a x e b) (sym h) (laws.stops_within a b t u e s)
 
@@ -26,7 +26,7 @@ module _ {S : Type 0} {m : Meaning S} (laws : WriterLaws m) where
   pub owes_accepted : (a b c : S) (text rest t u : List ℕ) → Owes m a text b rest → rest ≡ t ++ u → m.accepts b t c → Owes m a text c u
   owes_accepted a b c text rest t u o h p r d q = o r d (subst (λ x. Puts m b x r d) (sym h) (puts_then b c d t u r p q))
 
-  -- A prefix of what is owed is stopped, at the exit of a `?`.
+  -- A fault in a prefix of what is owed, which `?` returns.
   pub owes_stopped : (a b c : S) (text rest t u : List ℕ) (e : WriteFault) (r : Result (Unit {0}) WriteFault) → Owes m a text b rest → rest ≡ t ++ u → IsErrAnd r (λ f. f ≡ e) → m.stops b t e c → Puts m a text r c
   owes_stopped a b c text rest t u e r o h x s = o r c (at_exit b c rest e r x (stops_early b c t u rest e h s))
 

@@ -11,7 +11,7 @@ pub const CAPACITY: usize = 8192;
 /// Bytes that no device has taken yet.
 ///
 /// Their memory is reserved once and never grows, so that to gather a short text is to copy it.
-#[derive(Drop)]
+#[derive(Debug, Drop)]
 pub(super) struct PendingBytes {
     memory: Vec<u8>,
     len: usize,

@@ -8,7 +8,7 @@ use std::io::{ErrorKind, Write};
 /// Repeats a write or a flush that a signal interrupted, like Rust's `write_all`.
 ///
 /// To a [`TextBuffer`](super::TextBuffer) every error is a failure of the device, so a device that signals can
-/// interrupt, such as standard output, is wrapped in this. It holds what the device holds, and allocates nothing.
+/// interrupt, such as standard output, is wrapped in this. Its contents are the device's, and it allocates nothing.
 ///
 /// ```
 /// use std::io::Write;
@@ -17,13 +17,13 @@ use std::io::{ErrorKind, Write};
 /// device.flush()?;
 /// assert_eq!(device.into_inner().as_slice(), b"done\n".as_slice());
 /// ```
-#[derive(Drop)]
+#[derive(Debug, Drop)]
 pub struct RetryInterrupted<W> {
     device: W,
 }
 
 impl<W> RetryInterrupted<W> {
-    /// Puts it in front of a device.
+    /// Wraps a device.
     pub fn new(device: W) -> RetryInterrupted<W>
         ensures { result.device ≡ device }
     {

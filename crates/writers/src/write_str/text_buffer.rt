@@ -1,7 +1,7 @@
 //! Text that is gathered for a device.
 //!
-//! Reports consist of short texts, and a system call for each would cost more than the texts do. The memory is reserved once,
-//! and no later call allocates.
+//! Reports consist of short texts, and a system call for each would cost more than the texts do.
+//! The memory is reserved once, and no later call allocates.
 
 ghost use Rattle.std.specs.Prelude.{◌≡◌, ◌≤◌, length, take};
 ghost use Rattle.std.specs.{Bool.OnTrue, Io.KnownBytes.Appends};
@@ -23,7 +23,7 @@ use std::io::Write;
 /// out.write_str("done\n")?;
 /// out.write_str_flush()?;
 /// ```
-#[derive(Drop)]
+#[derive(Debug, Drop)]
 pub struct TextBuffer<W> {
     writer: W,
     pending: PendingBytes,
@@ -35,6 +35,10 @@ impl<W: Write> TextBuffer<W> {
     ghost use Rattle.writers.specs.{TextBuffer.buffer_meaning, Writer.Puts};
 
     /// Reserves the memory, 8,192 bytes, once. If that is refused, the device is returned.
+    ///
+    /// # Errors
+    ///
+    /// The memory was refused. The device comes back with the error.
     pub fn new(alloc: Global, writer: W) -> Result<TextBuffer<W>, (AllocError, W)>
         ensures ok { IfOk result (λ b. (b.writer ≡ writer) × (b.pending ≡ []) × (b.failures ≡ 0)) }
         ensures err { IfErr result (λ refused. refused.1 ≡ writer) }
@@ -50,6 +54,14 @@ impl<W: Write> TextBuffer<W> {
     }
 
     /// The device, and the bytes that it has not taken.
+    ///
+    /// ```
+    /// let mut buffer = TextBuffer::new(alloc, Vec::new(alloc))?;
+    /// buffer.write_str("done\n")?;
+    /// let (device, pending) = buffer.into_inner();
+    /// assert!(device.is_empty());
+    /// assert_eq!(pending.as_slice(), b"done\n".as_slice());
+    /// ```
     pub fn into_inner(self) -> (W, Vec<u8>)
         ensures writer { result.0 ≡ self.writer }
         ensures pending { result.1.items ≡ self.pending }

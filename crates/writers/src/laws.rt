@@ -1,4 +1,14 @@
-//! What a device holds of the text that a `TextBuffer` accepted.
+//! Laws of the definitions of writers.
+//!
+//! A law is a function that does nothing. Its clauses say what holds of the definitions in `specs/`, for every text and
+//! writer; the prover has proved them.
+//!
+//! ```
+//! let mut buffer = TextBuffer::new(alloc, Vec::new(alloc))?;
+//! buffer.write_str("done\n")?;
+//! let (device, pending) = buffer.into_inner();
+//! assert_eq!(device.len() + pending.len(), 5); // by `delivery_law`
+//! ```
 
 ghost use Rattle.std.specs.Prelude.{◌≡◌, ℕ, [], List, Some};
 ghost use Rattle.writers.specs.TextBuffer.{buffer_meaning, Delivers, DeliversWithin, GrowsWithin};
@@ -6,9 +16,11 @@ ghost use Rattle.writers.specs.{declared.write_str.WriteFault.WriteFault, declar
 
 use std::io::Write;
 
-/// For a device whose bytes are known: it holds what it held, and what it took since. Followed by what is pending, that is what
-/// was pending and the text, or after a fault a prefix of the text. So if nothing was pending, a fault leaves on the
-/// device what it held and a prefix of the text.
+/// What a device holds of the text that a `TextBuffer` accepted, if the device's bytes are known.
+///
+/// What the device took, followed by what is now pending, is what was pending before, followed by
+/// the text; after a fault, by a prefix of the text. So if nothing was pending before a fault, the
+/// device took a prefix of the text.
 #[tactic(auto, using(crate::proofs::lemmas::Deliveries::accepted_delivers))]
 pub fn delivery_law<W: Write>()
     ensures accepted { (a b : TextBuffer W) (old new text : List ℕ) → W.contents a.writer ≡ Some old → W.contents b.writer ≡ Some new →

@@ -1,5 +1,5 @@
 use Rattle.writers.proofs.lemmas.Deliveries.{stopped_delivers, stopped_begins}
-use Rattle.writers.proofs.write_str.delivery.delivery_law.Goals as goal
+use Rattle.writers.proofs.laws.delivery_law.Goals as goal
 
 pub returns-clause-stopped : goal.returns-clause-stopped
 returns-clause-stopped g c a b old new text fault before after h = stopped_delivers g.W.Write.contents a b old new text before after fault h
