@@ -16,14 +16,9 @@ pub use builder::{DisplayReporterBuilder, Surroundings};
 pub use reporter::{ConsoleReporter, DisplayReporter};
 pub use reporter_state::decider::{OutputLoadDecider, first_refused};
 pub use reporter_state::faults::{RunFault, WriteEventError};
-pub use reporter_state::kept::one_final_order;
-pub use run::{
-    give_back, run_report, run_report_with_store, runs_end_well, runs_with_store_end_well,
-    texts_make_the_report,
-};
+pub use run::{give_back, run_report, run_report_with_store};
 pub use run_model::call::ReportCall;
 pub use store::Store;
 pub use store_text::config::StoreConfig;
-pub use text_parts::finish::reasons_only_hide;
 pub use unit_report::unit_output::DisplayerKind;
 pub use unload::unload_skipped;

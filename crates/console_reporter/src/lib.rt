@@ -28,6 +28,7 @@
 
 pub mod error;
 pub mod imp;
+pub mod laws;
 pub mod prelude;
 
 pub use report_text::helpers;

@@ -23,6 +23,10 @@ use writers::write_str::{WriteFault, WriteStr};
 
 /// Writes the response of a unit. `index` is its index among all, from 0. Output of the unit must be
 /// loaded.
+///
+/// # Errors
+///
+/// The writer's fault. It has accepted a prefix of the text.
 #[tactic(auto, unfolding(crate::specs::Response::info_response_text, crate::specs::Response::response_number))]
 pub fn write_info_response<W: WriteStr>(
     w: &mut W,

@@ -28,6 +28,10 @@ pub struct InfoUnit {
 }
 
 /// Writes the state of a unit: a line, and a note below it if something is waited for.
+///
+/// # Errors
+///
+/// The writer's fault. It has accepted a prefix of the text.
 #[tactic(auto, unfolding(crate::specs::State::state_text, crate::specs::State::state_line, crate::specs::State::state_note))]
 pub fn write_state<W: WriteStr>(
     w: &mut W,

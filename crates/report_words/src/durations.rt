@@ -134,6 +134,10 @@ impl DurationRounding {
 }
 
 /// Writes seconds as hours, minutes and seconds, each in at least two digits.
+///
+/// # Errors
+///
+/// The writer's fault. It has accepted a prefix of the text.
 #[tactic(auto, unfolding(crate::specs::Durations::clock_text))]
 pub fn write_clock<W: WriteStr>(w: &mut W, seconds: u128) -> Result<(), WriteFault>
     ensures { Puts W.meaning w.old (clock_text seconds) result w.new }
@@ -162,6 +166,10 @@ pub fn write_clock<W: WriteStr>(w: &mut W, seconds: u128) -> Result<(), WriteFau
 /// write_clock_between(&mut out, "[", 9, 12, "] ")?;
 /// assert_eq!(out.as_str(), "[ 00:00:12] ");
 /// ```
+///
+/// # Errors
+///
+/// The writer's fault. It has accepted a prefix of the text.
 pub fn write_clock_between<W: WriteStr>(
     w: &mut W,
     before: &str,

@@ -46,6 +46,10 @@ impl ThemeCharacters {
     }
 
     /// Writes a bar of the given number of characters.
+    ///
+    /// # Errors
+    ///
+    /// The writer's fault. It has accepted a prefix of the text.
     #[tactic(auto, unfolding(crate::specs::Theme::hbar_text))]
     pub fn write_hbar<W: WriteStr>(&self, w: &mut W, width: usize) -> Result<(), WriteFault>
         ensures { Puts W.meaning w.old (hbar_text self.now.is_unicode width) result w.new }

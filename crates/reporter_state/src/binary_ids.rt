@@ -77,6 +77,10 @@ impl KeptBinaryIds {
     }
 
     /// The id to keep. It copies the text if it is not among the last ones.
+    ///
+    /// # Errors
+    ///
+    /// Memory was refused.
     pub fn keep(&mut self, alloc: Global, id: &RustBinaryId) -> Result<KeptBinaryId, OutOfMemory>
         ensures { IfOk result (λ kept. kept ≡ id.now) }
     {

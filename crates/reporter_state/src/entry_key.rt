@@ -54,6 +54,10 @@ impl Model for EntryKey {
 
 impl EntryKey {
     /// The key of a test with this output, after `place` other entries. It allocates for the test.
+    ///
+    /// # Errors
+    ///
+    /// Memory was refused.
     pub fn new(
         alloc: Global,
         test: KeptTest,

@@ -80,6 +80,10 @@ impl FinalOutput {
 impl FinalOutputEntry {
     /// What the summary shows of a finished test. It allocates for the test's names and the texts of the last attempt; the bytes of
     /// its output are shared. Output that is shown must be loaded.
+    ///
+    /// # Errors
+    ///
+    /// Memory was refused.
     pub fn of_test(
         alloc: Global,
         ids: &mut KeptBinaryIds,
@@ -95,6 +99,10 @@ impl FinalOutputEntry {
     }
 
     /// What the summary shows of a skipped test. It allocates for the test's names.
+    ///
+    /// # Errors
+    ///
+    /// Memory was refused.
     pub fn skipped(
         alloc: Global,
         ids: &mut KeptBinaryIds,

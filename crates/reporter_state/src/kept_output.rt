@@ -72,6 +72,10 @@ impl Model for KeptOutput {
 
 impl KeptOutput {
     /// The short form of what is shown. It allocates if there is none.
+    ///
+    /// # Errors
+    ///
+    /// Memory was refused.
     pub fn new(alloc: Global, output: FinalOutput) -> Result<KeptOutput, OutOfMemory>
         ensures { IfOk result (λ k. k ≡ output) }
     {

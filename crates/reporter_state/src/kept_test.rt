@@ -41,6 +41,10 @@ impl Model for KeptInstance {
 
 impl KeptTest {
     /// Copies the test's name, and its binary's id if that is new.
+    ///
+    /// # Errors
+    ///
+    /// Memory was refused.
     pub fn copy_of(
         alloc: Global,
         ids: &mut KeptBinaryIds,

@@ -16,5 +16,6 @@ pub mod finished_attempts;
 pub mod kept;
 pub mod kept_output;
 pub mod kept_test;
+pub mod laws;
 pub mod loaded_output;
 pub mod state;

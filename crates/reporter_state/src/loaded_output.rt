@@ -28,6 +28,10 @@ impl Model for LoadedOutput {
 
 impl LoadedOutput {
     /// Copies loaded output: it allocates for the texts and shares the captured bytes.
+    ///
+    /// # Errors
+    ///
+    /// Memory was refused.
     pub fn copy_of(
         alloc: Global,
         output: &ChildExecutionOutputDescription<LiveSpec>,

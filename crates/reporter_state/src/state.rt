@@ -67,6 +67,10 @@ impl ReporterState {
 
     /// Applies an event: it may cancel the run, and it may end a test. A test that it finishes is passed with it, with its output loaded
     /// if that is shown.
+    ///
+    /// # Errors
+    ///
+    /// Memory was refused, for an event with an entry in the summary. Settings and prefix are as they were.
     #[inline(always)]
     pub fn apply(
         &mut self,

@@ -12,6 +12,10 @@ use writers::text::WriteText;
 use writers::write_str::{WriteFault, WriteStr};
 
 /// Writes how long a run has taken, how many of its tests have finished, and its counts.
+///
+/// # Errors
+///
+/// The writer's fault. It has accepted a prefix of the text.
 #[tactic(auto, unfolding(crate::specs::Input::input_enter_text, crate::specs::Input::finished_of_initial))]
 pub fn write_input_enter<W: WriteStr>(
     w: &mut W,

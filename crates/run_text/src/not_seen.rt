@@ -14,6 +14,10 @@ use writers::text::{Unless, WriteText};
 use writers::write_str::{WriteFault, WriteStr};
 
 /// Writes how many outstanding tests were not seen, if any, and those that are listed.
+///
+/// # Errors
+///
+/// The writer's fault. It has accepted a prefix of the text.
 pub fn write_not_seen<W: WriteStr>(
     w: &mut W,
     settings: &Settings,

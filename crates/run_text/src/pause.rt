@@ -17,6 +17,10 @@ use writers::write_str::{WriteFault, WriteStr};
 /// write_run_paused(&mut out, &settings, 0, 2)?;
 /// assert_eq!(out.as_str(), "     Pausing due to signal: 2 tests running\n");
 /// ```
+///
+/// # Errors
+///
+/// The writer's fault. It has accepted a prefix of the text.
 #[tactic(auto, unfolding(crate::specs::Pause::run_paused_text))]
 pub fn write_run_paused<W: WriteStr>(
     w: &mut W,
@@ -30,6 +34,10 @@ pub fn write_run_paused<W: WriteStr>(
 }
 
 /// Writes that the run goes on after it was stopped, and how many setup scripts or tests run.
+///
+/// # Errors
+///
+/// The writer's fault. It has accepted a prefix of the text.
 #[tactic(auto, unfolding(crate::specs::Pause::run_continued_text))]
 pub fn write_run_continued<W: WriteStr>(
     w: &mut W,

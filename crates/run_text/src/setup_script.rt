@@ -21,6 +21,10 @@ use writers::text::{When, WriteText};
 use writers::write_str::{WriteFault, WriteStr};
 
 /// Writes that a setup script has started. `index` is its index among all, from 0.
+///
+/// # Errors
+///
+/// The writer's fault. It has accepted a prefix of the text.
 #[tactic(auto, unfolding(crate::specs::SetupScript::setup_script_started_text))]
 pub fn write_setup_script_started<W: WriteStr>(
     w: &mut W,
@@ -54,6 +58,10 @@ impl WriteText for ScriptCounter {
 }
 
 /// Writes that a setup script has run for long, if its level is shown.
+///
+/// # Errors
+///
+/// The writer's fault. It has accepted a prefix of the text.
 #[tactic(auto, unfolding(crate::specs::SetupScript::setup_script_slow_text, crate::specs::SetupScript::shown_slow_script))]
 pub fn write_setup_script_slow<W: WriteStr>(
     w: &mut W,
@@ -109,6 +117,10 @@ impl WriteText for SlowScriptWord<'_> {
 
 /// Writes that a setup script has finished, and its output unless it succeeded. Output that is shown must be
 /// loaded.
+///
+/// # Errors
+///
+/// The writer's fault. It has accepted a prefix of the text.
 #[tactic(auto, unfolding(crate::specs::SetupScript::setup_script_finished_text, crate::specs::SetupScript::setup_script_line))]
 pub fn write_setup_script_finished<W: WriteStr>(
     w: &mut W,

@@ -18,6 +18,10 @@ use writers::text::WriteText;
 use writers::write_str::{WriteFault, WriteStr};
 
 /// Writes the start of a run: its id and profile, and how many tests and binaries there are.
+///
+/// # Errors
+///
+/// The writer's fault. It has accepted a prefix of the text.
 #[tactic(auto, unfolding(crate::specs::Start::run_started_text, crate::specs::Start::run_id_line, crate::specs::Start::profile_text, crate::specs::Start::starting_line))]
 pub fn write_run_started<W: WriteStr>(
     w: &mut W,

@@ -20,6 +20,10 @@ use writers::text::WriteText;
 use writers::write_str::{WriteFault, WriteStr};
 
 /// Writes that an iteration of a stress run has started, and how much of the run has passed and remains.
+///
+/// # Errors
+///
+/// The writer's fault. It has accepted a prefix of the text.
 #[tactic(auto, unfolding(crate::specs::Stress::stress_sub_run_started_text, crate::specs::Stress::stress_sub_run_line, crate::specs::Stress::elapsed_text))]
 pub fn write_stress_sub_run_started<W: WriteStr>(
     w: &mut W,
@@ -154,6 +158,10 @@ fn write_count_left<W: WriteStr>(
 }
 
 /// Writes that an iteration of a stress run has finished, how long it took, and its counts.
+///
+/// # Errors
+///
+/// The writer's fault. It has accepted a prefix of the text.
 #[tactic(auto, unfolding(crate::specs::Stress::stress_sub_run_finished_text))]
 pub fn write_stress_sub_run_finished<W: WriteStr>(
     w: &mut W,

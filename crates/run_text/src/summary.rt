@@ -20,6 +20,10 @@ use writers::text::{Unless, WriteText};
 use writers::write_str::{WriteFault, WriteStr};
 
 /// Writes the end of a run before its entries: how long it took and its counts.
+///
+/// # Errors
+///
+/// The writer's fault. It has accepted a prefix of the text.
 #[tactic(auto, unfolding(crate::specs::Summary::run_finished_text, crate::specs::Summary::summary_line, crate::specs::Summary::stress_counts_text, crate::specs::Summary::iterations_run_text, crate::specs::Summary::failed_iterations))]
 pub fn write_run_finished<W: WriteStr>(
     w: &mut W,

@@ -13,6 +13,10 @@ use writers::write_str::{WriteFault, WriteStr, write_strs};
 /// write_netstring(&mut out, "é")?;
 /// assert_eq!(out.as_str(), "2:t1,2:é,");
 /// ```
+///
+/// # Errors
+///
+/// The writer's fault. It has accepted a prefix of the text.
 #[tactic(auto, unfolding(crate::specs::Netstring::netstring, crate::specs::Netstring::netstring_head))]
 pub fn write_netstring<W: WriteStr>(w: &mut W, text: &str) -> Result<(), WriteFault>
     ensures { Puts W.meaning w.old (netstring text.now) result w.new }
@@ -27,6 +31,10 @@ pub fn write_netstring<W: WriteStr>(w: &mut W, text: &str) -> Result<(), WriteFa
 /// write_joined_netstring(&mut out, "SIG ", "6")?;
 /// assert_eq!(out.as_str(), "5:SIG 6,");
 /// ```
+///
+/// # Errors
+///
+/// The writer's fault. It has accepted a prefix of the text.
 #[tactic(auto, unfolding(crate::specs::Netstring::netstring, crate::specs::Netstring::netstring_head))]
 pub fn write_joined_netstring<W: WriteStr>(
     w: &mut W,

@@ -21,6 +21,10 @@ use writers::write_str::{WriteFault, WriteStr};
 /// write_record(&mut out, store, test.as_ref(), &statuses)?;
 /// assert_eq!(out.as_str(), "5:alpha,2:t1,4:PASS,0:,\n");
 /// ```
+///
+/// # Errors
+///
+/// The writer's fault. It has accepted a prefix of the record.
 #[tactic(auto, unfolding(crate::specs::Record::record_text))]
 pub fn write_record<W: WriteStr>(
     w: &mut W,

@@ -91,6 +91,10 @@ impl<'b> StatusLine<'b> {
 }
 
 /// Writes the line of a finished test.
+///
+/// # Errors
+///
+/// The writer's fault. It has accepted a prefix of the text.
 #[inline(always)]
 pub fn write_status_line<W: WriteStr>(
     w: &mut W,

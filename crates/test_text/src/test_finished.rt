@@ -62,6 +62,10 @@ impl<'e, 'a> FinishedTest<'e, 'a> {
 
 /// Writes the line of a finished test if its level is shown, and the output of its last attempt if that is
 /// shown immediately. That output must be loaded.
+///
+/// # Errors
+///
+/// The writer's fault. It has accepted a prefix of the text.
 #[inline(always)]
 #[tactic(auto, unfolding(crate::specs::TestFinished::test_finished_text))]
 pub fn write_test_finished<W: WriteStr>(

@@ -24,6 +24,10 @@ use writers::write_str::{WriteFault, WriteStr};
 /// write_test_slow(&mut out, &settings, None, test.as_ref(), RetryData::only(), Nanos::from_secs(60), false)?;
 /// assert_eq!(out.as_str(), "        SLOW [> 60.000s] alpha t1\n");
 /// ```
+///
+/// # Errors
+///
+/// The writer's fault. It has accepted a prefix of the text.
 #[tactic(auto, unfolding(crate::specs::TestSlow::test_slow_text, crate::specs::TestSlow::slow_text, crate::specs::TestSlow::terminating_text, crate::specs::TestSlow::slow_end))]
 pub fn write_test_slow<W: WriteStr>(
     w: &mut W,

@@ -12,6 +12,10 @@ use writers::text::WriteText;
 use writers::write_str::{WriteFault, WriteStr};
 
 /// Writes the line about an abort after the line of its test. A signal is named in the line itself.
+///
+/// # Errors
+///
+/// The writer's fault. It has accepted a prefix of the text.
 #[tactic(auto, unfolding(crate::specs::AbortLine::abort_line))]
 #[inline(always)]
 pub fn write_abort_line<W: WriteStr>(

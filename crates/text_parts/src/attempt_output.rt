@@ -20,6 +20,10 @@ use writers::write_str::{WriteFault, WriteStr};
 /// Writes the output of an attempt with this result, and how it ended if nextest has a line for that.
 ///
 /// `is_retry` says that another attempt follows. The output must be loaded.
+///
+/// # Errors
+///
+/// The writer's fault. It has accepted a prefix of the text.
 pub fn write_test_execute_status<W: WriteStr>(
     w: &mut W,
     settings: &Settings,
@@ -36,6 +40,10 @@ pub fn write_test_execute_status<W: WriteStr>(
 
 /// Writes the output of a setup script with this result, and how it ended if nextest has a line for that. The output
 /// must be loaded.
+///
+/// # Errors
+///
+/// The writer's fault. It has accepted a prefix of the text.
 pub fn write_setup_script_execute_status<W: WriteStr>(
     w: &mut W,
     settings: &Settings,

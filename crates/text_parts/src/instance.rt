@@ -41,6 +41,10 @@ impl Settings {
 }
 
 /// Writes a test as its lines name it.
+///
+/// # Errors
+///
+/// The writer's fault. It has accepted a prefix of the text.
 #[inline(always)]
 pub fn write_instance<W: WriteStr>(
     w: &mut W,

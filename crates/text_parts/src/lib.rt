@@ -12,6 +12,7 @@ pub mod bar;
 pub mod finish;
 pub mod info_result;
 pub mod instance;
+pub mod laws;
 pub mod result_words;
 pub mod script;
 pub mod settings;

@@ -82,6 +82,10 @@ impl DisplayReporterBuilder {
     /// builder.should_colorize = true;
     /// builder.display_config.status_level = Some(StatusLevel::Fail);
     /// ```
+    ///
+    /// # Errors
+    ///
+    /// Memory was refused.
     pub fn new(alloc: Global, run_count: usize) -> Result<Self, OutOfMemory>
         ensures { IfOk result (λ builder. builder ≡ default_builder run_count) }
     {

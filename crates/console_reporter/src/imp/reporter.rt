@@ -98,6 +98,11 @@ impl<'a, W: WriteStr, S: WriteStr> DisplayReporter<'a, W, S> {
     /// drop(reporter);
     /// assert_eq!(out.as_str(), "        PASS [   0.020s] (1/1) alpha t1\n");
     /// ```
+    ///
+    /// # Errors
+    ///
+    /// A refused event (`RetriedSuccess`, `OutputNotLoaded`) changes nothing. After `Io` or `Memory` a prefix of the text
+    /// was accepted, after `StoreIo` the text and a prefix of the record; every later call then returns `Failed`.
     pub fn write_event(&mut self, event: &TestEvent<'_>) -> Result<(), WriteEventError>
         ensures { Promises W.meaning S.meaning self.old (Some (ReportCall.Event event.now)) result self.new }
     {
@@ -254,6 +259,10 @@ impl<'a, W: WriteStr, S: WriteStr> DisplayReporter<'a, W, S> {
     /// drop(reporter);
     /// assert!(out.as_str().starts_with("   Replaying recorded run 00000000-0000-4000-8000-000000000001\n"));
     /// ```
+    ///
+    /// # Errors
+    ///
+    /// `Io`, `Memory` or `StoreIo` if a writer fails: a prefix of the text was accepted, and every later call returns `Failed`.
     pub fn write_replay_header(&mut self, header: &ReplayHeader) -> Result<(), WriteEventError>
         ensures { Promises W.meaning S.meaning self.old (Some (ReportCall.Header header.now)) result self.new }
     {
@@ -316,6 +325,10 @@ impl<'a, W: WriteStr, S: WriteStr> DisplayReporter<'a, W, S> {
     /// reporter.write_event(&event)?;
     /// reporter.finish()?;
     /// ```
+    ///
+    /// # Errors
+    ///
+    /// `Io`, `Memory` or `StoreIo` if a writer does not deliver what it holds: every later call returns `Failed`.
     pub fn finish(&mut self) -> Result<(), WriteEventError>
         ensures call { Promises W.meaning S.meaning self.old None result self.new }
         ensures told_nothing { OnOk result (W.meaning.accepts self.old.writer.now [] self.new.writer.now) }
@@ -412,6 +425,10 @@ impl<'a, W: WriteStr, S: WriteStr> DisplayReporter<'a, W, S> {
     /// drop(reporter);
     /// assert_eq!(out.as_str(), "        PASS [   0.020s] (1/1) alpha t1\n");
     /// ```
+    ///
+    /// # Errors
+    ///
+    /// Those of [`write_event`](DisplayReporter::write_event), and `Memory` if the memory for a copied prefix is refused.
     pub fn make_call(&mut self, alloc: Global, call: &ReportCall<'_>) -> Result<(), WriteEventError>
         ensures { Promises W.meaning S.meaning self.old (Some call.now) result self.new }
     {

@@ -26,6 +26,10 @@ impl<'a, S: WriteStr> Store<'a, S> {
     }
 
     /// Writes the record of an event, if it has one, and delivers it.
+    ///
+    /// # Errors
+    ///
+    /// The writer's fault. It has accepted a prefix of the record.
     pub fn deliver_record(&mut self, event: &TestEvent<'_>) -> Result<(), WriteFault>
         ensures same { self.new.writer.ghost_name ≡ self.old.writer.ghost_name }
         ensures config { self.new.config ≡ self.old.config }

@@ -117,6 +117,10 @@ impl WriteText for DisplayTestInstance<'_> {
 /// write_test_instance(&mut out, &styles.list_styles, &None, &counter, test.as_ref())?;
 /// assert_eq!(out.as_str(), "(1/2) alpha t1");
 /// ```
+///
+/// # Errors
+///
+/// The writer's fault. It has accepted a prefix of the text.
 #[inline(always)]
 #[tactic(auto, unfolding(crate::specs::Instance::test_text))]
 pub fn write_test_instance<W: WriteStr>(
@@ -390,6 +394,10 @@ impl fmt::Display for DisplayTestName<'_> {
 }
 
 /// Writes a test's name: the module path and its `::`, if there is one, and the name in it.
+///
+/// # Errors
+///
+/// The writer's fault. It has accepted a prefix of the text.
 #[tactic(auto, unfolding(crate::specs::Instance::test_name_text))]
 #[inline(always)]
 pub fn write_test_name<W: WriteStr>(

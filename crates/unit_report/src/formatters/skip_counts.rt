@@ -22,6 +22,10 @@ use writers::write_str::{WriteFault, WriteStr};
 /// write_skip_counts(NextestRunMode::Test, &skipped, &filter, &styles, &mut out)?;
 /// assert_eq!(out.as_str(), " (2 tests and 1 binary skipped, including 1 test that already passed)");
 /// ```
+///
+/// # Errors
+///
+/// The writer's fault. It has accepted a prefix of the text.
 #[tactic(auto, unfolding(crate::specs::SkipCounts::skip_note))]
 pub fn write_skip_counts<W: WriteStr>(
     mode: NextestRunMode,
