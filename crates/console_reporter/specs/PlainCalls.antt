@@ -10,11 +10,11 @@ use Rattle.run_model.specs.declared.call.ReportCall.TheVariants.{Event, Header, 
 abbrev pub IsPlainConfiguration : Configuration → Type 0
 IsPlainConfiguration config = HasNoEscape config.builder.default_filter.profile
 
--- nor do the words of a command line
+-- the words of a command line hold no escape character
 abbrev pub ArePlainWords : List Text → Type 0
 ArePlainWords words = AllByRecursion HasNoEscape words
 
--- nor do the result and output of an attempt; the output counts in colour (the flag)
+-- nor does the result of an attempt, and in colour (the flag) its output
 abbrev pub IsPlainAttempt : Bool → ExecuteStatus LiveSpec ChildOutputDescription → Type 0
 IsPlainAttempt k x = IsPlainResult x.result × IsPlainWritten k x.output
 

@@ -16,7 +16,7 @@ use unit_report::formatters::DisplayUnitKind;
 use writers::text::{Decimal, Unless, WriteText};
 use writers::write_str::{WriteFault, WriteStr};
 
-/// The unit that a state is of.
+/// What the lines of a state need to know of its unit.
 #[derive(Clone, Copy)]
 pub struct InfoUnit {
     /// Whether it is a test or a setup script.
@@ -77,7 +77,7 @@ pub fn write_state<W: WriteStr>(
     }
 }
 
-// How the line of a state begins, with the word for the unit. The functions write the lines that begin so, and their notes.
+// How the line of a state begins: with the word for the unit. Its functions write these lines and the notes below them.
 #[derive(Clone, Copy)]
 struct UnitStart<'a> {
     settings: &'a Settings,

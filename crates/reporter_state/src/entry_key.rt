@@ -24,7 +24,7 @@ pub struct EntryKey {
 
 #[derive(Drop)]
 struct KeyParts {
-    // How many levels below all. Most entries that are compared have the same level.
+    // How many levels below `All`. It is compared first, and is the same for most entries.
     below: u8,
     // Whether the test has neither an iteration nor a counter, like most.
     is_plain: bool,

@@ -1,4 +1,4 @@
-//! A kept test: it has its own names, so that the event that named it need not live on.
+//! A kept test. It owns its names, so it outlives the event that named it.
 
 ghost use Rattle.std.specs.Prelude.{◌≡◌, IfOk};
 ghost use Rattle.reporter_state.specs.Names.{instance_key, kept_test, key_cmp};
@@ -13,7 +13,7 @@ use std::cmp::Ordering;
 use std::marker::Model;
 use text_parts::instance::CountedInstance;
 
-/// A test as its lines name it, with its own names.
+/// A test as its lines name it, which owns its names.
 #[derive(Drop)]
 pub struct KeptTest {
     /// Which iteration of a stress run it belongs to.

@@ -9,7 +9,7 @@ use run_model::output::{ChildExecutionOutputDescription, LiveSpec};
 use std::alloc::Global;
 use std::marker::Model;
 
-/// Output that is loaded: an entry that shows output holds no other. Contracts see the output.
+/// Output that is loaded, as the entries of the summary need it. Contracts see the output.
 #[derive(Debug, Drop)]
 pub struct LoadedOutput {
     output: Boxed<ChildExecutionOutputDescription<LiveSpec>>,

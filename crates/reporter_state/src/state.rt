@@ -56,7 +56,7 @@ impl ReporterState {
         }
     }
 
-    /// Has the reporter fail, and returns the error.
+    /// Marks the reporter as failed, and returns the error.
     pub fn fail(&mut self, error: WriteEventError) -> WriteEventError
         ensures error { result ≡ error }
         ensures failed { self.new ≡ record self.old { has_failed = true } }
@@ -65,8 +65,8 @@ impl ReporterState {
         error
     }
 
-    /// Applies an event: it may cancel the run, and it may end a test. A test that it finishes is passed with it, with its output loaded
-    /// if that is shown.
+    /// Changes the state by an event that cancels the run or ends a test. `finished` is the test that it finishes, with its
+    /// output loaded if that is shown.
     ///
     /// # Errors
     ///

@@ -65,7 +65,7 @@ pub fn write_begin_kill<W: WriteStr>(
     (word, Reason(&settings.styles, reason), still, "\n").write_to(w)
 }
 
-// Whether a run that is cancelled for this reason terminates what runs.
+// Whether a run that is cancelled for this reason also terminates the units that are running.
 fn ends_at_once(reason: Option<CancelReason>) -> bool
     ensures { result ≡ ends_at_once reason }
 {

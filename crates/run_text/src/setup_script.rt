@@ -98,7 +98,7 @@ fn slow_script_level(will_terminate: bool) -> StatusLevel
     }
 }
 
-// Whether it is slow, or is terminated for it.
+// The word of a script that is slow; the flag says that it is terminated for it.
 #[derive(Clone, Copy)]
 struct SlowScriptWord<'a>(&'a Styles, bool);
 
@@ -159,7 +159,7 @@ impl WriteText for ScriptStatus<'_> {
     }
 }
 
-// Its style. A timeout that counts as a success has that of a failure.
+// The style of a script's result. A timeout that counts as a success has that of a failure.
 fn script_status_style(styles: &Styles, outcome: &ExecutionResultDescription) -> Style
     ensures { result ≡ style_of styles.now (script_status_tone outcome.now) }
 {

@@ -25,7 +25,7 @@ pub fn write_netstring<W: WriteStr>(w: &mut W, text: &str) -> Result<(), WriteFa
     write_strs(w, &[length.format(text.len()), ":", text, ","])
 }
 
-/// Writes a text in two parts as one netstring. It allocates nothing.
+/// Writes a text that is in two parts as a single netstring. It allocates nothing.
 ///
 /// ```
 /// write_joined_netstring(&mut out, "SIG ", "6")?;

@@ -8,7 +8,7 @@ use Rattle.styled_text.proofs.lemmas.{Closed.decimal_free, Widths.free_both}
 use Rattle.report_words.specs.Parts.{Parts, Line, Lines, Retry, none, words, Right, given_right, ◌⧺◌, choice}
 use Rattle.{text_parts.specs.declared.instance.CountedInstance.CountedInstance, text_parts.specs.declared.settings.Settings.Settings, test_text.specs.StatusLine.attempt_words}
 
--- its line
+-- the line of the failed attempt
 unfoldable pub attempt_failed_line : CountedInstance → Attempt → Parts false Line
 attempt_failed_line test x =
     given_right 12 Retry (attempt_words x.retry_data.attempt (short_word x.result))

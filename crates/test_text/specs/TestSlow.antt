@@ -39,7 +39,7 @@ terminating_tone r = if is_last_attempt r then Fail else Retry
 unfoldable pub is_level_exceeded : Settings → StatusLevel → Bool
 is_level_exceeded s level = nat_lt (status_rank level) (status_rank s.status_levels.status_level)
 
--- its number is shown: there are other attempts, and more is shown than the lines of its level
+-- the number of a terminated attempt is shown: it is not the only attempt, and lines of lower levels are shown
 unfoldable pub has_number : Settings → RetryData → Bool
 has_number s r = nat_lt 1 r.total_attempts && is_level_exceeded s (terminating_level r)
 

@@ -108,7 +108,7 @@ pub fn write_status_line<W: WriteStr>(
     write_line(w, styles, kind, test, &line)
 }
 
-// `write_status_line` by reference.
+// Like `write_status_line`, with the line by reference.
 #[tactic(auto, unfolding(crate::specs::StatusLine::status_line))]
 fn write_line<W: WriteStr>(
     w: &mut W,

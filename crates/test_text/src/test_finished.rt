@@ -18,16 +18,16 @@ use text_parts::instance::CountedInstance;
 use text_parts::settings::Settings;
 use writers::write_str::{WriteFault, WriteStr};
 
-/// A finished test, for its line, its output and its entry.
+/// A finished test: what its line, its output and its entry in the summary need.
 #[derive(Clone, Copy)]
 pub struct FinishedTest<'e, 'a> {
     /// The test.
     pub test: CountedInstance<'a>,
     /// Its attempts.
     pub describe: ExecutionDescription<'e, LiveSpec>,
-    /// When the output of the last one is asked to be shown.
+    /// When the output of the last attempt should be shown.
     pub display: TestOutputDisplay,
-    /// When its output is shown.
+    /// When that output is shown, since a cancel reason can hide it.
     pub row: OutputTiming,
 }
 
@@ -102,7 +102,7 @@ fn write_line_at_once<W: WriteStr>(
     }
 }
 
-// Whatever the status level is.
+// Failed tests show their output even if the status level hides their line.
 #[tactic(auto, unfolding(crate::specs::TestFinished::output_at_once))]
 fn write_output_at_once<W: WriteStr>(
     w: &mut W,

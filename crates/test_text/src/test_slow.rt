@@ -74,7 +74,7 @@ impl WriteText for SlowWord {
     }
 }
 
-// The word of a terminated attempt, with its number if more is shown than such lines.
+// The word of a terminated attempt, with its number if `has_number`.
 #[derive(Clone, Copy)]
 struct TerminatingWord<'a>(&'a Settings, RetryData);
 
@@ -105,7 +105,7 @@ fn terminating_level(retry_data: RetryData) -> StatusLevel
     }
 }
 
-// Its style.
+// The style of a terminated attempt.
 #[tactic(auto, unfolding(crate::specs::TestSlow::is_last_attempt))]
 fn terminating_style(styles: &Styles, retry_data: RetryData) -> Style
     ensures { result ≡ style_of styles.now (terminating_tone retry_data) }
@@ -117,7 +117,7 @@ fn terminating_style(styles: &Styles, retry_data: RetryData) -> Style
     }
 }
 
-// Whether its number is shown: there are other attempts, and more is shown than the lines of its level.
+// Whether the number of a terminated attempt is shown: it is not the only attempt, and lines of lower levels are shown.
 #[tactic(auto, unfolding(crate::specs::TestSlow::has_number))]
 fn has_number(settings: &Settings, retry_data: RetryData) -> bool
     ensures { result ≡ has_number settings.now retry_data }

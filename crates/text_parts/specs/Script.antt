@@ -10,7 +10,7 @@ pub record Script : Type 0 where
   pub program : Text
   pub args : List Text
 
--- as the code has it
+-- a `ScriptInstance` as a `Script`
 abbrev pub script_of : ScriptInstance → Script
 script_of x = record { stress_index = x.stress_index; script_id = x.script_id.now; program = x.program.now; args = x.args.now }
 

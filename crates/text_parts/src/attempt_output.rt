@@ -57,7 +57,7 @@ pub fn write_setup_script_execute_status<W: WriteStr>(
     write_unit_execute_status(w, settings, kind, false, outcome, output)
 }
 
-// For either.
+// Writes the output of a unit, either an attempt of a test or a setup script.
 #[tactic(auto, unfolding(crate::specs::AttemptOutput::unit_output, crate::specs::AttemptOutput::info_line, crate::specs::AttemptOutput::shown_info_line))]
 fn write_unit_execute_status<W: WriteStr>(
     w: &mut W,
@@ -80,7 +80,7 @@ fn write_unit_execute_status<W: WriteStr>(
     When(show_finished_status_info_line(outcome), line).write_to(w)
 }
 
-// The start of that line. A benchmark is called a test there.
+// The start of the line that repeats the result. It calls a benchmark a test, too.
 #[tactic(auto, unfolding(crate::specs::AttemptOutput::info_line_start))]
 fn info_line_start(kind: UnitKind) -> &'static str
     ensures { result.now ≡ info_line_start kind }
@@ -134,7 +134,7 @@ fn output_spec_for_finished(
     )
 }
 
-// The layout with headers in this style. `no_output_indent` says that output has no margin.
+// The layout with headers in this style. With `no_output_indent` output has no margin.
 fn spec_in(
     kind: UnitKind,
     no_output_indent: bool,

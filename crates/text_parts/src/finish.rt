@@ -18,7 +18,7 @@ pub enum OutputTiming {
     Hidden,
     /// Its output is shown where its display says: at once, at the end or both times.
     Shown,
-    /// The same, but at the end only where it was not shown at once.
+    /// Like `Shown`, but not a second time at the end if it was shown at once.
     ShownOnce,
 }
 

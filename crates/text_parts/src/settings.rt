@@ -127,8 +127,8 @@ pub fn theme_for(use_unicode: bool) -> ThemeCharacters
     theme_characters
 }
 
-/// Whose setting decides when the output of tests is shown. Without capture there is none to show, except why a test
-/// could not be started.
+/// The overrides of the tests' own display settings. Without capture there is no output to show, only why a test could
+/// not be started.
 pub fn overrides_for(
     no_capture: bool,
     success_output: Option<TestOutputDisplay>,

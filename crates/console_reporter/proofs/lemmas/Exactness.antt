@@ -32,7 +32,7 @@ same-decision d output (TestAttemptFailedWillRetry stress test status delay fail
 same-decision d output (TestFinished stress test success failure statuses stats) = refl
 same-decision d output other = refl
 
--- unloaded, all combined outputs are one
+-- events that differ in a combined output alone are equal once it is unloaded
 same-unread : (t u : Text) (e : TestEventKind) → unloaded_kind (with_output (combined t) e) ≡ unloaded_kind (with_output (combined u) e)
 same-unread t u (SetupScriptFinished stress id program args status) = refl
 same-unread t u (TestAttemptFailedWillRetry stress test status delay failure) = refl

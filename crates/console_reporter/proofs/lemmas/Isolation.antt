@@ -95,7 +95,7 @@ never-script : (s : Settings) (script : Script) (x : SetupScriptExecuteStatus Li
 unfolding setup_script_finished_text failed_script_output
 never-script s script x never = elim (cases_Bool (is_success x.result)) [ inl y ↦ rw y refl | inr n ↦ absurd (false≢true (sym (rw n at never))) ]
 
--- an event whose output the decider skips is the same without it
+-- an event whose output the decider skips is the same to a report without that output
 pub same-unloaded : (s : Settings) (store : Option StoreConfig) (elapsed : Nanos) (e : TestEventKind) → is_skipped (decider_by s store) e ≡ true →
     IsSameEvent s (record { elapsed = elapsed; kind = e }) (record { elapsed = elapsed; kind = unloaded_kind e })
 unfolding event_text
@@ -113,7 +113,7 @@ same-unloaded s store elapsed (TestFinished stress test success failure statuses
     same-finish s stress test success failure statuses stats (or_parts _ _ (not_loaded (loads_finish (decider_by s store) success failure (summary_of statuses)) h)).0 elapsed
 same-unloaded s store elapsed other h = absurd (false≢true h)
 
--- calls are the same without the outputs that the decider skips
+-- calls are the same to a report without the outputs that the decider skips
 same-calls : (config : Configuration) (calls : List ReportCall) → AreSame config calls (unread (decider_of config) calls)
 same-calls config [] = same-itself config []
 same-calls config (Event e ∷ calls) =

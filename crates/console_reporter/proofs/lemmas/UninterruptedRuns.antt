@@ -45,7 +45,7 @@ kept_more s (Event e) past h = ap (λ o. kept s past ++ option_to_list o) (unint
 kept_more s (Header k) past h = sym (append-nil (kept s past))
 kept_more s (Prefix p) past h = sym (append-nil (kept s past))
 
--- a past, and calls after it of which one is the first
+-- a past with one call and then others after it
 reverse_onto : (call : ReportCall) (calls past : List ReportCall) → reverse (call ∷ calls) ++ past ≡ reverse calls ++ call ∷ past
 reverse_onto call calls past = ap (λ l. l ++ past) (reverse-append (call ∷ []) calls) ∙ append_assoc (reverse calls) (call ∷ []) past
 

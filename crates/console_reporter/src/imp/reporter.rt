@@ -31,6 +31,14 @@ use writers::write_str::{WriteFault, WriteStr};
 ///
 /// After a call that returned `Io`, `StoreIo` or `Memory` the reporter has failed: every later call returns `Failed` and changes
 /// nothing. What each call promises is one record, `Promises` in specs/Telling.antt.
+///
+/// ```
+/// let mut reporter = builder.build_for(alloc, &mut out, Surroundings::default());
+/// reporter.write_event(&event)?;
+/// reporter.finish()?;
+/// drop(reporter);
+/// assert_eq!(out.as_str(), "        PASS [   0.020s] (1/1) alpha t1\n");
+/// ```
 #[derive(Drop)]
 pub struct DisplayReporter<'a, W, S> {
     pub(super) writer: &'a mut W,
@@ -156,7 +164,7 @@ impl<'a, W: WriteStr, S: WriteStr> DisplayReporter<'a, W, S> {
         }
     }
 
-    // Looks at a test that finishes once, for its text and its entry.
+    // Prepares a finished test once, for its text and for its entry in the summary.
     #[inline(always)]
     fn report(&mut self, event: &TestEvent<'_>) -> Result<(), WriteEventError>
         requires { lacks_output (decider_by self.old.state.settings None) event.now.kind ≡ false }
@@ -192,7 +200,7 @@ impl<'a, W: WriteStr, S: WriteStr> DisplayReporter<'a, W, S> {
         }
     }
 
-    // A test that finishes is passed with the event. Inlined, so that for most events only their own arm runs.
+    // `finished` is the test that the event finishes. Inlined, so that for most events only their own arm runs.
     #[inline(always)]
     fn report_event(
         &mut self,
@@ -366,12 +374,14 @@ impl<'a, W: WriteStr, S: WriteStr> DisplayReporter<'a, W, S> {
         (writer, store)
     }
 
-    /// Gives the writer and the store back as `into_parts` does, and frees nothing: for a program that ends.
+    /// Returns the writer and the store as [`into_parts`](DisplayReporter::into_parts) does, and frees nothing: for a
+    /// program that ends then. Hidden: only the programs of this repository need it.
     ///
     /// ```
     /// let (writer, _) = reporter.into_parts_unfreed();
     /// assert_eq!(writer.as_str(), "");
     /// ```
+    #[doc(hidden)]
     pub fn into_parts_unfreed(self) -> (&'a mut W, Option<Store<'a, S>>)
         ensures writer { result.0 ≡ self.entry.writer }
         ensures store { result.1 ≡ self.entry.store }

@@ -125,7 +125,9 @@ pub fn run_report_with_store<W: WriteStr, S: WriteStr>(
     }
 }
 
-/// Takes back the two writers of a reporter with a store: both end as they are.
+/// Ends two borrows and leaves what they refer to as it is. Hidden: only this library and its programs need it, where a
+/// reporter with a store ends before its writers.
+#[doc(hidden)]
 pub fn give_back<W, S>(writer: &mut W, store_writer: &mut S)
     ensures writer { writer.new ≡ writer.old }
     ensures store_writer { store_writer.new ≡ store_writer.old }

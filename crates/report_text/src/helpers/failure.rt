@@ -44,6 +44,11 @@ pub fn display_exited_with(alloc: Global, exit: &ExitDescription) -> Result<Stri
 
 /// Writes how a process ended.
 ///
+/// ```
+/// write_exited_with(&mut out, &ExitDescription::Code(3))?;
+/// assert_eq!(out.as_str(), "exited with exit code 3");
+/// ```
+///
 /// # Errors
 ///
 /// The writer's fault. It has accepted a prefix of the text.
@@ -100,6 +105,12 @@ pub fn display_abort_status(alloc: Global, abort: &AbortDescription) -> Result<S
 }
 
 /// Writes how a process was ended from outside.
+///
+/// ```
+/// use run_names::abort::AbortDescription;
+/// write_abort_status(&mut out, &AbortDescription::UnixSignal { signal: 9, name: None })?;
+/// assert_eq!(out.as_str(), "aborted with signal 9");
+/// ```
 ///
 /// # Errors
 ///

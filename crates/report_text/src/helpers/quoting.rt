@@ -58,6 +58,11 @@ pub fn shell_join<T: CommandWord>(alloc: Global, words: &[T]) -> Result<String, 
 
 /// Writes words as a shell reads them, separated by single spaces.
 ///
+/// ```
+/// write_shell_words(&mut out, &["echo", "a b"])?;
+/// assert_eq!(out.as_str(), "echo 'a b'");
+/// ```
+///
 /// # Errors
 ///
 /// The writer's fault. It has accepted a prefix of the text.
@@ -75,6 +80,11 @@ pub fn write_shell_words<W: WriteStr, T: CommandWord>(
 }
 
 /// Writes a command and its arguments as a shell reads them, separated by single spaces.
+///
+/// ```
+/// write_shell_command(&mut out, "echo", &["a b"])?;
+/// assert_eq!(out.as_str(), "echo 'a b'");
+/// ```
 ///
 /// # Errors
 ///

@@ -5,7 +5,7 @@ use Rattle.reporter_state.specs.Names.{shown_entries, shown_entry, final_order, 
 use Rattle.reporter_state.specs.declared.final_output.FinalOutput.TheVariants.{Executed, ExecutedWithOutput}
 
 module _ (test : KeptTest) (x : StatusSummary) where
-  -- the test with an output
+  -- the entry of this test with an output
   abbrev pub entry_with : Written → FinalOutputEntry
   entry_with output = record { test = test; output = ExecutedWithOutput x output }
 
