@@ -40,8 +40,8 @@ IsObserved config before event after = IsSeen config before event after ⊎ IsSt
 abbrev pub AnswersLoad : OutputLoadDecider → TestEvent → Type 0
 AnswersLoad decider event = decision decider event.kind ≡ Some Load
 
--- In every list of calls an event is observed only if the decision is Load. In uninterrupted calls that end with the end of
--- a run, it is observed exactly if the decision is Load.
+-- In every list of calls an event is observed only if the decision is Load. In uninterrupted calls that end with the
+-- end of a run, it is observed exactly if the decision is Load.
 abbrev pub IsExact : Configuration → OutputLoadDecider → Type 0
 IsExact config decider =
     (before after : List ReportCall) (event : TestEvent) →

@@ -17,8 +17,8 @@ AreOfOneKey (Some x) (Some y) = entry_key x ≡ entry_key y
 AreOfOneKey (Some x) None = ⊥
 AreOfOneKey None y = ⊥
 
--- Uninterrupted calls end with the end of a run. Swapping two neighbours before it does not change its text, unless both are
--- kept entries of one key.
+-- Uninterrupted calls end with the end of a run. Swapping two neighbours before it does not change its text, unless
+-- both are kept entries of one key.
 abbrev pub IsOrderIndependent : Configuration → List ReportCall → Type 0
 IsOrderIndependent config calls =
     (before after : List ReportCall) (first second : ReportCall) (end : TestEvent) →

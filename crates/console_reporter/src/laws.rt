@@ -21,15 +21,15 @@ pub fn texts_make_the_report()
         → slice_get (report_texts config (later ++ call ∷ past)) (length past) ≡ Some (text config past call) }
 {}
 
-/// What [`run_report`](crate::imp::run_report) promises is no empty promise: accepted calls end well, if no device fails
-/// and no memory is refused.
+/// What [`run_report`](crate::imp::run_report) promises is no empty promise: accepted calls end well, if no device
+/// fails and no memory is refused.
 ///
 /// No device failed if the writer's count of failures is the same at the end. Then:
 ///
-/// - If the writer asks for no memory, as a `TextBuffer` does not, and the reporter copies no prefix and keeps no test for
-///   the summary, the result is `Ok`: the whole report is accepted and delivered.
-/// - Else the result is `Ok` as well, or an `Err` by refused memory, at a call where the writer or the reporter asks for
-///   some.
+/// - If the writer asks for no memory, as a `TextBuffer` does not, and the reporter copies no prefix and keeps no
+///   test for the summary, the result is `Ok`: the whole report is accepted and delivered.
+/// - Else the result is `Ok` as well, or an `Err` by refused memory, at a call where the writer or the reporter asks
+///   for some.
 pub fn runs_end_well<W: WriteStr>()
     ensures { (config : Configuration) (calls : List ReportCall) (old new : W) (result : Result (Unit {0}) RunFault)
         → Runs W.meaning absent config calls (old, tt) result (new, tt) → AreAccepted config calls
@@ -37,8 +37,8 @@ pub fn runs_end_well<W: WriteStr>()
         → EndsWell W.meaning absent config calls (old, tt) result (new, tt) }
 {}
 
-/// Like [`runs_end_well`], of [`run_report_with_store`](crate::imp::run_report_with_store), if neither device fails: the
-/// records are accepted and delivered too.
+/// Like [`runs_end_well`], of [`run_report_with_store`](crate::imp::run_report_with_store), if neither device fails:
+/// the records are accepted and delivered too.
 pub fn runs_with_store_end_well<W: WriteStr, S: WriteStr>()
     ensures { (config : Configuration) (calls : List ReportCall) (old new : W × S) (result : Result (Unit {0}) RunFault)
         → Runs W.meaning S.meaning config calls old result new → AreAccepted config calls

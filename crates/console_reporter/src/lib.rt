@@ -1,15 +1,15 @@
 //! The console report of a test run.
 //!
-//! A reporter gets the events of a run, in order, and writes a text for each, which depends on the event, the configuration
-//! and the calls before. See [`imp::run_report`].
+//! A reporter gets the events of a run, in order, and writes a text for each, which depends on the event, the
+//! configuration and the calls before. See [`imp::run_report`].
 //!
 //! # The way of an event
 //!
 //! A call of `write_event` passes these crates:
 //!
 //! 1. `reporter_state`: the decider says from the event's metadata whether it is refused, which changes nothing.
-//! 2. `console_reporter`: `imp::event_text` picks the function that writes the text. Those of tests are in `test_text`, of a run and of its setup scripts
-//!    in `run_text`, of responses of units in `info_text`.
+//! 2. `console_reporter`: `imp::event_text` picks the function that writes the text. Those of tests are in
+//!    `test_text`, of a run and of its setup scripts in `run_text`, of responses of units in `info_text`.
 //! 3. They share what several events have, in `text_parts`; captured output, in `unit_report`; names and counters, in `report_text`
 //!    and `report_words`; styles, numbers and cut lines, in `styled_text`.
 //! 4. `styled_text`: the `TextBuffer` gathers the text and delivers it.

@@ -82,8 +82,8 @@ fn write_seconds<W: WriteStr>(w: &mut W, nanos: u128) -> Result<(), WriteFault>
 pub enum DurationRounding {
     /// Down, as for a time that has passed.
     Floor,
-    /// Up, as for a time that remains, if it has a whole millisecond: so the time that has passed and the time that remains
-    /// add up to the whole.
+    /// Up, as for a time that remains, if it has a whole millisecond: so the time that has passed and the time that
+    /// remains add up to the whole.
     Ceiling,
 }
 

@@ -1,8 +1,8 @@
-//! Words that need no value of a run but its times, ids and names: plurals, durations, paths, run ids, and the characters
-//! of bars. What shows a test, a script, a command or how a process ended is in the crate `report_text`.
+//! Words that need no value of a run but its times, ids and names: plurals, durations, paths, run ids, and the
+//! characters of bars. What shows a test, a script, a command or how a process ended is in the crate `report_text`.
 //!
-//! Each function that writes takes a [`writers::write_str::WriteStr`] and has one clause: what was written, or a prefix of
-//! it after a fault. No function here allocates while it writes.
+//! Each function that writes takes a [`writers::write_str::WriteStr`] and has one clause: what was written, or a
+//! prefix of it after a fault. No function here allocates while it writes.
 //!
 //! ```
 //! use report_words::{durations::FormattedDuration, plural::setup_scripts_str};

@@ -38,8 +38,8 @@ abbrev pub kept_entry : Settings → TestEnd → Option FinalOutputEntry
 kept_entry s (Finished f) = if is_kept s f then Some (finished_entry f) else None
 kept_entry s (Skipped test) = if is_skip_kept s then Some (skipped_entry test) else None
 
--- What an event does: the rank of the reason for which it cancels the run, 0 if it does not; and the test that it ends, from
--- the settings and the rank of the reason before.
+-- What an event does: the rank of the reason for which it cancels the run, 0 if it does not; and the test that it
+-- ends, from the settings and the rank of the reason before.
 pub record Effect : Type 0 where
   pub reason : ℕ
   pub ended : Settings → ℕ → Option TestEnd

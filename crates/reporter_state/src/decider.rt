@@ -21,8 +21,8 @@ use unit_report::unit_output::OutputDisplayOverrides;
 
 /// Decides from an event's metadata what a reporter of one configuration does with it, independent of the calls before.
 ///
-/// A replay asks it before it loads recorded output. A reporter has a decider, and a builder has that of the reporter that it
-/// will build.
+/// A replay asks it before it loads recorded output. A reporter has a decider, and a builder has that of the reporter
+/// that it will build.
 ///
 /// ```
 /// let decider = builder.output_load_decider(Surroundings::default(), None);
@@ -75,8 +75,8 @@ impl OutputLoadDecider {
         }
     }
 
-    /// A decider for these settings, and what a store keeps. Hidden: only a reporter has `Settings`. Callers ask a builder
-    /// or a reporter for its decider, or use [`OutputLoadDecider::new`].
+    /// A decider for these settings, and what a store keeps. Hidden: only a reporter has `Settings`. Callers ask a
+    /// builder or a reporter for its decider, or use [`OutputLoadDecider::new`].
     #[doc(hidden)]
     pub fn of_settings(settings: &Settings, store: Option<StoreConfig>) -> OutputLoadDecider
         ensures { result ≡ decider_by settings.now store }

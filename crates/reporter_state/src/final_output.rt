@@ -78,8 +78,8 @@ impl FinalOutput {
 }
 
 impl FinalOutputEntry {
-    /// What the summary shows of a finished test. It copies the test's names and the texts of the last attempt, and shares the
-    /// bytes of its output. Output that is shown must be loaded.
+    /// What the summary shows of a finished test. It copies the test's names and the texts of the last attempt, and
+    /// shares the bytes of its output. Output that is shown must be loaded.
     ///
     /// # Errors
     ///

@@ -65,8 +65,8 @@ impl ReporterState {
         error
     }
 
-    /// Changes the state by an event that cancels the run or ends a test. `finished` is the test that it finishes, with its
-    /// output loaded if that is shown.
+    /// Changes the state by an event that cancels the run or ends a test. `finished` is the test that it finishes,
+    /// with its output loaded if that is shown.
     ///
     /// # Errors
     ///

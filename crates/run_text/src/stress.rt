@@ -123,8 +123,8 @@ impl WriteText for Clock<'_> {
     }
 }
 
-// What remains, if that is known. The time is rounded up to whole seconds, since the time that has passed is rounded down:
-// so the two add up to the whole.
+// What remains, if that is known. The time is rounded up to whole seconds, since the time that has passed is rounded
+// down: so the two add up to the whole.
 #[derive(Clone, Copy)]
 struct Remaining<'a>(&'a Styles, Option<StressRemaining>);
 

@@ -51,8 +51,8 @@ layout_in kind no_indent theme style = record {
 abbrev pub finished_layout : Settings → UnitKind → ExecutionResultDescription → Bool → OutputLayout
 finished_layout s kind result is_retry = layout_in kind s.no_output_indent s.theme_characters (header_style s.styles result is_retry)
 
--- The result is repeated after the output, but for plain ones: a pass, a process that could not be started, a panic (code
--- 101), and an exit code if handles were left open.
+-- The result is repeated after the output, but for plain ones: a pass, a process that could not be started, a panic
+-- (code 101), and an exit code if handles were left open.
 abbrev pub has_info_after_failure : FailureDescription → Bool → Bool
 has_info_after_failure (ExitCode code) leaked = not (int_eq code (pos 101)) && not leaked
 has_info_after_failure (Abort abort) leaked = true

@@ -16,8 +16,8 @@ counter_width_of shown.Counter run_count = Some (length (decimal run_count))
 counter_width_of shown.Bar run_count = None
 counter_width_of shown.None run_count = None
 
--- The overrides of the tests' own display settings. Without capture there is no output to show, only why a test could not be
--- started.
+-- The overrides of the tests' own display settings. Without capture there is no output to show, only why a test could
+-- not be started.
 abbrev pub overrides_by : Bool → Option TestOutputDisplay → Option TestOutputDisplay → OutputDisplayOverrides
 overrides_by true success failure = record {
   force_success_output = Some display.Never;

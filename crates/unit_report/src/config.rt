@@ -93,8 +93,8 @@ impl DisplayConfig {
         }
     }
 
-    /// The progress display and the levels that the report gets. A bar needs captured output, a terminal and no CI. Without
-    /// capture the status level is at least Pass: the tests' own output then comes between the lines.
+    /// The progress display and the levels that the report gets. A bar needs captured output, a terminal and no CI.
+    /// Without capture the status level is at least Pass: the tests' own output then comes between the lines.
     ///
     /// ```
     /// let config = DisplayConfig::with_overrides(ShowProgress::Running, true, StatusLevel::Fail, FinalStatusLevel::Fail);

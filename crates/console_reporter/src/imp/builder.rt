@@ -20,8 +20,8 @@ use unit_report::config::{DisplayConfig, ShowProgress};
 use unit_report::unit_output::{DisplayerKind, OutputDisplayOverrides, UnitOutputReporter};
 use writers::write_str::WriteStr;
 
-/// Where a report goes. nextest detects this itself; a caller of this library sets it. The default is a file: no terminal, no
-/// build machine, ASCII characters, and empty outputs are not shown.
+/// Where a report goes. nextest detects this itself; a caller of this library sets it. The default is a file: no
+/// terminal, no build machine, ASCII characters, and empty outputs are not shown.
 ///
 /// ```
 /// let surroundings = Surroundings { use_unicode: true, ..Surroundings::default() };
@@ -121,8 +121,8 @@ impl DisplayReporterBuilder {
     /// assert_eq!(out.as_str(), "        PASS [   0.020s] (1/1) alpha t1\n");
     /// ```
     ///
-    /// [`DisplayReporterBuilder::build`] makes the same reporter from nextest's four flags. Neither allocates: the reporter keeps
-    /// `alloc` for the tests that the summary will list.
+    /// [`DisplayReporterBuilder::build`] makes the same reporter from nextest's four flags. Neither allocates: the
+    /// reporter keeps `alloc` for the tests that the summary will list.
     pub fn build_for<'a, W: WriteStr>(
         self,
         alloc: Global,

@@ -37,8 +37,8 @@ use text_parts::settings::Settings;
 use unit_report::formatters::write_final_warnings;
 use writers::write_str::{WriteFault, WriteStr};
 
-/// Writes the text of an event: one arm for each kind, in the order of the definition `event_text`. `finished` is the test that
-/// the event finishes, if it does.
+/// Writes the text of an event: one arm for each kind, in the order of the definition `event_text`. `finished` is the
+/// test that the event finishes, if it does.
 ///
 /// # Errors
 ///

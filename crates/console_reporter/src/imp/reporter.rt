@@ -109,8 +109,9 @@ impl<'a, W: WriteStr, S: WriteStr> DisplayReporter<'a, W, S> {
     ///
     /// # Errors
     ///
-    /// A refused event (`RetriedSuccess`, `OutputNotLoaded`) changes nothing. After `Io` or `Memory` a prefix of the text
-    /// was accepted, after `StoreIo` the text and a prefix of the record; every later call then returns `Failed`.
+    /// A refused event (`RetriedSuccess`, `OutputNotLoaded`) changes nothing. After `Io` or `Memory` a prefix of the
+    /// text was accepted, after `StoreIo` the text and a prefix of the record; every later call then returns
+    /// `Failed`.
     pub fn write_event(&mut self, event: &TestEvent<'_>) -> Result<(), WriteEventError>
         ensures { Promises W.meaning S.meaning self.old (Some (ReportCall.Event event.now)) result self.new }
     {
@@ -270,7 +271,8 @@ impl<'a, W: WriteStr, S: WriteStr> DisplayReporter<'a, W, S> {
     ///
     /// # Errors
     ///
-    /// `Io`, `Memory` or `StoreIo` if a writer fails: a prefix of the text was accepted, and every later call returns `Failed`.
+    /// `Io`, `Memory` or `StoreIo` if a writer fails: a prefix of the text was accepted, and every later call returns
+    /// `Failed`.
     pub fn write_replay_header(&mut self, header: &ReplayHeader) -> Result<(), WriteEventError>
         ensures { Promises W.meaning S.meaning self.old (Some (ReportCall.Header header.now)) result self.new }
     {
@@ -438,7 +440,8 @@ impl<'a, W: WriteStr, S: WriteStr> DisplayReporter<'a, W, S> {
     ///
     /// # Errors
     ///
-    /// Those of [`write_event`](DisplayReporter::write_event), and `Memory` if the memory for a copied prefix is refused.
+    /// Those of [`write_event`](DisplayReporter::write_event), and `Memory` if the memory for a copied prefix is
+    /// refused.
     pub fn make_call(&mut self, alloc: Global, call: &ReportCall<'_>) -> Result<(), WriteEventError>
         ensures { Promises W.meaning S.meaning self.old (Some call.now) result self.new }
     {

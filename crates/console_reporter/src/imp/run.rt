@@ -26,8 +26,8 @@ use writers::write_str::WriteStr;
 ///
 /// # Errors
 ///
-/// The first fault with the index of its call. The writer has accepted the report of the calls before, and a prefix of the
-/// text of that call.
+/// The first fault with the index of its call. The writer has accepted the report of the calls before, and a prefix
+/// of the text of that call.
 pub fn run_report<W: WriteStr>(
     alloc: Global,
     builder: DisplayReporterBuilder,
@@ -78,8 +78,8 @@ pub fn run_report<W: WriteStr>(
 ///
 /// # Errors
 ///
-/// The first fault with the index of its call. The writers have accepted the texts and records of the calls before, and a
-/// prefix of those of that call.
+/// The first fault with the index of its call. The writers have accepted the texts and records of the calls before,
+/// and a prefix of those of that call.
 pub fn run_report_with_store<W: WriteStr, S: WriteStr>(
     alloc: Global,
     builder: DisplayReporterBuilder,

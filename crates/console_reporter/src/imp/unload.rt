@@ -6,8 +6,8 @@ ghost use Rattle.{reporter_state.specs.Unread.unread, console_reporter.specs.Iso
 use reporter_state::decider::OutputLoadDecider;
 use run_model::call::ReportCall;
 
-/// Unloads the captured output of every attempt of each event whose output the decider skips, as in a replay that does not
-/// load it. It allocates nothing.
+/// Unloads the captured output of every attempt of each event whose output the decider skips, as in a replay that
+/// does not load it. It allocates nothing.
 ///
 /// This changes no byte that a reporter with the decider's configuration writes, and no call that it accepts.
 ///

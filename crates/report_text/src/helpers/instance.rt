@@ -57,8 +57,8 @@ impl<'a> DisplayTestInstance<'a> {
         }
     }
 
-    /// Shows at most the given number of columns. The iteration, the counter and the binary's id come first, in this order, and
-    /// are cut at their ends. The name gets the columns that are left, and is cut at its beginning.
+    /// Shows at most the given number of columns. The iteration, the counter and the binary's id come first, in this
+    /// order, and are cut at their ends. The name gets the columns that are left, and is cut at its beginning.
     ///
     /// ```
     /// let shown = DisplayTestInstance::new(None, None, test.as_ref(), &styles.list_styles);

@@ -1,7 +1,7 @@
 //! A test that is cut to a greatest width.
 //!
-//! The iteration of a stress run, the counter and the binary's id come first, in this order, and are cut at their ends. The name
-//! gets the columns that are left, and is cut at its beginning.
+//! The iteration of a stress run, the counter and the binary's id come first, in this order, and are cut at their
+//! ends. The name gets the columns that are left, and is cut at its beginning.
 
 ghost use Rattle.std.specs.Prelude.{◌<◌, ◌^◌, ◌∷◌, []};
 ghost use Rattle.styled_text.specs.Names.{FitsWidth, columns, shrunk_parts, Puts};

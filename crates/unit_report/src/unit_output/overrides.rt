@@ -66,8 +66,8 @@ impl OutputDisplayOverrides {
         )
     }
 
-    /// When the output of a test is shown, from whether its last attempt succeeded and from its last result. A replay that has
-    /// not loaded the attempts of a test knows no more.
+    /// When the output of a test is shown, from whether its last attempt succeeded and from its last result. A replay
+    /// that has not loaded the attempts of a test knows no more.
     ///
     /// ```
     /// let overrides = OutputDisplayOverrides::default();
