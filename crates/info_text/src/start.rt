@@ -40,6 +40,11 @@ pub fn write_info_started<W: WriteStr>(
 
 /// Writes that no further responses are waited for, and how many are missing.
 ///
+/// ```
+/// write_info_finished(&mut out, &settings, 1)?;
+/// assert_eq!(out.as_str(), "info: missing 1 responses\n------------\n");
+/// ```
+///
 /// # Errors
 ///
 /// The writer's fault. It has accepted a prefix of the text.

@@ -29,6 +29,15 @@ pub struct InfoUnit {
 
 /// Writes the state of a unit: a line, and a note below it if something is waited for.
 ///
+/// ```
+/// use run_model::info::UnitState;
+/// use run_model::unit::UnitKind;
+/// let unit = InfoUnit { kind: UnitKind::Test, attempt: None, has_errors: false };
+/// let state = UnitState::Running { pid: 7, time_taken: time, slow_after: None };
+/// write_state(&mut out, &settings, unit, &state)?;
+/// assert_eq!(out.as_str(), "status: test running for 0.020s as PID 7\n");
+/// ```
+///
 /// # Errors
 ///
 /// The writer's fault. It has accepted a prefix of the text.

@@ -63,6 +63,12 @@ impl KeptBinaryId {
 }
 
 /// The ids that were kept last, for the next tests of their binaries.
+///
+/// ```
+/// let mut ids = KeptBinaryIds::new(alloc);
+/// let kept = ids.keep(alloc, &RustBinaryId::new(alloc, "alpha")?)?;
+/// assert_eq!(kept.get().as_str(), "alpha");
+/// ```
 #[derive(Drop)]
 pub struct KeptBinaryIds {
     last: Vec<KeptBinaryId>,

@@ -100,6 +100,13 @@ impl FinalOutputEntry {
 
     /// What the summary shows of a skipped test. It allocates for the test's names.
     ///
+    /// ```
+    /// use reporter_state::binary_ids::KeptBinaryIds;
+    /// let mut ids = KeptBinaryIds::new(alloc);
+    /// let entry = FinalOutputEntry::skipped(alloc, &mut ids, settings.padded_instance(None, test.as_ref()))?;
+    /// assert!(entry.output.final_status_level() == FinalStatusLevel::Skip);
+    /// ```
+    ///
     /// # Errors
     ///
     /// Memory was refused.

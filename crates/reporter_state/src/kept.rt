@@ -22,6 +22,17 @@ use text_parts::settings::Settings;
 use writers::write_str::{WriteFault, WriteStr};
 
 /// The entries of a summary. Contracts see them in the order in which they are listed.
+///
+/// ```
+/// use reporter_state::binary_ids::KeptBinaryIds;
+/// use reporter_state::final_output::FinalOutputEntry;
+/// let mut ids = KeptBinaryIds::new(alloc);
+/// let mut entries = KeptEntries::new(alloc);
+/// let skipped = settings.padded_instance(None, test.as_ref());
+/// entries.keep(alloc, FinalOutputEntry::skipped(alloc, &mut ids, skipped)?)?;
+/// entries.write(&mut out, &settings)?;
+/// assert_eq!(out.as_str(), "        SKIP [         ] alpha t1\n");
+/// ```
 #[derive(Drop)]
 pub struct KeptEntries {
     // Greatest first: a search of the map compares with the first keys first, and most runs keep entries in order.

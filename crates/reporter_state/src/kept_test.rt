@@ -14,6 +14,13 @@ use std::marker::Model;
 use text_parts::instance::CountedInstance;
 
 /// A test as its lines name it, which owns its names.
+///
+/// ```
+/// use reporter_state::binary_ids::KeptBinaryIds;
+/// let mut ids = KeptBinaryIds::new(alloc);
+/// let kept = KeptTest::copy_of(alloc, &mut ids, settings.padded_instance(None, test.as_ref()))?;
+/// assert_eq!(kept.as_counted().instance.test_name.as_str(), "t1");
+/// ```
 #[derive(Drop)]
 pub struct KeptTest {
     /// Which iteration of a stress run it belongs to.

@@ -10,6 +10,12 @@ use std::alloc::Global;
 use std::marker::Model;
 
 /// Output that is loaded, as the entries of the summary need it. Contracts see the output.
+///
+/// ```
+/// let failed = ExecuteStatus::failed(1, time);
+/// let loaded = LoadedOutput::copy_of(alloc, &failed.output)?;
+/// assert!(loaded.get().has_loaded_output());
+/// ```
 #[derive(Debug, Drop)]
 pub struct LoadedOutput {
     output: Boxed<ChildExecutionOutputDescription<LiveSpec>>,

@@ -18,6 +18,13 @@ use text_parts::instance::CountedInstance;
 use text_parts::settings::Settings;
 
 /// What a reporter knows of the calls before.
+///
+/// ```
+/// let mut state = ReporterState::new(alloc, settings);
+/// let error = state.fail(WriteEventError::Io);
+/// assert_eq!(error, WriteEventError::Io);
+/// assert!(state.has_failed);
+/// ```
 #[derive(Drop)]
 pub struct ReporterState {
     /// Where memory comes from.

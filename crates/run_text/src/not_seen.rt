@@ -15,6 +15,14 @@ use writers::write_str::{WriteFault, WriteStr};
 
 /// Writes how many outstanding tests were not seen, if any, and those that are listed.
 ///
+/// ```
+/// use run_model::not_seen::{NotSeen, TestInstanceList};
+/// let not_seen = TestInstanceList::new(alloc, vec![in alloc; test]?)?;
+/// write_not_seen(&mut out, &settings, &Some(NotSeen { not_seen, total_not_seen: 1 }))?;
+/// let note = "        Note 1 outstanding test not seen during this rerun:\n             alpha t1\n";
+/// assert_eq!(out.as_str(), note);
+/// ```
+///
 /// # Errors
 ///
 /// The writer's fault. It has accepted a prefix of the text.

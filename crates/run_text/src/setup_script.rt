@@ -22,6 +22,16 @@ use writers::write_str::{WriteFault, WriteStr};
 
 /// Writes that a setup script has started. `index` is its index among all, from 0.
 ///
+/// ```
+/// use run_model::name::{ProgramName, ScriptId};
+/// use text_parts::script::ScriptInstance;
+/// let (script_id, program) = (ScriptId::new(alloc, "s1")?, ProgramName::new(alloc, "cmd")?);
+/// let args = CommandLine::from_words(alloc, &["x"])?;
+/// let script = ScriptInstance { stress_index: None, script_id: &script_id, program: &program, args: &args };
+/// write_setup_script_started(&mut out, &styles, 0, 1, script)?;
+/// assert_eq!(out.as_str(), "       SETUP [      1/1] s1: cmd x\n");
+/// ```
+///
 /// # Errors
 ///
 /// The writer's fault. It has accepted a prefix of the text.

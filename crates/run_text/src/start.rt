@@ -19,6 +19,13 @@ use writers::write_str::{WriteFault, WriteStr};
 
 /// Writes the start of a run: its id and profile, and how many tests and binaries there are.
 ///
+/// ```
+/// let tests = TestCounts { run_count: 1, listed_binary_count: 1, skip_counts: SkipCounts::default() };
+/// let profile = ProfileName::new(alloc, "default")?;
+/// write_run_started(&mut out, &settings, &None, &tests, &Uuid::from_u128(1), &profile)?;
+/// assert!(out.as_str().ends_with(" with nextest profile: default\n    Starting 1 test across 1 binary\n"));
+/// ```
+///
 /// # Errors
 ///
 /// The writer's fault. It has accepted a prefix of the text.

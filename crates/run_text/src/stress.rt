@@ -21,6 +21,13 @@ use writers::write_str::{WriteFault, WriteStr};
 
 /// Writes that an iteration of a stress run has started, and how much of the run has passed and remains.
 ///
+/// ```
+/// use run_model::stress::{StressCount, StressProgress};
+/// let progress = StressProgress::Count { total: StressCount::Infinite, elapsed: time, completed: 0 };
+/// write_stress_sub_run_started(&mut out, &settings, &progress)?;
+/// assert_eq!(out.as_str(), "------------\n Stress test iteration 1 (00:00:00 elapsed so far)\n");
+/// ```
+///
 /// # Errors
 ///
 /// The writer's fault. It has accepted a prefix of the text.

@@ -66,6 +66,11 @@ pub fn write_run_finished<W: WriteStr>(
 }
 
 /// How many tests ran, and the counts.
+///
+/// ```
+/// RunCounts(&styles, NextestRunMode::Test, &stats).write_to(&mut out)?;
+/// assert_eq!(out.as_str(), "1 test run: 1 passed, 0 skipped\n");
+/// ```
 #[derive(Clone, Copy)]
 pub struct RunCounts<'a>(pub &'a Styles, pub NextestRunMode, pub &'a RunStats);
 

@@ -92,6 +92,13 @@ impl<'b> StatusLine<'b> {
 
 /// Writes the line of a finished test.
 ///
+/// ```
+/// let line = StatusLine::of_description(&statuses.describe());
+/// let shown = settings.padded_instance(None, test.as_ref());
+/// write_status_line(&mut out, &styles, StatusLineKind::Final, &shown, line)?;
+/// assert_eq!(out.as_str(), "        PASS [   0.020s] alpha t1\n");
+/// ```
+///
 /// # Errors
 ///
 /// The writer's fault. It has accepted a prefix of the text.

@@ -63,6 +63,13 @@ impl<'e, 'a> FinishedTest<'e, 'a> {
 /// Writes the line of a finished test if its level is shown, and the output of its last attempt if that is
 /// shown immediately. That output must be loaded.
 ///
+/// ```
+/// let never = TestOutputDisplay::Never;
+/// let finished = FinishedTest::new(&settings, None, None, test.as_ref(), never, never, &statuses, &stats);
+/// write_test_finished(&mut out, &settings, &finished)?;
+/// assert_eq!(out.as_str(), "        PASS [   0.020s] alpha t1\n");
+/// ```
+///
 /// # Errors
 ///
 /// The writer's fault. It has accepted a prefix of the text.

@@ -21,6 +21,12 @@ use writers::write_str::{WriteFault, WriteStr};
 ///
 /// `is_retry` says that another attempt follows. The output must be loaded.
 ///
+/// ```
+/// let failed = ExecuteStatus::failed(1, time);
+/// write_test_execute_status(&mut out, &settings, false, &failed.result, &failed.output)?;
+/// assert!(out.as_str().ends_with("    (test failed with exit code 1)\n\n"));
+/// ```
+///
 /// # Errors
 ///
 /// The writer's fault. It has accepted a prefix of the text.

@@ -12,6 +12,11 @@ use run_model::output::LiveSpec;
 use run_model::status::{ExecutionDescription, ExecutionResultDescription, FailureDescription};
 
 /// How a finished test is shown.
+///
+/// ```
+/// let timing = OutputTiming::of_test(Some(CancelReason::Interrupt), &ExecutionResultDescription::Pass);
+/// assert!(!timing.is_shown_at_once(TestOutputDisplay::Immediate));
+/// ```
 #[derive(Clone, Copy, PartialEq, Eq)]
 pub enum OutputTiming {
     /// Its output is not shown, and it is not kept.

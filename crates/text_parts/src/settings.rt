@@ -96,6 +96,11 @@ impl Settings {
 }
 
 /// The width of the numbers of a counter, if counters are shown: that of the number of tests.
+///
+/// ```
+/// use unit_report::config::ProgressDisplay;
+/// assert_eq!(counter_width_for(ProgressDisplay::Counter, 120), Some(3));
+/// ```
 pub fn counter_width_for(progress_display: ProgressDisplay, run_count: usize) -> Option<usize>
     ensures { result ≡ counter_width_of progress_display run_count }
 {
