@@ -49,7 +49,7 @@ pub struct Surroundings {
 /// drop(reporter);
 /// assert!(out.as_str().ends_with("alpha\x1b[0m \x1b[34;1mt1\x1b[0m\n"));
 /// ```
-#[derive(Drop)]
+#[derive(Debug, Drop)]
 pub struct DisplayReporterBuilder {
     /// Whether the run runs tests or benchmarks.
     pub mode: NextestRunMode,
