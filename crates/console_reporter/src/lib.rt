@@ -11,7 +11,8 @@
 //! 2. `console_reporter`: `imp::event_text` picks the function that writes the text. Those of tests are in
 //!    `test_text`, of a run and of its setup scripts in `run_text`, of responses of units in `info_text`.
 //! 3. All of these use `text_parts` for what several events have in common, `unit_report` for captured output,
-//!    `report_text` and `report_words` for names, counters and words, and `styled_text` for styles, numbers and cut lines.
+//!    `report_text` and `report_words` for names, counters and words, and `styled_text` for styles, numbers and cut
+//!    lines.
 //! 4. `writers`: the `TextBuffer` gathers the text and delivers it.
 //! 5. `reporter_state`: keeps the entry that a later summary lists.
 //! 6. `store_text`: writes the record of a finished test, if there is a store, and delivers it.

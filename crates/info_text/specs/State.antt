@@ -56,7 +56,7 @@ running_line mode u pid taken mark =
     ⧺ number Count pid
     ⧺ Verbatim (marked_slow_end (nanos_of mark)) (free-marked_slow_end (nanos_of mark))
 
--- it is not known how a unit ended
+-- the words for a unit of which it is not known how it ended
 unfoldable pub unknown_info : Fixed Open
 unknown_info = toned Fail (codes "failed") ⧺ words (codes " with unknown status")
 

@@ -54,7 +54,7 @@ either_end Lines Open = Open
 either_end Lines Line = Lines
 either_end Lines Lines = Lines
 
--- for literal words it is computed
+-- the end of these words; of literal words it is computed
 abbrev pub ending : Text → End
 ending [] = Lines
 ending (c ∷ []) = if c == 10 then Line else Open

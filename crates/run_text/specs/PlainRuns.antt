@@ -11,11 +11,11 @@ IsPlainPrefix p = HasNoEscape p.prefix × HasNoEscape p.rest
 abbrev pub IsPlainHeader : ReplayHeader → Type 0
 IsPlainHeader h = HoldsIf IsPlainPrefix h.unique_prefix × HasNoEscape h.status
 
--- Nor does the result of a setup script. In colour (the flag) nor does its output.
+-- the result of a setup script holds no escape character, and in colour (the flag) its output holds none
 abbrev pub IsPlainScriptStatus : Bool → SetupScriptExecuteStatus LiveSpec ChildOutputDescription → Type 0
 IsPlainScriptStatus k x = IsPlainResult x.result × IsPlainWritten k x.output
 
--- nor do the names of tests that were not seen
+-- the names of tests that were not seen hold no escape character
 abbrev pub IsPlainOwned : OwnedTestInstanceId → Type 0
 IsPlainOwned i = HasNoEscape i.binary_id × HasNoEscape i.test_name
 

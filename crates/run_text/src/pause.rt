@@ -1,4 +1,4 @@
-//! A run that is stopped for a while, and goes on.
+//! A run that is paused, and continues.
 
 ghost use Rattle.std.specs.Prelude.{◌++◌};
 ghost use Rattle.run_text.specs.Pause.{due_to_signal, run_continued_text, run_paused_text};
@@ -11,7 +11,7 @@ use text_parts::settings::Settings;
 use writers::text::{Unless, WriteText};
 use writers::write_str::{WriteFault, WriteStr};
 
-/// Writes that the run was stopped for a while, and how many setup scripts or tests run.
+/// Writes that the run is paused, and how many setup scripts or tests run.
 ///
 /// ```
 /// write_run_paused(&mut out, &settings, 0, 2)?;
@@ -33,7 +33,7 @@ pub fn write_run_paused<W: WriteStr>(
     write_pause(w, settings, "Pausing", setup_scripts_running, running)
 }
 
-/// Writes that the run goes on after it was stopped, and how many setup scripts or tests run.
+/// Writes that the run continues after a pause, and how many setup scripts or tests run.
 ///
 /// # Errors
 ///

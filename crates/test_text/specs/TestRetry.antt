@@ -16,15 +16,16 @@ attempt_failed_line test x =
     ⧺ bracketed x.time_taken.0
     ⧺ instance_end test
 
--- its output is shown immediately: by the setting for failures, also if the test could not be started
+-- the output of a failed attempt is shown immediately: by the setting for failures, also if the test could not be
+-- started
 unfoldable pub is_failed_output_shown : Settings → TestOutputDisplay → Bool
 is_failed_output_shown s failure = is_immediate (unwrap_or s.unit_output.overrides.force_failure_output failure)
 
--- its output is loaded, if it is shown immediately
+-- the output of a failed attempt is loaded, if it is shown immediately
 abbrev pub HasFailedAttemptOutput : Settings → Attempt → TestOutputDisplay → Type 0
 HasFailedAttemptOutput s x failure = is_failed_output_shown s failure ≡ true → has_loaded_output x.output ≡ true
 
--- its output, if that is shown immediately
+-- the output of a failed attempt, if that is shown immediately
 unfoldable pub failed_output : Settings → Attempt → TestOutputDisplay → Parts false Lines
 failed_output s x failure = choice (is_failed_output_shown s failure) (attempt_output s true x.result x.output) none
 

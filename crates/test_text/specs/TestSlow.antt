@@ -58,7 +58,7 @@ terminating_text s test r elapsed =
     (Right 12 (terminating_tone r) (terminating_word s r) (free-terminating_word s r) ⧺ slow_end test elapsed)
     none
 
--- a test is slow, and goes on or is terminated
+-- a test is slow, and still runs or is terminated
 abbrev pub slow_or_terminating : Settings → CountedInstance → RetryData → ℕ → Bool → Parts false Lines
 slow_or_terminating s test r elapsed true = terminating_text s test r elapsed
 slow_or_terminating s test r elapsed false = slow_text s test r.attempt elapsed

@@ -61,7 +61,7 @@ display_of s success failure x = display_for s.unit_output.overrides success fai
 unfoldable pub is_line_shown : Settings → StatusSummary → Bool
 is_line_shown s x = nat_le (status_rank (status_level_of x)) (status_rank s.status_levels.status_level)
 
--- its output is shown immediately
+-- the output of the test is shown immediately
 abbrev pub is_shown_at_once : ℕ → TestOutputDisplay → ExecutionResultDescription → Bool
 is_shown_at_once reason display result = timed_at_once (output_timing reason result) display
 

@@ -52,7 +52,7 @@ never-kept s f last h =
 pub unloaded-summary : (a : Attempts LiveSpec ChildOutputDescription) → summary_of (unloaded_attempts a) ≡ summary_of a
 unloaded-summary a = rw (length-map a.earlier unloaded_attempt) refl
 
--- nor does that of their event
+-- the event of a finished test whose output is never shown is the same to a report once its output is unloaded
 module _ (s : Settings) (stress : Option StressIndex) (test : TestInstanceId) (success failure : TestOutputDisplay) (statuses : Attempts LiveSpec ChildOutputDescription) (stats : RunStats)
     (never : is_ever_shown (display_for s.unit_output.overrides success failure (summary_of statuses)) ≡ false) where
   abbrev finish : ℕ → FinishReport
@@ -179,7 +179,7 @@ map_reverse f (x ∷ xs) =
     ap (map f) (reverse-append (x ∷ []) xs) ∙ map-append f (reverse xs) (x ∷ []) ∙ ap (λ ys. ys ++ f x ∷ []) (map_reverse f xs)
     ∙ sym (reverse-append (f x ∷ []) (map f xs))
 
--- from the latest call on, as in a past
+-- like `same-calls`, for the calls in reverse, as a past has them
 same-past : (config : Configuration) (d : OutputLoadDecider) (calls : List ReportCall) → decider_of config ≡ d → AreSame config (reverse calls) (reverse (unread d calls))
 same-past config d calls is =
     subst (AreSame config (reverse calls)) (map_reverse (unread_call d) calls)

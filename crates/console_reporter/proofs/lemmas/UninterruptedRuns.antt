@@ -21,7 +21,7 @@ pub uninterrupted_both : (xs ys : List ReportCall) → AreUninterrupted xs → A
 uninterrupted_both [] ys a b = b
 uninterrupted_both (x ∷ xs) ys a b = (a.0, uninterrupted_both xs ys a.1 b)
 
--- an uninterrupted reason keeps the same entries as none
+-- under an uninterrupted reason the same entries are kept as without a reason
 pub uninterrupted_entry : (s : Settings) (reason : ℕ) (e : TestEventKind) → reason < 5 → entry_of s reason e ≡ entry_of s 0 e
 uninterrupted_entry s reason (TestFinished stress test success failure statuses stats) h =
     rw (row_below reason statuses.last.result h, row_below 0 statuses.last.result (omega arith)) refl

@@ -196,7 +196,7 @@ module _ {X : Type 0} (lt : X → X → Bool) (o : IsStrictWeakOrder lt) where
     | inr a ↦ (elim (cases_Bool (lt f y)) [ inl b ↦ rw (a, b, a, h) refl | inr b ↦ (let back = o.one_way x y h in rw (a, b, h, back) refl) ])
   ]
 
-  -- so the order does not depend on which of two neighbours came first
+  -- the order does not depend on which of two neighbours came first, if they do not tie
   pub order-swap : (front back : List X) (x y : X) → lt x y ≡ true → ordered_by lt (front ++ x ∷ y ∷ back) ≡ ordered_by lt (front ++ y ∷ x ∷ back)
   unfolding ordered_by
   order-swap [] back x y h = put_both x y (ordered_by lt back) h
