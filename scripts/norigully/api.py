@@ -53,9 +53,12 @@ whole program:
 
 
 def of_reporter():
-    """The items that console_reporter offers, each once: of its module rather than the prelude."""
+    """The items that console_reporter offers, each once: of its module rather than the prelude. Hidden ones, which are
+    public only for crates of this repository, are left out."""
     found = {}
     for it in offered(REPORTER):
+        if "#[doc(hidden)]" in it.attributes:
+            continue
         if it not in found or found[it].module == PRELUDE:
             found[it] = it
     return [*found.values()]
@@ -195,7 +198,7 @@ def prelude():
 
 
 def page():
-    items = [it for it in of_reporter() if "#[doc(hidden)]" not in it.attributes]
+    items = of_reporter()
     by_module = collections.defaultdict(list)
     places = {it: name.lower() for name, _, others in MOST_USED for it in (name, *others)}
     for it in items:

@@ -3,7 +3,7 @@ use Rattle.std.specs.Prelude.{◌≡◌, ℕ, List, Bool, true, false, reverse}
 use Rattle.{styled_text.specs.Names.IsEqualButEndSpaces, styled_text.specs.Names.visible, run_model.specs.declared.call.ReportCall.ReportCall}
 use Rattle.console_reporter.specs.{Configuration.Configuration, Report.report, Report.text_at, Stored.stored, Stored.stored_at, PlainCalls.ArePlain, PlainCalls.IsPlainConfiguration}
 
--- the same configuration, in colour or plain
+-- this configuration, with colours or without
 abbrev pub in_colour : Bool → Configuration → Configuration
 in_colour b config = record config { builder = record config.builder { should_colorize = b } }
 
@@ -16,7 +16,7 @@ pub record IsEqualInColour (config : Configuration) (calls : List ReportCall) : 
 abbrev pub ColourLaw : Configuration → List ReportCall → Type 0
 ColourLaw config calls = IsPlainConfiguration config → ArePlain true calls → IsEqualInColour config calls
 
--- the store gets the same bytes in colour and without: the record of each call, and all of them
+-- colours do not change what is stored: neither the record of any call, nor all of them
 pub record IsSameStoredInColour (config : Configuration) (calls : List ReportCall) : Type 0 where
   pub at_each : (position : ℕ) → stored_at (in_colour true config).store calls position ≡ stored_at (in_colour false config).store calls position
   pub whole : stored (in_colour true config).store (reverse calls) ≡ stored (in_colour false config).store (reverse calls)

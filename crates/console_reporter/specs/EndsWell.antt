@@ -8,11 +8,11 @@ use Rattle.console_reporter.specs.{Stored.stored as stored_by}
 
 pub record EndsWell {W S : Type 0} (m : Meaning W) (n : Meaning S) (config : Configuration) (calls : List ReportCall)
     (old : W × S) (result : Result (Unit {0}) RunFault) (new : W × S) : Type 0 where
-  -- where neither a writer nor the reporter itself asks for memory, it succeeds: the whole report and all records were
+  -- if neither a writer nor the reporter itself asks for memory, it succeeds: the whole report and all records were
   -- accepted and delivered
   pub ok : (m.may_refuse old.0 → ⊥) → (n.may_refuse old.1 → ⊥) → ((i : ℕ) → MayGrowAt config calls i → ⊥)
       → (result ≡ Ok tt) × m.accepts old.0 (report config (reverse calls)) new.0 × m.is_delivered new.0
       × n.accepts old.1 (stored_by config.store (reverse calls)) new.1 × n.is_delivered new.1
-  -- else nothing stops it but memory, refused to one that asked for it
+  -- else only refused memory stops it, at a call where a writer or the reporter asks for memory
   pub err : IfErr result
       (λ stop. (stop.fault ≡ Memory) × (m.may_refuse old.0 ⊎ MayGrowAt config calls stop.position ⊎ n.may_refuse old.1))

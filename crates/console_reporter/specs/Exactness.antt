@@ -10,7 +10,7 @@ use Rattle.console_reporter.specs.{Uninterrupted.AreUninterrupted, Uninterrupted
 abbrev pub combined : Text → Written
 combined t = Output None (Combined t) None None
 
--- a decided event with this execution output: for a finished test, that of the last attempt. Other events do not change
+-- a decided event with this output, for a finished test as that of its last attempt; other events do not change
 abbrev pub with_output : Written → TestEventKind → TestEventKind
 with_output output (SetupScriptFinished stress script program args status) = SetupScriptFinished stress script program args (record status { output = output })
 with_output output (TestAttemptFailedWillRetry stress test status delay failure) = TestAttemptFailedWillRetry stress test (record status { output = output }) delay failure
@@ -27,7 +27,7 @@ abbrev pub IsSeen : Configuration → List ReportCall → TestEvent → List Rep
 IsSeen config before event after =
     report_texts config (reverse (before ++ writing (codes "a") event ∷ after)) ≢ report_texts config (reverse (before ++ writing (codes "b") event ∷ after))
 
--- and another record
+-- some position has another record if the event's output is "a" than if it is "b"
 abbrev pub IsStoredThere : Configuration → List ReportCall → TestEvent → List ReportCall → Type 0
 IsStoredThere config before event after =
     records config.store (before ++ writing (codes "a") event ∷ after) ≢ records config.store (before ++ writing (codes "b") event ∷ after)
@@ -36,11 +36,11 @@ IsStoredThere config before event after =
 abbrev pub IsObserved : Configuration → List ReportCall → TestEvent → List ReportCall → Type 0
 IsObserved config before event after = IsSeen config before event after ⊎ IsStoredThere config before event after
 
--- the decision is Load: only decided events have one
+-- the decider decides Load; events that are not decided have no decision
 abbrev pub AnswersLoad : OutputLoadDecider → TestEvent → Type 0
 AnswersLoad decider event = decision decider event.kind ≡ Some Load
 
--- In every list of calls an event is observed only if the decision is Load; and in uninterrupted calls, of which the last is the
+-- In every list of calls an event is observed only if the decision is Load. In uninterrupted calls that end with the
 -- end of a run, it is observed exactly if the decision is Load.
 abbrev pub IsExact : Configuration → OutputLoadDecider → Type 0
 IsExact config decider =

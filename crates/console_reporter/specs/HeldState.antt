@@ -18,7 +18,7 @@ pub record StandsAfter {W S : Type 0} (config : Configuration) (past : List Repo
 abbrev pub HasFailed : {W S : Type 0} → DisplayReporter W S → Type 0
 HasFailed reporter = reporter.state.has_failed ≡ true
 
--- both have the same writer
+-- the writer of the reporter did not change
 abbrev pub IsSameWriter : {W S : Type 0} → DisplayReporter W S → DisplayReporter W S → Type 0
 IsSameWriter old new = new.writer.ghost_name ≡ old.writer.ghost_name
 
@@ -34,7 +34,7 @@ known_by state = record {
 abbrev pub MayGrow : {W S : Type 0} → DisplayReporter W S → TestEvent → Type 0
 MayGrow reporter event = IsTrue (may_grow_for reporter.state.settings (reason_rank reporter.state.cancel_status) event.kind)
 
--- it may for a call under a reason: a prefix is copied
+-- the reporter may allocate for a call: for an event in a run with this reason before, or to copy a prefix
 abbrev pub may_grow_in : Settings → ℕ → ReportCall → Bool
 may_grow_in s reason (Event e) = may_grow_for s reason e.kind
 may_grow_in s reason (Header h) = false
@@ -43,6 +43,6 @@ may_grow_in s reason (Prefix p) = true
 abbrev pub MayGrowIn : {W S : Type 0} → DisplayReporter W S → ReportCall → Type 0
 MayGrowIn reporter call = IsTrue (may_grow_in reporter.state.settings (reason_rank reporter.state.cancel_status) call)
 
--- and for the call at an index; past the end there is none
+-- like `may_grow_in`, for the call at an index; past the end there is no call
 abbrev pub MayGrowAt : Configuration → List ReportCall → ℕ → Type 0
 MayGrowAt config calls i = IsTrue (option_map_or (may_grow_in (settings_of config) (cancel (past_at calls i))) (slice_get calls i) false)

@@ -4,9 +4,9 @@ use Rattle.run_model.specs.declared.call.ReportCall.{ReportCall}
 use Rattle.reporter_state.specs.{Refusals.AreAcceptedBy, Refusals.first_refused, Refusals.refusal_at_by, declared.decider.OutputLoadDecider.OutputLoadDecider}
 use Rattle.console_reporter.specs.{Accepted.decider_of, Configuration.Configuration, Report.report, Report.report_texts, Stored.records, Stored.stored}
 
--- For every configuration with this decider, each position of the calls without their skipped outputs has the text and
--- the record of that position of the calls, so the report and what is stored are the same; calls that are accepted still are; the first call that is
--- refused is the same one; and each call is refused for the same reason.
+-- For every configuration with this decider: with the skipped outputs left unread, each call has the text and the
+-- record that it had before, so the report and what is stored do not change. Accepted calls stay accepted, the first
+-- refused call stays the first, and each call is refused for the reason for which it was refused before.
 abbrev pub IsIsolated : OutputLoadDecider → List ReportCall → List ReportCall → Type 0
 IsIsolated decider calls left =
     ((config : Configuration) → decider_of config ≡ decider → report_texts config (reverse left) ≡ report_texts config (reverse calls))

@@ -2,14 +2,14 @@
 use Rattle.std.specs.Prelude.{◌≡◌, ℕ, List, [], Option, None, Some}
 use Rattle.{styled_text.specs.Names.Meaning, styled_text.specs.Names.WriteFault, store_text.specs.declared.config.StoreConfig.StoreConfig, console_reporter.specs.declared.imp.store.Store.Store}
 
--- both have the same writer and keep the same, or both are absent
+-- the store did not change its writer and what it keeps, or is absent before and after
 abbrev pub IsSameStore : {S : Type 0} → Option (Store S) → Option (Store S) → Type 0
 IsSameStore None None = Unit {0}
 IsSameStore None (Some b) = ⊥
 IsSameStore (Some a) None = ⊥
 IsSameStore (Some a) (Some b) = (b.writer.ghost_name ≡ a.writer.ghost_name) × (b.config ≡ a.config)
 
--- what it keeps
+-- what the store keeps
 abbrev pub config_of : {S : Type 0} → Option (Store S) → Option StoreConfig
 config_of None = None
 config_of (Some a) = Some a.config

@@ -11,14 +11,14 @@ entry_after config past (Event e) = entry_of (settings_of config) (cancel past) 
 entry_after config past (Header h) = None
 entry_after config past (Prefix p) = None
 
--- both are entries, of one key
+-- both calls keep entries, and these have one key
 abbrev pub AreOfOneKey : Option FinalOutputEntry → Option FinalOutputEntry → Type 0
 AreOfOneKey (Some x) (Some y) = entry_key x ≡ entry_key y
 AreOfOneKey (Some x) None = ⊥
 AreOfOneKey None y = ⊥
 
--- In uninterrupted calls, of which the last is the end of a run, swapping two neighbours, neither the last, that are not both kept
--- entries of one key does not change the text of the last.
+-- Uninterrupted calls end with the end of a run. Swapping two neighbours before it does not change its text, unless
+-- both are kept entries of one key.
 abbrev pub IsOrderIndependent : Configuration → List ReportCall → Type 0
 IsOrderIndependent config calls =
     (before after : List ReportCall) (first second : ReportCall) (end : TestEvent) →

@@ -17,9 +17,9 @@ pub data Side : Type 0 where
   Report : Side
   Records : Side
 
--- From old, the error stopped the text of a side, of which a prefix was accepted, and left new: a device stops its own side,
--- and memory either, or the reporter itself. A refusal changes neither, a fault of the first writer does not change the store, and a fault
--- of the store comes after the whole text of the report.
+-- The error stopped the text of a side, after a prefix of it was accepted between old and new. A device stops its own
+-- side; memory stops either side, or the reporter itself. A refusal changes neither side, a fault of the first writer
+-- does not change the store, and a fault of the store comes after the whole text of the report.
 abbrev pub Stops : {S : Type 0} → Side → Meaning S → S → Text → WriteEventError → S → Type 0
 Stops side m old text RetriedSuccess new = new ≡ old
 Stops side m old text OutputNotLoaded new = new ≡ old

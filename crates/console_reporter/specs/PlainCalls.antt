@@ -10,15 +10,15 @@ use Rattle.run_model.specs.declared.call.ReportCall.TheVariants.{Event, Header, 
 abbrev pub IsPlainConfiguration : Configuration → Type 0
 IsPlainConfiguration config = HasNoEscape config.builder.default_filter.profile
 
--- nor do the words of a command line
+-- the words of a command line hold no escape character
 abbrev pub ArePlainWords : List Text → Type 0
 ArePlainWords words = AllByRecursion HasNoEscape words
 
--- nor do the result and output of an attempt; the output counts in colour (the flag)
+-- the result of an attempt holds no escape character, and in colour (the flag) its output holds none
 abbrev pub IsPlainAttempt : Bool → ExecuteStatus LiveSpec ChildOutputDescription → Type 0
 IsPlainAttempt k x = IsPlainResult x.result × IsPlainWritten k x.output
 
--- nor do the names and texts of an event; of the attempts of a finished test the last one is shown
+-- the names and texts of an event hold no escape character; of a finished test only the last attempt counts
 abbrev pub IsPlainKind : Bool → TestEventKind → Type 0
 IsPlainKind k (RunStarted counts id profile) = HasNoEscape profile
 IsPlainKind k (SetupScriptStarted stress index total id program args) = IsPlainScript (script_by stress id program args)
@@ -34,12 +34,12 @@ IsPlainKind k (InfoResponse index total response) = IsPlainResponse k response
 IsPlainKind k (RunFinished taken stats outstanding) = IsPlainNotSeen outstanding
 IsPlainKind k _ = Unit {0}
 
--- nor do those of a call
+-- the names and texts of a call hold no escape character
 abbrev pub IsPlainCall : Bool → ReportCall → Type 0
 IsPlainCall k (Event e) = IsPlainKind k e.kind
 IsPlainCall k (Header h) = IsPlainHeader h
 IsPlainCall k (Prefix p) = IsPlainPrefix p
 
--- nor do those of any of the calls
+-- the names and texts of all calls hold no escape character
 abbrev pub ArePlain : Bool → List ReportCall → Type 0
 ArePlain k calls = AllByRecursion (IsPlainCall k) calls

@@ -98,6 +98,6 @@ report config (call ∷ past) = report config past ++ text config past call
 abbrev pub past_at : List ReportCall → ℕ → List ReportCall
 past_at calls i = reverse (take i calls)
 
--- the text of the call at an index; past the end there is none
+-- the text of the call at an index, empty past the end
 abbrev pub text_at : Configuration → List ReportCall → ℕ → Text
 text_at config calls i = option_map_or (text config (past_at calls i)) (slice_get calls i) []

@@ -18,7 +18,7 @@ absent = record {
 }
 
 -- Calls made in order by a new reporter, from its writers before to its writers after: the report, and the records. A
--- summary lists its entries in their final order, of which `one_final_order` says that there is no other.
+-- summary lists its entries in their final order, which is the only one (`one_final_order`).
 pub record Runs {W S : Type 0} (m : Meaning W) (n : Meaning S) (config : Configuration) (calls : List ReportCall) (old : W × S) (result : Result (Unit {0}) RunFault) (new : W × S) : Type 0 where
   -- all succeeded: the report of the calls was accepted and delivered, and so were their records
   pub ok : OnOk result (m.accepts old.0 (report config (reverse calls)) new.0)

@@ -25,6 +25,6 @@ abbrev pub stored : Option StoreConfig → List ReportCall → Text
 stored store [] = []
 stored store (call ∷ past) = stored store past ++ stored_text store call
 
--- the record of the call at an index; past the end there is none
+-- the record of the call at an index, empty past the end
 abbrev pub stored_at : Option StoreConfig → List ReportCall → ℕ → Text
 stored_at store calls i = option_map_or (stored_text store) (slice_get calls i) []

@@ -41,7 +41,7 @@ IsDelivered (Some (Event event)) = Unit {0}
 IsDelivered (Some (Header header)) = Unit {0}
 IsDelivered (Some (Prefix prefix)) = ⊥
 
--- both have the same writers and settings
+-- writers and settings of the reporter did not change
 pub record IsSameReporter {W S : Type 0} (old new : DisplayReporter W S) : Type 0 where
   pub writer : new.writer.ghost_name ≡ old.writer.ghost_name
   pub store : IsSameStore old.store new.store

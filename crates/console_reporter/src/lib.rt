@@ -1,26 +1,28 @@
 //! The console report of a test run.
 //!
-//! A reporter gets the events of a run, in order, and writes for each the text that its definition gives from the
-//! event, the configuration and the calls before it. See [`imp::run_report`].
+//! A reporter gets the events of a run, in order, and writes a text for each, which depends on the event, the
+//! configuration and the calls before. See [`imp::run_report`].
 //!
 //! # The way of an event
 //!
 //! A call of `write_event` passes these crates:
 //!
 //! 1. `reporter_state`: the decider says from the event's metadata whether it is refused, which changes nothing.
-//! 2. This one: `imp::event_text` picks the function that writes the text. Those of tests are in `test_text`, of a run and of its setup scripts
-//!    in `run_text`, of responses of units in `info_text`.
-//! 3. They share what several events have, in `text_parts`; captured output, in `unit_report`; names and counters, in `report_text`
-//!    and `report_words`; styles, numbers and cut lines, in `styled_text`.
-//! 4. `styled_text`: the `TextBuffer` gathers the text and delivers it.
-//! 5. `reporter_state`: keeps what a later summary lists.
+//! 2. `console_reporter`: `imp::event_text` picks the function that writes the text. Those of tests are in
+//!    `test_text`, of a run and of its setup scripts in `run_text`, of responses of units in `info_text`.
+//! 3. All of these use `text_parts` for what several events have in common, `unit_report` for captured output,
+//!    `report_text` and `report_words` for names, counters and words, and `styled_text` for styles, numbers and cut
+//!    lines.
+//! 4. `writers`: the `TextBuffer` gathers the text and delivers it.
+//! 5. `reporter_state`: keeps the entry that a later summary lists.
 //! 6. `store_text`: writes the record of a finished test, if there is a store, and delivers it.
 //!
 //! A line of a scene passes others before that:
 //!
 //! 1. `command_line`: takes the next whole lines of the file.
 //! 2. `scene_text`: reads the line into an event of `scene_events`, field by field with `scene_fields`.
-//! 3. `scenes`, in `report`: asks the decider about each event, once all lines are read. `follow` asks when the event's turn comes.
+//! 3. `scenes`, in `report`: asks the decider about each event, once all lines are read. `follow` asks when the event's
+//!    turn comes.
 //! 4. `scenes`, `SceneReporter`: turns the event into a call of the reporter.
 //!
 //! `follow` reports all lines that have arrived before it reads more.
@@ -28,6 +30,7 @@
 
 pub mod error;
 pub mod imp;
+pub mod laws;
 pub mod prelude;
 
 pub use report_text::helpers;

@@ -12,7 +12,7 @@ IsPlainState (Terminating x) = HasNoEscape (signal_of x.method)
 IsPlainState (Exited result taken mark) = IsPlainResult result
 IsPlainState (DelayBeforeNextAttempt result is_slow waiting remaining) = IsPlainResult result
 
--- nor do the names of a unit and its state. Its output must be plain in colour (the flag)
+-- the names and the state in a response hold no escape character, and in colour (the flag) its output holds none
 abbrev pub IsPlainResponse : Bool → InfoResponse → Type 0
 IsPlainResponse k (SetupScript x) = IsPlainScript (answering_script x) × IsPlainState x.state × IsPlainWritten k x.output
 IsPlainResponse k (Test x) = IsPlainInstance x.test_instance × IsPlainState x.state × IsPlainWritten k x.output

@@ -48,7 +48,7 @@ info_layout s kind = record {
   output_indent = codes "  ";
 }
 
--- the output is loaded, if it is the unit's own
+-- the output is loaded, unless it is that of the attempt before
 abbrev pub HasValidOutput : UnitState → Written → Type 0
 HasValidOutput state output = has_valid_output state ≡ true → has_loaded_output output ≡ true
 
@@ -57,7 +57,7 @@ abbrev pub told_output : Settings → UnitKind → Written → Parts false Line
 told_output s kind output =
     drawn_given_line (λ t. execution_output s.unit_output t (info_layout t kind) output) (λ t. ends-execution_output s.unit_output t (info_layout t kind) output)
 
--- the output, if it is the unit's own
+-- the output, unless it is that of the attempt before
 unfoldable pub valid_output : Settings → UnitKind → UnitState → Written → Parts false Lines
 valid_output s kind state output = choice (has_valid_output state) (told_output s kind output) none
 
@@ -65,7 +65,7 @@ valid_output s kind state output = choice (has_valid_output state) (told_output 
 unfoldable pub unit_answer : Settings → InfoUnit → UnitState → Written → Parts false Open
 unit_answer s u state output = state_text s.mode u state ⧺ valid_output s u.kind state output
 
--- a setup script as its response names it, and as its state does
+-- a setup script for the first line of its response, and for the lines of its state
 abbrev pub answering_script : SetupScriptInfoResponse → Script
 answering_script x = record { stress_index = x.stress_index; script_id = x.script_id; program = x.program; args = x.args }
 
@@ -84,11 +84,11 @@ is_delay (Terminating state) = false
 is_delay (Exited result taken slow_after) = false
 is_delay (DelayBeforeNextAttempt result is_slow waiting remaining) = true
 
--- the attempt is shown for a later one of several, and for one that waits
+-- the attempt as a response shows it: not a first attempt, unless the unit waits for the next one
 abbrev pub told_attempt : RetryData → UnitState → Option RetryData
 told_attempt r state = if (nat_lt 1 r.attempt && nat_lt 1 r.total_attempts) || is_delay state then Some r else None
 
--- a test as its response names it, and as its state does
+-- a test for the first line of its response, and for the lines of its state
 abbrev pub answering_test : TestInfoResponse → CountedInstance
 answering_test x = record { stress_index = x.stress_index; counter = None; instance = x.test_instance }
 
@@ -99,12 +99,12 @@ test_unit x = record { kind = unit.Test; attempt = told_attempt x.retry_data x.s
 unfoldable pub test_answer : Settings → TestInfoResponse → Parts false Open
 test_answer s x = instance_end (answering_test x) ⧺ unit_answer s (test_unit x) x.state x.output
 
--- the output of a response is loaded, if it is the unit's own
+-- the output of a response is loaded, unless it is that of the attempt before
 abbrev pub HasAnswerOutput : InfoResponse → Type 0
 HasAnswerOutput (SetupScript x) = HasValidOutput x.state x.output
 HasAnswerOutput (Test x) = HasValidOutput x.state x.output
 
--- a response, after its number
+-- the lines of a response after that of its number
 abbrev pub answer : Settings → InfoResponse → Parts false Open
 answer s (SetupScript x) = script_answer s x
 answer s (Test x) = test_answer s x

@@ -3,7 +3,7 @@ use Rattle.{std.specs.Prelude.ℕ, std.specs.Prelude.◌==◌, std.specs.Prelude
 use Rattle.text_parts.specs.Names.{RunStats, ThemeCharacters, bar_line, failure_tone, progress_message}
 use Rattle.report_words.specs.Parts.{Fixed, Line, Lines, Count, Skip, none, words, toned, number, ◌⧺◌, choice}
 
--- n units are asked, those that run. The line has the counts of the run and how long it has taken
+-- n running units are asked; with the counts of the run and how long it has taken
 unfoldable pub info_started_text : ThemeCharacters → ℕ → ℕ → RunStats → Fixed Line
 info_started_text theme elapsed total stats =
     bar_line theme
@@ -18,7 +18,7 @@ info_started_text theme elapsed total stats =
 unfoldable pub missing_line : ℕ → Fixed Line
 missing_line missing = toned Skip (codes "info") ⧺ words (codes ": missing ") ⧺ number Count missing ⧺ words (codes " responses\n")
 
--- if any
+-- how many have not responded, if any
 unfoldable pub missing_note : ℕ → Fixed Lines
 missing_note missing = choice (missing == 0) none (missing_line missing)
 

@@ -25,7 +25,7 @@ free-attempt_text (Some r) =
 unfoldable pub status_start : InfoUnit → Fixed Open
 status_start u = toned Count (codes "status") ⧺ words (codes ": ") ⧺ Verbatim (attempt_text u.attempt) (free-attempt_text u.attempt)
 
--- with the word for the unit
+-- how it begins with the word for the unit
 unfoldable pub unit_start : NextestRunMode → InfoUnit → Fixed Open
 unit_start mode u = status_start u ⧺ unit_part mode u.kind ⧺ words (codes " ")
 
@@ -39,11 +39,11 @@ unfolding marked_slow_end plain
 free-marked_slow_end None = refl
 free-marked_slow_end (Some after) = free_both (seconds 3 after) (codes "s)\n") (free-seconds 3 after) refl
 
--- the duration of a mark
+-- the number of nanoseconds, if there is a duration
 abbrev pub nanos_of : Option Nanos → Option ℕ
 nanos_of mark = option_map (λ (n : Nanos). n.0) mark
 
--- a unit with errors runs in the style of failures, a slow one in that of skipped tests
+-- the style of a running unit: with errors that of failures, if it is slow that of skipped tests
 abbrev pub running_tone : Bool → Bool → Tone
 running_tone has_errors is_slow = if has_errors then Fail else if is_slow then Skip else Pass
 
@@ -56,7 +56,7 @@ running_line mode u pid taken mark =
     ⧺ number Count pid
     ⧺ Verbatim (marked_slow_end (nanos_of mark)) (free-marked_slow_end (nanos_of mark))
 
--- it is not known how a unit ended
+-- the words for a unit of which it is not known how it ended
 unfoldable pub unknown_info : Fixed Open
 unknown_info = toned Fail (codes "failed") ⧺ words (codes " with unknown status")
 
@@ -149,7 +149,7 @@ waiting_line mode u result is_slow =
     ⧺ toned Count (codes "waiting")
     ⧺ words (codes " before next attempt\n")
 
--- how long that attempt waits
+-- how long the next attempt waits
 unfoldable pub delay_note : NextestRunMode → InfoUnit → ℕ → ℕ → Fixed Line
 delay_note mode u waiting remaining =
     note_start

@@ -23,6 +23,10 @@ use writers::write_str::{WriteFault, WriteStr};
 
 /// Writes the response of a unit. `index` is its index among all, from 0. Output of the unit must be
 /// loaded.
+///
+/// # Errors
+///
+/// The writer's fault. It has accepted a prefix of the text.
 #[tactic(auto, unfolding(crate::specs::Response::info_response_text, crate::specs::Response::response_number))]
 pub fn write_info_response<W: WriteStr>(
     w: &mut W,
@@ -67,7 +71,7 @@ impl WriteText for Separator {
     }
 }
 
-// The spaces after that number, which is as wide as `status: ` if it has room.
+// The spaces after the number of a response, so that it is as wide as `status: ` if it fits.
 fn number_padding(number: u128, total: usize) -> &'static str
     ensures { result.now ≡ number_padding number total }
 {
@@ -170,7 +174,7 @@ fn write_test_answer<W: WriteStr>(
     )
 }
 
-// Its line has no counter.
+// The test as the response names it, without a counter.
 fn test_of_response<'a>(response: &TestInfoResponse<'a>) -> CountedInstance<'a>
     ensures { result ≡ answering_test response.now }
 {
@@ -191,7 +195,7 @@ fn test_unit(response: &TestInfoResponse<'_>) -> InfoUnit
     }
 }
 
-// The attempt, if it is shown: a later one of several, or one that waits.
+// The attempt, if it is shown: not for a first attempt, unless the unit waits for the next one.
 fn told_attempt(retry_data: RetryData, state: &UnitState) -> Option<RetryData>
     ensures { result ≡ told_attempt retry_data state.now }
 {
@@ -223,7 +227,7 @@ fn write_unit_answer<W: WriteStr>(
     write_valid_output(w, settings, unit.kind, state, output)
 }
 
-// The output counts only if it is the unit's own.
+// The output, unless the unit waits for its next attempt: then the output is still that of the attempt before.
 #[tactic(auto, unfolding(crate::specs::Response::valid_output))]
 fn write_valid_output<W: WriteStr>(
     w: &mut W,

@@ -12,6 +12,10 @@ use writers::text::{Unless, WriteText};
 use writers::write_str::{WriteFault, WriteStr};
 
 /// Writes how many units are asked, which are those that run, with the counts of the run.
+///
+/// # Errors
+///
+/// The writer's fault. It has accepted a prefix of the text.
 #[tactic(auto, unfolding(crate::specs::Start::info_started_text))]
 pub fn write_info_started<W: WriteStr>(
     w: &mut W,
@@ -35,6 +39,15 @@ pub fn write_info_started<W: WriteStr>(
 }
 
 /// Writes that no further responses are waited for, and how many are missing.
+///
+/// ```
+/// write_info_finished(&mut out, &settings, 1)?;
+/// assert_eq!(out.as_str(), "info: missing 1 responses\n------------\n");
+/// ```
+///
+/// # Errors
+///
+/// The writer's fault. It has accepted a prefix of the text.
 #[tactic(auto, unfolding(crate::specs::Start::info_finished_text, crate::specs::Start::missing_note, crate::specs::Start::missing_line))]
 pub fn write_info_finished<W: WriteStr>(
     w: &mut W,

@@ -16,7 +16,7 @@ use unit_report::formatters::DisplayUnitKind;
 use writers::text::{Decimal, Unless, WriteText};
 use writers::write_str::{WriteFault, WriteStr};
 
-/// The unit that a state is of.
+/// What the lines of a state need to know of its unit.
 #[derive(Clone, Copy)]
 pub struct InfoUnit {
     /// Whether it is a test or a setup script.
@@ -28,6 +28,19 @@ pub struct InfoUnit {
 }
 
 /// Writes the state of a unit: a line, and a note below it if something is waited for.
+///
+/// ```
+/// use run_model::info::UnitState;
+/// use run_model::unit::UnitKind;
+/// let unit = InfoUnit { kind: UnitKind::Test, attempt: None, has_errors: false };
+/// let state = UnitState::Running { pid: 7, time_taken: time, slow_after: None };
+/// write_state(&mut out, &settings, unit, &state)?;
+/// assert_eq!(out.as_str(), "status: test running for 0.020s as PID 7\n");
+/// ```
+///
+/// # Errors
+///
+/// The writer's fault. It has accepted a prefix of the text.
 #[tactic(auto, unfolding(crate::specs::State::state_text, crate::specs::State::state_line, crate::specs::State::state_note))]
 pub fn write_state<W: WriteStr>(
     w: &mut W,
@@ -73,7 +86,7 @@ pub fn write_state<W: WriteStr>(
     }
 }
 
-// How the line of a state begins, with the word for the unit. The functions write the lines that begin so, and their notes.
+// How the line of a state begins: with the word for the unit. Its functions write these lines and the notes below them.
 #[derive(Clone, Copy)]
 struct UnitStart<'a> {
     settings: &'a Settings,

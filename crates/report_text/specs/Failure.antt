@@ -38,7 +38,7 @@ abort_words (UnixSignal signal name) = codes "aborted with signal "
 abort_words (WindowsNtStatus code message) = codes "aborted with code "
 abort_words WindowsJobObject = codes "terminated via job object"
 
--- and then the signal or the status
+-- the signal or the status, which follows these words
 unfoldable pub abort_details : AbortDescription → Text
 abort_details (UnixSignal signal name) = plain (signed_decimal signal) ++ signal_name_text name
 abort_details (WindowsNtStatus code message) = nt_status_text code ++ message_text message
@@ -54,7 +54,7 @@ exit_words (ended.Code code) = codes "exited with exit code "
 exit_words (ended.Abort abort) = []
 exit_words ended.Unknown = codes "exited with an unknown error"
 
--- and then the details
+-- the details, which follow these words
 unfoldable pub exit_details : ExitDescription → Text
 exit_details (ended.Code code) = plain (signed_decimal code)
 exit_details (ended.Abort abort) = abort_text abort

@@ -55,7 +55,7 @@ test_text s stress counter binary_id name =
 abbrev pub front_parts : ListStyles → Option StressIndex → Option DisplayCounterIndex → Text → List Text
 front_parts s stress counter binary_id = stress_prefix s.count stress ∷ counter_prefix counter ∷ id_prefix s.binary_id binary_id ∷ []
 
--- a test, cut to a greatest width if there is one: each part takes what those before it left of it
+-- a test, cut to a greatest width if there is one: each part gets the columns that the parts before it have left
 abbrev pub shown_text : Option ℕ → ListStyles → Option StressIndex → Option DisplayCounterIndex → Text → Text → Text
 shown_text None s stress counter binary_id name = test_text s stress counter binary_id name
 shown_text (Some width) s stress counter binary_id name = shrunk_parts (front_parts s stress counter binary_id) (test_name_text s name) width

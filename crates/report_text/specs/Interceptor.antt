@@ -20,7 +20,7 @@ listed_test s i = plain (codes "\n  ") ++ test_text s None None i.binary_id i.te
 unfoldable pub rest_text : NextestRunMode → ℕ → Style → Text
 rest_text mode count s = plain (codes "\n  ... and ") ++ (styled s (decimal count) ++ (plain (codes " more ") ++ plain (tests_word mode count)))
 
--- if there are any
+-- how many tests are not listed, if any
 unfoldable pub unlisted_text : NextestRunMode → ℕ → ℕ → Style → Text
 unlisted_text mode count listed s = if nat_lt listed count then rest_text mode (count - listed) s else []
 

@@ -2,15 +2,15 @@
 use Rattle.std.specs.Prelude.{ℕ, Bool, not, ◌&&◌, ◌||◌, ◌==◌, List, [], ◌∷◌, ◌++◌, length, codes, if◌then◌else◌}
 use Rattle.styled_text.specs.Names.{is_ascii_alphanumeric, flat_map, join_by, list_all, list_any, Text}
 
--- a byte that means itself to a shell: an ASCII letter, a digit or one of these
+-- a byte that has no special meaning to a shell: an ASCII letter, a digit or one of these
 abbrev pub is_unquoted_byte : ℕ → Bool
 is_unquoted_byte c = is_ascii_alphanumeric c || list_any (λ d. d == c) (codes "_-=/,.+:@")
 
--- a word that needs no quotes: it is not empty, and each of its bytes means itself
+-- a word that needs no quotes: it is not empty, and no byte of it has a special meaning
 abbrev pub is_unquoted : Text → Bool
 is_unquoted t = not (length t == 0) && list_all is_unquoted_byte t
 
--- a quote ends the quoted text, follows a backslash, and begins the quoted text again
+-- a quote in a quoted text: it closes the quotes, writes a quote with a backslash, and opens them again
 abbrev pub quoted_byte : ℕ → Text
 quoted_byte c = if c == 39 then codes "'\\''" else c ∷ []
 

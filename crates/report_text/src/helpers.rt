@@ -1,7 +1,13 @@
-//! Words, numbers, durations and names as a report shows them.
+//! Words, numbers, durations and names as a report shows them: the modules of this crate and of `report_words`.
 //!
 //! Each type with a text has `write_to`, which allocates nothing and has one clause: the text that was written, or a prefix of
 //! it after a fault. Its `Display` shows the same text.
+//!
+//! ```
+//! let counter = Some(DisplayCounterIndex::new_counter(1, 2));
+//! write_test_instance(&mut out, &styles.list_styles, &None, &counter, test.as_ref())?;
+//! assert_eq!(out.as_str(), "(1/2) alpha t1");
+//! ```
 
 pub mod failure;
 pub mod instance;

@@ -10,7 +10,7 @@ duration_text n =
     if nat_le n 60_000_000_000 then seconds 2 n ++ codes "s"
     else (decimal (n / 60_000_000_000) ++ codes "m ") ++ (seconds 2 (n % 60_000_000_000) ++ codes "s")
 
--- whole seconds: those that have passed, or one more if a whole millisecond has passed since
+-- whole seconds, rounded down, or up if a whole millisecond is left
 abbrev pub whole_seconds : DurationRounding → ℕ → ℕ
 whole_seconds Floor n = n / 1_000_000_000
 whole_seconds Ceiling n = if nat_lt 0 (n / 1_000_000 % 1000) then n / 1_000_000_000 + 1 else n / 1_000_000_000
@@ -62,6 +62,6 @@ abbrev pub in_units : ℕ → Option TimeUnit → Text
 in_units n None = codes "0s"
 in_units n (Some u) = decimal (n / unit_nanos u) ++ unit_name u
 
--- whole units of the longest unit that has passed
+-- the number of whole units, in the longest unit that is not too long
 unfoldable pub relative_text : ℕ → Text
 relative_text n = in_units n (unit_within n time_units)

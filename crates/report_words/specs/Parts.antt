@@ -7,11 +7,11 @@ use Rattle.styled_text.specs.declared.style.{Style.Style, Styles.Styles}
 abbrev pub EndsLine : Text → Type 0
 EndsLine t = (front : Text) × (t ≡ front ++ 10 ∷ [])
 
--- the text is empty or ends in one
+-- the text is empty or ends in a line feed
 abbrev pub IsOfLines : Text → Type 0
 IsOfLines t = (t ≡ []) ⊎ EndsLine t
 
--- what a part is: a report has a style for it
+-- what a part of a text is about; a report has a style for each
 pub data Tone : Type 0 where
   Count : Tone
   Pass : Tone
@@ -54,7 +54,7 @@ either_end Lines Open = Open
 either_end Lines Line = Lines
 either_end Lines Lines = Lines
 
--- for literal words it is computed
+-- the end of these words; of literal words it is computed
 abbrev pub ending : Text → End
 ending [] = Lines
 ending (c ∷ []) = if c == 10 then Line else Open
@@ -74,7 +74,7 @@ pub data Parts : Bool → End → Type 1 where
   given : Text → Parts false Open
   given_toned : Tone → Text → Parts false Open
   given_right : ℕ → Tone → Text → Parts false Open
-  -- one after the other
+  -- the first, and then the second
   Join : {a b : Bool} {d e : End} → Parts a d → Parts b e → Parts (a && b) (joined_end d e)
   -- the first if the test holds, else the second
   choice : {a b : Bool} {d e : End} → Bool → Parts a d → Parts b e → Parts (a && b) (either_end d e)
@@ -82,9 +82,9 @@ pub data Parts : Bool → End → Type 1 where
   each : {X : Type 0} {a : Bool} → (X → Parts a Line) → List X → Parts a Lines
   -- lines, each after n spaces if it is not empty, the first one only if the flag is set
   indented : {a : Bool} → ℕ → Bool → Parts a Line → Parts a Line
-  -- lines of which the last has no line feed yet
+  -- like `indented`, for lines whose last has no line feed; it gets one
   indented_line : {a : Bool} {d : End} → ℕ → Bool → Parts a d → Parts a Line
-  -- a text of which no more is known
+  -- these parts as a type that says less: about escape characters, or about how the text ends
   plainly : {a : Bool} {d : End} → Parts a d → Parts false d
   openly : {a : Bool} {d : End} → Parts a d → Parts a Open
   loosely : {a : Bool} → Parts a Line → Parts a Lines

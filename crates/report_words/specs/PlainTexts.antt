@@ -1,4 +1,4 @@
--- What is handed in for texts without escape characters.
+-- What must hold no escape character, so that the texts made from it hold none.
 use Rattle.std.specs.Prelude.{Option, None, Some}
 use Rattle.styled_text.specs.Names.{AllByRecursion, HasNoEscape}
 use Rattle.run_names.specs.{ErrorChains.MessageAndCauses, declared.abort.AbortDescription.AbortDescription, declared.name.TestInstanceId.TestInstanceId}
@@ -15,10 +15,10 @@ IsPlainAbort (UnixSignal signal name) = HoldsIf HasNoEscape name
 IsPlainAbort (WindowsNtStatus code message) = HoldsIf HasNoEscape message
 IsPlainAbort WindowsJobObject = Unit {0}
 
--- a test's names hold none
+-- a test's names hold no escape character
 abbrev pub IsPlainInstance : TestInstanceId → Type 0
 IsPlainInstance i = HasNoEscape i.binary_id.now × HasNoEscape i.test_name.now
 
--- an error's message and those of its causes hold none
+-- an error's message and those of its causes hold no escape character
 abbrev pub IsPlainChain : MessageAndCauses → Type 0
 IsPlainChain chain = HasNoEscape chain.message × AllByRecursion HasNoEscape chain.causes

@@ -19,7 +19,7 @@ tests_word_if Test true = codes "tests"
 tests_word_if Benchmark false = codes "benchmark"
 tests_word_if Benchmark true = codes "benchmarks"
 
--- by number
+-- "test" for 1 and "tests" for any other number, or benchmarks
 abbrev pub tests_word : NextestRunMode → ℕ → Text
 tests_word mode n = tests_word_if mode (not (n == 1))
 

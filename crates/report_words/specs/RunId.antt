@@ -3,7 +3,7 @@ use Rattle.std.specs.Prelude.{ℕ, List, Option, None, Some, codes, unwrap_or}
 use Rattle.uuid.specs.{Parts.with_variant, Parts.with_version, Text.parsed, declared.Variant.TheVariants.RFC4122, declared.Version.TheVariants.Random}
 use Rattle.styled_text.specs.Texts.{Text}
 
--- the id that is forced: there is a text, and it parses
+-- the id that is forced, if there is a text and it parses
 abbrev pub forced_id : Option Text → Option (List ℕ)
 forced_id None = None
 forced_id (Some text) = parsed text

@@ -1,4 +1,4 @@
-//! Durations as text, from nanoseconds. Every number of them is accepted.
+//! Durations as text, from any number of nanoseconds.
 
 ghost use Rattle.std.specs.Prelude.{◌≡◌, ◌≤◌, ◌++◌, Some, chars, length};
 ghost use Rattle.report_words.specs.Durations.{clock_text, duration_text, leading_zero, relative_text, time_units, unit_name, unit_nanos, unit_within, whole_seconds};
@@ -80,10 +80,10 @@ fn write_seconds<W: WriteStr>(w: &mut W, nanos: u128) -> Result<(), WriteFault>
 /// How a part of a second is rounded.
 #[derive(Clone, Copy, Debug, PartialEq, Eq)]
 pub enum DurationRounding {
-    /// It is left out, as for a time that has passed.
+    /// Down, as for a time that has passed.
     Floor,
-    /// It counts as a second if it has a whole millisecond, as for a time that remains: the two then do not seem to
-    /// exceed their sum.
+    /// Up, as for a time that remains, if it has a whole millisecond: so the time that has passed and the time that
+    /// remains add up to the whole.
     Ceiling,
 }
 
@@ -98,7 +98,7 @@ pub enum DurationRounding {
 pub struct FormattedHhMmSs {
     /// The duration.
     pub duration: Nanos,
-    /// What becomes of a part of a second.
+    /// How a part of a second is rounded.
     pub rounding: DurationRounding,
 }
 
@@ -134,6 +134,15 @@ impl DurationRounding {
 }
 
 /// Writes seconds as hours, minutes and seconds, each in at least two digits.
+///
+/// ```
+/// write_clock(&mut out, 3_725)?;
+/// assert_eq!(out.as_str(), "01:02:05");
+/// ```
+///
+/// # Errors
+///
+/// The writer's fault. It has accepted a prefix of the text.
 #[tactic(auto, unfolding(crate::specs::Durations::clock_text))]
 pub fn write_clock<W: WriteStr>(w: &mut W, seconds: u128) -> Result<(), WriteFault>
     ensures { Puts W.meaning w.old (clock_text seconds) result w.new }
@@ -162,6 +171,10 @@ pub fn write_clock<W: WriteStr>(w: &mut W, seconds: u128) -> Result<(), WriteFau
 /// write_clock_between(&mut out, "[", 9, 12, "] ")?;
 /// assert_eq!(out.as_str(), "[ 00:00:12] ");
 /// ```
+///
+/// # Errors
+///
+/// The writer's fault. It has accepted a prefix of the text.
 pub fn write_clock_between<W: WriteStr>(
     w: &mut W,
     before: &str,

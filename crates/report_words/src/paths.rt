@@ -16,7 +16,7 @@ pub fn dylib_path_envvar() -> &'static str
 
 /// The directories that dynamic libraries are searched in, from the value of [`dylib_path_envvar`].
 ///
-/// The value is cut at each `:`, and empty parts are kept. Without a value there is none.
+/// The value is cut at each `:`, and empty parts are kept. Without a value the list is empty.
 ///
 /// ```
 /// assert_eq!(dylib_path(alloc, Some("a::b"))?.as_slice(), ["a", "", "b"].as_slice());
@@ -56,6 +56,11 @@ fn split_colon(list: &str) -> Option<(&str, &str)>
 }
 
 /// Whether the path is relative: it does not begin with `/`.
+///
+/// ```
+/// assert!(is_relative("a/b"));
+/// assert!(!is_relative("/a"));
+/// ```
 pub fn is_relative(path: &str) -> bool
     ensures { result ≡ not (is_absolute path.now) }
 {

@@ -9,6 +9,10 @@ ghost use Rattle.report_words.specs.Plural.{were_word, tests_word, tests_word_if
 use run_names::config::NextestRunMode;
 
 /// "were" for several, "was" for one.
+///
+/// ```
+/// assert_eq!(were_plural_if(true), "were");
+/// ```
 #[tactic(auto, unfolding(crate::specs::Plural::were_word))]
 pub fn were_plural_if(plural: bool) -> &'static str
     ensures { result.now ≡ were_word plural }
@@ -17,6 +21,11 @@ pub fn were_plural_if(plural: bool) -> &'static str
 }
 
 /// "test" or "tests", in benchmark mode "benchmark" or "benchmarks".
+///
+/// ```
+/// assert_eq!(tests_str(NextestRunMode::Test, 1), "test");
+/// assert_eq!(tests_str(NextestRunMode::Benchmark, 0), "benchmarks");
+/// ```
 pub fn tests_str(mode: NextestRunMode, count: usize) -> &'static str
     ensures { result.now ≡ tests_word mode count }
 {
@@ -24,6 +33,10 @@ pub fn tests_str(mode: NextestRunMode, count: usize) -> &'static str
 }
 
 /// "tests" for several and "test" for one, in benchmark mode "benchmarks" and "benchmark".
+///
+/// ```
+/// assert_eq!(tests_plural_if(NextestRunMode::Test, false), "test");
+/// ```
 #[tactic(auto, unfolding(crate::specs::Plural::tests_word_if))]
 pub fn tests_plural_if(mode: NextestRunMode, plural: bool) -> &'static str
     ensures { result.now ≡ tests_word_if mode plural }
@@ -44,6 +57,10 @@ pub fn tests_plural(mode: NextestRunMode) -> &'static str
 }
 
 /// "setup script" for 1, "setup scripts" for any other number.
+///
+/// ```
+/// assert_eq!(setup_scripts_str(2), "setup scripts");
+/// ```
 #[tactic(auto, unfolding(crate::specs::Plural::setup_scripts_word))]
 pub fn setup_scripts_str(count: usize) -> &'static str
     ensures { result.now ≡ setup_scripts_word count }
@@ -56,6 +73,11 @@ pub fn setup_scripts_str(count: usize) -> &'static str
 }
 
 /// "binary" for 1, "binaries" for any other number.
+///
+/// ```
+/// assert_eq!(binaries_str(1), "binary");
+/// assert_eq!(binaries_str(0), "binaries");
+/// ```
 #[tactic(auto, unfolding(crate::specs::Plural::binaries_word))]
 pub fn binaries_str(count: usize) -> &'static str
     ensures { result.now ≡ binaries_word count }
@@ -128,6 +150,10 @@ pub fn sections_str(count: usize) -> &'static str
 }
 
 /// "iteration" for 1, "iterations" for any other number.
+///
+/// ```
+/// assert_eq!(iterations_str(1), "iteration");
+/// ```
 #[tactic(auto, unfolding(crate::specs::Plural::iterations_word))]
 pub fn iterations_str(count: u32) -> &'static str
     ensures { result.now ≡ iterations_word count }

@@ -10,6 +10,13 @@ use styled_text::repeated::write_repeated;
 use writers::write_str::{WriteFault, WriteStr};
 
 /// The characters of bars and trees. By default they are ASCII.
+///
+/// ```
+/// let mut theme = ThemeCharacters::default();
+/// assert_eq!(theme.tree_branch(), "|-");
+/// theme.use_unicode();
+/// assert_eq!(theme.tree_branch(), "├─");
+/// ```
 #[derive(Clone, Copy, Debug, Default, PartialEq, Eq)]
 pub struct ThemeCharacters {
     is_unicode: bool,
@@ -32,6 +39,10 @@ impl ThemeCharacters {
 
     /// A bar of the given number of characters.
     ///
+    /// ```
+    /// assert_eq!(ThemeCharacters::default().hbar(alloc, 4)?.as_str(), "----");
+    /// ```
+    ///
     /// # Errors
     ///
     /// Memory was refused. [`ThemeCharacters::write_hbar`] writes the bar without allocating.
@@ -46,6 +57,15 @@ impl ThemeCharacters {
     }
 
     /// Writes a bar of the given number of characters.
+    ///
+    /// ```
+    /// ThemeCharacters::default().write_hbar(&mut out, 3)?;
+    /// assert_eq!(out.as_str(), "---");
+    /// ```
+    ///
+    /// # Errors
+    ///
+    /// The writer's fault. It has accepted a prefix of the text.
     #[tactic(auto, unfolding(crate::specs::Theme::hbar_text))]
     pub fn write_hbar<W: WriteStr>(&self, w: &mut W, width: usize) -> Result<(), WriteFault>
         ensures { Puts W.meaning w.old (hbar_text self.now.is_unicode width) result w.new }
@@ -65,6 +85,10 @@ impl ThemeCharacters {
     }
 
     /// The characters of a progress bar, from done to not begun: `█▉▊▋▌▍▎▏ ` or `=> `.
+    ///
+    /// ```
+    /// assert_eq!(ThemeCharacters::default().progress_chars(), "=> ");
+    /// ```
     pub fn progress_chars(&self) -> &'static str
         ensures { result.now ≡ progress_text self.now.is_unicode }
     {

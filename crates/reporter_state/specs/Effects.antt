@@ -18,7 +18,7 @@ pub data TestEnd : Type 0 where
 unfoldable pub final_output : FinishReport → FinalOutput
 final_output f = if timed_at_end f.row f.display then output.ExecutedWithOutput f.summary f.last.output else output.Executed f.summary
 
--- the entry of a finished test, and that of a skipped one
+-- the entry of a finished test, and below it that of a skipped one
 abbrev pub finished_entry : FinishReport → FinalOutputEntry
 finished_entry f = record { test = kept_test f.test; output = final_output f }
 
@@ -38,8 +38,8 @@ abbrev pub kept_entry : Settings → TestEnd → Option FinalOutputEntry
 kept_entry s (Finished f) = if is_kept s f then Some (finished_entry f) else None
 kept_entry s (Skipped test) = if is_skip_kept s then Some (skipped_entry test) else None
 
--- what an event does: the rank of the reason for which it cancels the run, 0 if it does not; and the test that it ends under
--- the reason before
+-- What an event does: the rank of the reason for which it cancels the run, 0 if it does not; and the test that it
+-- ends, from the settings and the rank of the reason before.
 pub record Effect : Type 0 where
   pub reason : ℕ
   pub ended : Settings → ℕ → Option TestEnd
@@ -55,16 +55,16 @@ effect_of (RunBeginCancel scripts stats running) = record no_effect { reason = r
 effect_of (RunBeginKill scripts stats running) = record no_effect { reason = reason_rank stats.cancel_reason }
 effect_of _ = no_effect
 
--- the test that an event finishes under a reason, if it finishes one
+-- the test that an event finishes, if it does, in a run with this reason before
 abbrev pub finish_by : Settings → ℕ → TestEventKind → Option FinishReport
 finish_by s reason (TestFinished stress instance success failure statuses stats) = Some (test_finish s reason stress instance success failure statuses stats)
 finish_by s reason other = None
 
--- that test is passed with the event
+-- `handed` is the test that the event finishes
 abbrev pub IsFinishOf : Settings → ℕ → TestEventKind → Option (Bor FinishedAttempts) → Type 0
 IsFinishOf s reason e handed = option_map (λ f. finish_of f.now.finished) handed ≡ finish_by s reason e
 
--- the entry that is kept of an event under a reason
+-- the entry that is kept of an event, in a run with this reason before
 abbrev pub entry_of : Settings → ℕ → TestEventKind → Option FinalOutputEntry
 entry_of s reason e = option_and_then (kept_entry s) ((effect_of e).ended s reason)
 

@@ -12,21 +12,21 @@ use Rattle.reporter_state.specs.declared.final_output.FinalOutput.TheVariants.{E
 use Rattle.run_names.specs.declared.level.CancelReason.TheVariants as cause
 use Rattle.run_names.specs.declared.level.FinalStatusLevel.TheVariants as final
 
--- the greatest reason that a call of a past carries; the latest call of a past is its first
+-- the rank of the most severe reason in a past, which is a list of calls with the latest first
 unfoldable pub cancel : List ReportCall → ℕ
 cancel [] = 0
 cancel (Event e ∷ past) = max (effect_of e.kind).reason (cancel past)
 cancel (Header h ∷ past) = cancel past
 cancel (Prefix p ∷ past) = cancel past
 
--- the last unique prefix of the run's id that a past gave
+-- the last unique prefix of the run's id in a past
 unfoldable pub prefix : List ReportCall → Option UniquePrefix
 prefix [] = None
 prefix (Event e ∷ past) = prefix past
 prefix (Header h ∷ past) = prefix past
 prefix (Prefix p ∷ past) = Some p
 
--- the rank from which a reason hides tests and their entries: an interrupt
+-- reasons of this rank or above, that of an interrupt, hide finished tests and entries
 abbrev pub hiding_rank : ℕ
 hiding_rank = reason_rank (Some cause.Interrupt)
 
@@ -54,7 +54,7 @@ final_level_of_output (Executed summary) = final_level_of summary
 final_level_of_output (ExecutedWithOutput summary output) = final_level_of summary
 final_level_of_output Skipped = final.Skip
 
--- how many levels below all
+-- how many levels an entry is below `All`
 abbrev pub level_key : FinalOutput → ℕ
 level_key o = 7 - final_rank (final_level_of_output o)
 
@@ -91,7 +91,7 @@ final_text s test (Executed summary) = status_line Final test summary
 final_text s test (ExecutedWithOutput summary output) = status_line Final test summary ⧺ attempt_output s false summary.result output
 final_text s test Skipped = skip_line test
 
--- how it shows an entry
+-- how the summary shows an entry
 abbrev pub entry_text : Settings → FinalOutputEntry → Parts false Line
 entry_text s e = final_text s (borrowed_test e.test) e.output
 

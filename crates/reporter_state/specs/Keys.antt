@@ -3,28 +3,28 @@ use Rattle.std.specs.Prelude.{◌≡◌, ℕ, ◌<◌, None, List, [], ◌∷◌
 use Rattle.styled_text.specs.Names.{Ordering, Reverse, nat_cmp, on, then_cmp, IsTotalOrder, then_total, on_total, nat_cmp_total, lists_total, nat_list_cmp_total, AllByRecursion}
 use Rattle.reporter_state.specs.{Entries.level_key, Entries.test_key, Order.key_cmp, declared.kept_test.KeptTest.KeptTest, declared.final_output.FinalOutput.FinalOutput, declared.final_output.FinalOutputEntry.FinalOutputEntry}
 
--- how many levels below all an entry is, its test, and the number of entries kept before it
+-- the key of an entry: how many levels it is below `All`, its test, and the number of entries kept before it
 pub record Placed : Type 0 where
   pub below : ℕ
   pub test : KeptTest
   pub place : ℕ
 
--- the final order's part of a key
+-- the part of a key that the final order compares
 abbrev pub placed_key : Placed → List (List ℕ)
 placed_key p = (p.below ∷ []) ∷ test_key p.test
 
--- the order of keys: the final order's, and then that in which the entries were kept
+-- keys are compared as in the final order, and equal ones by when they were kept
 abbrev pub placed_cmp : Placed → Placed → Ordering
 placed_cmp = then_cmp (on placed_key key_cmp) (on (λ p. p.place) nat_cmp)
 
 pub placed_total : IsTotalOrder placed_cmp
 placed_total = then_total (on_total placed_key (lists_total nat_list_cmp_total)) (on_total (λ p. p.place) nat_cmp_total)
 
--- neither an iteration nor a counter
+-- the test has neither an iteration nor a counter
 abbrev pub IsPlain : KeptTest → Type 0
 IsPlain t = (t.stress_index ≡ None) × (t.counter ≡ None)
 
--- a map holds its keys greatest first, each with the output of its entry
+-- an element of the map: a key, in reverse order so that the greatest comes first, and the output of its entry
 abbrev pub Held : Type 0
 Held = Reverse Placed × FinalOutput
 
@@ -41,7 +41,7 @@ entry_held p = record { test = p.0.0.test; output = p.1 }
 abbrev pub entries_of : List Held → List FinalOutputEntry
 entries_of ps = map entry_held ps
 
--- it shows them from the last one to the first
+-- the entries of a map in the final order, which is that of the map reversed
 abbrev pub shown_of : List Held → List FinalOutputEntry
 shown_of ps = reverse (entries_of ps)
 

@@ -8,17 +8,17 @@ use Rattle.run_model.specs.declared.{info.InfoResponse.TheVariants.SetupScript, 
 use Rattle.run_names.specs.declared.level.StatusLevel.TheVariants as level
 use Rattle.run_model.specs.declared.output_event.OutputEventKind.TheVariants as decided
 
--- a setup script's, unless it succeeded
+-- the output of a setup script is needed, unless it succeeded
 abbrev pub loads_script : ExecutionResultDescription → Bool
 loads_script result = not (is_success result)
 
--- that of a failed attempt that is retried: if such attempts are shown and the setting for failures shows output
--- immediately, also if the test could not be started
+-- the output of a failed attempt that is retried is needed if such attempts are shown and the setting for failures
+-- shows output immediately, also if the test could not be started
 abbrev pub loads_attempt : OutputLoadDecider → TestOutputDisplay → Bool
 loads_attempt d failure =
     nat_le (status_rank level.Retry) (status_rank d.status_level) && is_immediate (unwrap_or d.overrides.force_failure_output failure)
 
--- that of a finished test: if its setting shows output, immediately or at the end of the run, or a store keeps it
+-- the output of a finished test is needed if its setting shows it, immediately or at the end, or if a store keeps it
 abbrev pub is_asked_of : Option StoreConfig → Bool → Bool
 is_asked_of None is_success = false
 is_asked_of (Some store) is_success = is_switched_on store is_success
@@ -29,7 +29,7 @@ is_stored_by store case = is_asked_of store (is_success_case case)
 abbrev pub loads_finish : OutputLoadDecider → TestOutputDisplay → TestOutputDisplay → StatusSummary → Bool
 loads_finish d success failure x = is_ever_shown (display_for d.overrides success failure x) || is_stored_by d.store x.case
 
--- that of a decided event, wherever its output is held
+-- the output of a decided event is needed, wherever it is held
 abbrev pub loads : {S O : Type 0} → OutputLoadDecider → OutputEventKind S O → Bool
 loads d (decided.SetupScriptFinished stress status) = loads_script status.result
 loads d (decided.TestAttemptFailedWillRetry stress status delay failure) = loads_attempt d failure

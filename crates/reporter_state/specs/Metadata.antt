@@ -5,11 +5,12 @@ use Rattle.reporter_state.specs.{Loads.is_asked_of, Loads.loads_attempt, Loads.l
 use Rattle.reporter_state.specs.declared.decider.OutputMetadata.TheVariants.{SetupScriptFinished, TestAttemptFailedWillRetry, TestFinished}
 use Rattle.run_model.specs.declared.output_event.OutputEventKind.TheVariants as decided
 
--- for a test with this last result: if its setting shows output, immediately or at the end of the run, or a store keeps it
+-- the output of a test with this last result is needed: its setting shows it, immediately or at the end, or a store
+-- keeps it
 abbrev pub loads_last : OutputLoadDecider → TestOutputDisplay → TestOutputDisplay → ExecutionResultDescription → Bool
 loads_last d success failure result = is_ever_shown (display_when d.overrides (is_success result) success failure result) || is_asked_of d.store (is_success result)
 
--- for an event with this metadata
+-- the output of an event with this metadata is needed
 abbrev pub loads_by_metadata : OutputLoadDecider → OutputMetadata → Bool
 loads_by_metadata d (SetupScriptFinished result) = loads_script result.now
 loads_by_metadata d (TestAttemptFailedWillRetry failure) = loads_attempt d failure

@@ -6,12 +6,12 @@ use Rattle.{styled_text.specs.Names.Ordering, styled_text.specs.Names.nat_cmp, s
 abbrev pub key_cmp : List (List ℕ) → List (List ℕ) → Ordering
 key_cmp = slice_cmp (slice_cmp nat_cmp)
 
--- an element before the first that is not less
+-- inserts an element before the first that is not less
 unfoldable pub put_in : {X : Type 0} → (X → X → Bool) → X → List X → List X
 put_in lt e [] = e ∷ []
 put_in lt e (f ∷ fs) = if lt f e then f ∷ put_in lt e fs else e ∷ f ∷ fs
 
--- the one list in order (the law of the final order says that it is in order, and that there is no other)
+-- the elements in order; `one_final_order` says that it is the only such list
 unfoldable pub ordered_by : {X : Type 0} → (X → X → Bool) → List X → List X
 ordered_by lt [] = []
 ordered_by lt (e ∷ es) = put_in lt e (ordered_by lt es)

@@ -21,7 +21,7 @@ abbrev pub event_refusal : OutputLoadDecider → TestEventKind → Option WriteE
 event_refusal decider e =
     if is_retried_success e then Some RetriedSuccess else (if lacks_output decider e then Some OutputNotLoaded else None)
 
--- the refusal that an error is, if it is one
+-- the error if it is a refusal, else nothing
 abbrev pub refusal_in : WriteEventError → Option WriteEventError
 refusal_in RetriedSuccess = Some RetriedSuccess
 refusal_in OutputNotLoaded = Some OutputNotLoaded

@@ -10,7 +10,7 @@ use std::cmp::Ordering;
 use std::marker::Model;
 use std::rc::Rc;
 
-// How many ids are looked through for one that is shared.
+// How many of the last ids are searched for one to share.
 const REMEMBERED: usize = 8;
 
 /// The id of a kept test's binary, which the kept tests of that binary share: a run has few binaries. Contracts see its text.
@@ -38,7 +38,7 @@ impl KeptBinaryId {
         })
     }
 
-    // Another owner of the same id. It allocates nothing.
+    // Another owner of this id. It allocates nothing.
     fn share(&self) -> Result<KeptBinaryId, OutOfMemory>
         ensures { IfOk result (λ kept. kept ≡ self.now) }
     {
@@ -63,6 +63,12 @@ impl KeptBinaryId {
 }
 
 /// The ids that were kept last, for the next tests of their binaries.
+///
+/// ```
+/// let mut ids = KeptBinaryIds::new(alloc);
+/// let kept = ids.keep(alloc, &RustBinaryId::new(alloc, "alpha")?)?;
+/// assert_eq!(kept.get().as_str(), "alpha");
+/// ```
 #[derive(Drop)]
 pub struct KeptBinaryIds {
     last: Vec<KeptBinaryId>,
@@ -77,6 +83,10 @@ impl KeptBinaryIds {
     }
 
     /// The id to keep. It copies the text if it is not among the last ones.
+    ///
+    /// # Errors
+    ///
+    /// Memory was refused.
     pub fn keep(&mut self, alloc: Global, id: &RustBinaryId) -> Result<KeptBinaryId, OutOfMemory>
         ensures { IfOk result (λ kept. kept ≡ id.now) }
     {

@@ -21,8 +21,13 @@ use unit_report::unit_output::OutputDisplayOverrides;
 
 /// Decides from an event's metadata what a reporter of one configuration does with it, independent of the calls before.
 ///
-/// A replay asks it before it loads recorded output. A reporter has one, and so has a builder
-/// before there is a reporter.
+/// A replay asks it before it loads recorded output. A reporter has a decider, and a builder has that of the reporter
+/// that it will build.
+///
+/// ```
+/// let decider = builder.output_load_decider(Surroundings::default(), None);
+/// assert_eq!(decider.refusal(&ReportCall::Event(event)), None);
+/// ```
 #[derive(Clone, Copy, Debug)]
 pub struct OutputLoadDecider {
     status_level: StatusLevel,
@@ -70,7 +75,9 @@ impl OutputLoadDecider {
         }
     }
 
-    /// A decider for these settings, and what a store keeps.
+    /// A decider for these settings, and what a store keeps. Hidden: only a reporter has `Settings`. Callers ask a
+    /// builder or a reporter for its decider, or use [`OutputLoadDecider::new`].
+    #[doc(hidden)]
     pub fn of_settings(settings: &Settings, store: Option<StoreConfig>) -> OutputLoadDecider
         ensures { result ≡ decider_by settings.now store }
     {
@@ -244,6 +251,10 @@ impl OutputLoadDecider {
     }
 
     /// Why the reporter refuses the event, if it does.
+    ///
+    /// ```
+    /// assert_eq!(decider.refusal_of(&event), None);
+    /// ```
     pub fn refusal_of(&self, event: &TestEvent<'_>) -> Option<WriteEventError>
         ensures refusal { result ≡ event_refusal self.now event.now.kind }
         ensures told { IfSome result (λ e. refusal_in e ≡ Some e) }
@@ -278,6 +289,12 @@ impl OutputLoadDecider {
     }
 
     /// Unloads the output of a call if it is not needed.
+    ///
+    /// ```
+    /// let mut call = ReportCall::Event(event);
+    /// decider.unload(&mut call);
+    /// assert_eq!(decider.refusal(&call), None);
+    /// ```
     pub fn unload(&self, call: &mut ReportCall<'_>)
         ensures { call.new ≡ unread_call self.now call.old }
     {
@@ -331,7 +348,7 @@ fn needed_answer<'e>(
     state.has_valid_output().then_some(output)
 }
 
-// A failed attempt is followed by another one, so a success with one to follow is an error.
+// Only a failed attempt is retried: an event that says that a successful one will be retried is an error.
 fn is_retried_success(event: &TestEventKind<'_>) -> bool
     ensures { result ≡ is_retried_success event.now }
 {

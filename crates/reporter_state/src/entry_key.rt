@@ -24,7 +24,7 @@ pub struct EntryKey {
 
 #[derive(Drop)]
 struct KeyParts {
-    // How many levels below all. Most entries that are compared have the same level.
+    // How many levels below `All`. It is compared first, and is the same for most entries.
     below: u8,
     // Whether the test has neither an iteration nor a counter, like most.
     is_plain: bool,
@@ -54,6 +54,10 @@ impl Model for EntryKey {
 
 impl EntryKey {
     /// The key of a test with this output, after `place` other entries. It allocates for the test.
+    ///
+    /// # Errors
+    ///
+    /// Memory was refused.
     pub fn new(
         alloc: Global,
         test: KeptTest,

@@ -4,8 +4,8 @@ use thiserror::Error;
 
 /// Why a call of a reporter failed. The output so far is a prefix of the report.
 ///
-/// A call that is refused leaves reporter and writer unchanged, and the reporter goes on. After a fault of the writer or
-/// of memory it has failed.
+/// A refused call changes neither the reporter nor the writer, and later calls may succeed. After any other error the
+/// reporter has failed.
 ///
 /// ```
 /// let mut statuses = ExecutionStatuses::single(alloc, ExecuteStatus::failed(101, time));

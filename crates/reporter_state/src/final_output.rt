@@ -78,8 +78,12 @@ impl FinalOutput {
 }
 
 impl FinalOutputEntry {
-    /// What the summary shows of a finished test. It allocates for the test's names and the texts of the last attempt; the bytes of
-    /// its output are shared. Output that is shown must be loaded.
+    /// What the summary shows of a finished test. It copies the test's names and the texts of the last attempt, and
+    /// shares the bytes of its output. Output that is shown must be loaded.
+    ///
+    /// # Errors
+    ///
+    /// Memory was refused.
     pub fn of_test(
         alloc: Global,
         ids: &mut KeptBinaryIds,
@@ -95,6 +99,17 @@ impl FinalOutputEntry {
     }
 
     /// What the summary shows of a skipped test. It allocates for the test's names.
+    ///
+    /// ```
+    /// use reporter_state::binary_ids::KeptBinaryIds;
+    /// let mut ids = KeptBinaryIds::new(alloc);
+    /// let entry = FinalOutputEntry::skipped(alloc, &mut ids, settings.padded_instance(None, test.as_ref()))?;
+    /// assert!(entry.output.final_status_level() == FinalStatusLevel::Skip);
+    /// ```
+    ///
+    /// # Errors
+    ///
+    /// Memory was refused.
     pub fn skipped(
         alloc: Global,
         ids: &mut KeptBinaryIds,

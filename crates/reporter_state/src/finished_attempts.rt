@@ -7,7 +7,7 @@ use run_model::output::LiveSpec;
 use run_model::status::ExecutionStatuses;
 use test_text::test_finished::FinishedTest;
 
-/// A finished test, with its attempts: an entry's summary is that of the attempts.
+/// A finished test with its attempts, for its line and for its entry in the summary.
 #[derive(Clone, Copy)]
 pub struct FinishedAttempts<'e, 'a> {
     /// The test.
@@ -18,7 +18,7 @@ pub struct FinishedAttempts<'e, 'a> {
 }
 
 impl<'e, 'a> FinishedAttempts<'e, 'a> {
-    /// The test, whose outcome is that of these attempts.
+    /// The test with its attempts. Its outcome must be theirs.
     #[inline(always)]
     pub fn new(
         finished: FinishedTest<'e, 'a>,

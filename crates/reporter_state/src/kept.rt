@@ -2,7 +2,7 @@
 
 ghost use Rattle.std.specs.Prelude.{◌≡◌, List, [], ◌∷◌, ◌++◌, OnOk, OnErr};
 ghost use Rattle.{writers.specs.Writer.Puts, report_words.specs.Parts.paint, reporter_state.specs.declared.final_output.FinalOutput.TheVariants.ExecutedWithOutput};
-ghost use Rattle.reporter_state.specs.Names.{status_line, StatusLineKind, final_text, shown_entries, final_order, IsFinalOrder, borrowed_test, FinalOutputEntry};
+ghost use Rattle.reporter_state.specs.Names.{status_line, StatusLineKind, final_text, shown_entries, final_order, borrowed_test, FinalOutputEntry};
 
 use crate::entry_key::EntryKey;
 use crate::final_output::{FinalOutput, FinalOutputEntry};
@@ -22,6 +22,17 @@ use text_parts::settings::Settings;
 use writers::write_str::{WriteFault, WriteStr};
 
 /// The entries of a summary. Contracts see them in the order in which they are listed.
+///
+/// ```
+/// use reporter_state::binary_ids::KeptBinaryIds;
+/// use reporter_state::final_output::FinalOutputEntry;
+/// let mut ids = KeptBinaryIds::new(alloc);
+/// let mut entries = KeptEntries::new(alloc);
+/// let skipped = settings.padded_instance(None, test.as_ref());
+/// entries.keep(alloc, FinalOutputEntry::skipped(alloc, &mut ids, skipped)?)?;
+/// entries.write(&mut out, &settings)?;
+/// assert_eq!(out.as_str(), "        SKIP [         ] alpha t1\n");
+/// ```
 #[derive(Drop)]
 pub struct KeptEntries {
     // Greatest first: a search of the map compares with the first keys first, and most runs keep entries in order.
@@ -50,6 +61,10 @@ impl KeptEntries {
     }
 
     /// Keeps an entry: in the final order it comes after earlier ones with the same key.
+    ///
+    /// # Errors
+    ///
+    /// Memory was refused. The entries are as they were.
     pub fn keep(&mut self, alloc: Global, entry: FinalOutputEntry) -> Result<(), OutOfMemory>
         ensures ok { OnOk result ((kept : List FinalOutputEntry) → self.old ≡ final_order kept → self.new ≡ final_order (kept ++ entry ∷ [])) }
         ensures err { OnErr result (self.new ≡ self.old) }
@@ -62,6 +77,10 @@ impl KeptEntries {
     }
 
     /// Writes the entries in their order. It allocates nothing.
+    ///
+    /// # Errors
+    ///
+    /// The writer's fault. It has accepted a prefix of the text.
     pub fn write<W: WriteStr>(&self, w: &mut W, settings: &Settings) -> Result<(), WriteFault>
         ensures { Puts W.meaning w.old (shown_entries settings.now self.now) result w.new }
     {
@@ -71,14 +90,6 @@ impl KeptEntries {
         Ok(())
     }
 }
-
-/// The kept entries have exactly one final order: by key, and entries of one key in the order in which they were kept.
-///
-/// A summary is defined by that list, so there is one right text however a reporter sorts its entries.
-pub fn one_final_order()
-    ensures exists { (kept : List FinalOutputEntry) → IsFinalOrder kept (final_order kept) }
-    ensures only { (kept order : List FinalOutputEntry) → IsFinalOrder kept order → order ≡ final_order kept }
-{}
 
 #[tactic(auto, unfolding(crate::specs::Entries::final_text), using(crate::proofs::lemmas::KeptTests::skip_of_kept))]
 fn write_kept<W: WriteStr>(

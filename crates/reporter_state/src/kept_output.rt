@@ -71,7 +71,11 @@ impl Model for KeptOutput {
 }
 
 impl KeptOutput {
-    /// The short form of what is shown. It allocates if there is none.
+    /// The short form of what is shown. Only an output without a short form is allocated.
+    ///
+    /// # Errors
+    ///
+    /// Memory was refused.
     pub fn new(alloc: Global, output: FinalOutput) -> Result<KeptOutput, OutOfMemory>
         ensures { IfOk result (λ k. k ≡ output) }
     {

@@ -1,4 +1,4 @@
-//! A kept test: it has its own names, so that the event that named it need not live on.
+//! A kept test. It owns its names, so it outlives the event that named it.
 
 ghost use Rattle.std.specs.Prelude.{◌≡◌, IfOk};
 ghost use Rattle.reporter_state.specs.Names.{instance_key, kept_test, key_cmp};
@@ -13,7 +13,14 @@ use std::cmp::Ordering;
 use std::marker::Model;
 use text_parts::instance::CountedInstance;
 
-/// A test as its lines name it, with its own names.
+/// A test as its lines name it, which owns its names.
+///
+/// ```
+/// use reporter_state::binary_ids::KeptBinaryIds;
+/// let mut ids = KeptBinaryIds::new(alloc);
+/// let kept = KeptTest::copy_of(alloc, &mut ids, settings.padded_instance(None, test.as_ref()))?;
+/// assert_eq!(kept.as_counted().instance.test_name.as_str(), "t1");
+/// ```
 #[derive(Drop)]
 pub struct KeptTest {
     /// Which iteration of a stress run it belongs to.
@@ -41,6 +48,10 @@ impl Model for KeptInstance {
 
 impl KeptTest {
     /// Copies the test's name, and its binary's id if that is new.
+    ///
+    /// # Errors
+    ///
+    /// Memory was refused.
     pub fn copy_of(
         alloc: Global,
         ids: &mut KeptBinaryIds,

@@ -9,7 +9,13 @@ use run_model::output::{ChildExecutionOutputDescription, LiveSpec};
 use std::alloc::Global;
 use std::marker::Model;
 
-/// Output that is loaded: an entry that shows output holds no other. Contracts see the output.
+/// Output that is loaded, as the entries of the summary need it. Contracts see the output.
+///
+/// ```
+/// let failed = ExecuteStatus::failed(1, time);
+/// let loaded = LoadedOutput::copy_of(alloc, &failed.output)?;
+/// assert!(loaded.get().has_loaded_output());
+/// ```
 #[derive(Debug, Drop)]
 pub struct LoadedOutput {
     output: Boxed<ChildExecutionOutputDescription<LiveSpec>>,
@@ -28,6 +34,10 @@ impl Model for LoadedOutput {
 
 impl LoadedOutput {
     /// Copies loaded output: it allocates for the texts and shares the captured bytes.
+    ///
+    /// # Errors
+    ///
+    /// Memory was refused.
     pub fn copy_of(
         alloc: Global,
         output: &ChildExecutionOutputDescription<LiveSpec>,

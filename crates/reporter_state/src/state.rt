@@ -18,6 +18,13 @@ use text_parts::instance::CountedInstance;
 use text_parts::settings::Settings;
 
 /// What a reporter knows of the calls before.
+///
+/// ```
+/// let mut state = ReporterState::new(alloc, settings);
+/// let error = state.fail(WriteEventError::Io);
+/// assert_eq!(error, WriteEventError::Io);
+/// assert!(state.has_failed);
+/// ```
 #[derive(Drop)]
 pub struct ReporterState {
     /// Where memory comes from.
@@ -56,7 +63,7 @@ impl ReporterState {
         }
     }
 
-    /// Has the reporter fail, and returns the error.
+    /// Marks the reporter as failed, and returns the error.
     pub fn fail(&mut self, error: WriteEventError) -> WriteEventError
         ensures error { result ≡ error }
         ensures failed { self.new ≡ record self.old { has_failed = true } }
@@ -65,8 +72,12 @@ impl ReporterState {
         error
     }
 
-    /// Applies an event: it may cancel the run, and it may end a test. A test that it finishes is passed with it, with its output loaded
-    /// if that is shown.
+    /// Changes the state by an event that cancels the run or ends a test. `finished` is the test that it finishes,
+    /// with its output loaded if that is shown.
+    ///
+    /// # Errors
+    ///
+    /// Memory was refused, for an event with an entry in the summary. Settings and prefix are as they were.
     #[inline(always)]
     pub fn apply(
         &mut self,

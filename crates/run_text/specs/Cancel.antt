@@ -11,7 +11,7 @@ unfoldable pub reason_text : Option CancelReason → Fixed Open
 reason_text None = openly none
 reason_text (Some r) = words (codes " due to ") ⧺ Toned Fail (reason_words r) (free-reason_words r)
 
--- what runs is not waited for
+-- a run cancelled for this reason terminates the units that are running
 abbrev pub ends_at_once : Option CancelReason → Bool
 ends_at_once None = false
 ends_at_once (Some reason.SetupScriptFailure) = false
@@ -23,7 +23,7 @@ ends_at_once (Some reason.Signal) = false
 ends_at_once (Some reason.Interrupt) = false
 ends_at_once (Some reason.SecondSignal) = false
 
--- what runs is terminated
+-- the words that precede the number of terminated units
 unfoldable pub terminating_words : Fixed Open
 terminating_words = words (codes "immediately ") ⧺ toned Fail (codes "terminating") ⧺ words (codes " ")
 

@@ -37,6 +37,6 @@ started_line h =
     ⧺ given_toned Count h.status
     ⧺ words (codes "\n")
 
--- both
+-- both lines of the header
 unfoldable pub replay_header_text : ReplayHeader → Parts false Line
 replay_header_text h = replaying_line h ⧺ started_line h

@@ -1,4 +1,4 @@
--- What is handed in for the texts of a run without escape characters.
+-- What must hold no escape character, so that the texts of a run hold none.
 use Rattle.run_model.specs.Names.{UniquePrefix, OwnedTestInstanceId, NotSeen}
 use Rattle.{std.specs.Prelude.Bool, std.specs.Prelude.Option, report_words.specs.PlainTexts.HoldsIf, styled_text.specs.Names.AllByRecursion, styled_text.specs.Names.HasNoEscape}
 use Rattle.text_parts.specs.Names.{ChildOutputDescription, LiveSpec, ReplayHeader, SetupScriptExecuteStatus, IsPlainResult, IsPlainWritten}
@@ -7,15 +7,15 @@ use Rattle.text_parts.specs.Names.{ChildOutputDescription, LiveSpec, ReplayHeade
 abbrev pub IsPlainPrefix : UniquePrefix → Type 0
 IsPlainPrefix p = HasNoEscape p.prefix × HasNoEscape p.rest
 
--- nor do the id and the words of the record that a replay shows
+-- the run's id and its status, which the header of a replay shows, hold no escape character
 abbrev pub IsPlainHeader : ReplayHeader → Type 0
 IsPlainHeader h = HoldsIf IsPlainPrefix h.unique_prefix × HasNoEscape h.status
 
--- nor does what a setup script came to. What it wrote is plain by the flag, which says that texts are in colour
+-- the result of a setup script holds no escape character, and in colour (the flag) its output holds none
 abbrev pub IsPlainScriptStatus : Bool → SetupScriptExecuteStatus LiveSpec ChildOutputDescription → Type 0
 IsPlainScriptStatus k x = IsPlainResult x.result × IsPlainWritten k x.output
 
--- nor do the names of tests that were not seen
+-- the names of tests that were not seen hold no escape character
 abbrev pub IsPlainOwned : OwnedTestInstanceId → Type 0
 IsPlainOwned i = HasNoEscape i.binary_id × HasNoEscape i.test_name
 

@@ -18,7 +18,7 @@ number_running n = number Count n ⧺ words (codes " ")
 abbrev pub counted_running : ℕ → Fixed Open → Fixed Open
 counted_running n units = number_running n ⧺ units
 
--- how many run: of setup scripts where there are any, else of tests
+-- how many setup scripts run if there are any, else how many tests
 unfoldable pub running_text : NextestRunMode → Running → Fixed Open
 running_text mode r =
     choice (r.setup_scripts == 0)

@@ -1,4 +1,4 @@
--- Setup scripts: that one has started, runs for long or has finished.
+-- Setup scripts: one has started, runs for long or has finished.
 use Rattle.std.specs.Prelude.{◌≡◌, ℕ, ◌+◌, Bool, true, false, ◌++◌, codes}
 use Rattle.styled_text.specs.Names.{decimal, Text, right_in, plain}
 use Rattle.{run_model.specs.Names.has_loaded_output, run_model.specs.Names.is_success, run_model.specs.Names.StatusLevel, text_parts.specs.declared.settings.Settings.Settings}
@@ -51,7 +51,7 @@ script_status_tone (outcome.Timeout result) = Fail
 abbrev pub script_status_words : ExecutionResultDescription → Text
 script_status_words result = codes "SETUP" ++ (codes " " ++ short_word result)
 
--- the line of a script that ended so
+-- the line of a script that has finished
 unfoldable pub setup_script_line : Script → ExecutionResultDescription → ℕ → Parts false Line
 setup_script_line script result time_taken =
     given_right 12 (script_status_tone result) (script_status_words result)
@@ -60,11 +60,11 @@ setup_script_line script result time_taken =
     ⧺ shown_script script
     ⧺ words (codes "\n")
 
--- what a script wrote is there, unless it succeeded
+-- the output of a script is loaded, unless the script succeeded
 abbrev pub HasFailedScriptOutput : SetupScriptExecuteStatus LiveSpec ChildOutputDescription → Type 0
 HasFailedScriptOutput x = is_success x.result ≡ false → has_loaded_output x.output ≡ true
 
--- what a script wrote, unless it succeeded
+-- the output of a script, unless the script succeeded
 unfoldable pub failed_script_output : Settings → SetupScriptExecuteStatus LiveSpec ChildOutputDescription → Parts false Lines
 failed_script_output s x = choice (is_success x.result) none (script_output s x.result x.output)
 

@@ -1,4 +1,4 @@
--- The start of a run: its id and profile, and what it is to run.
+-- The start of a run: its id and profile, and which tests will run.
 use Rattle.std.specs.Prelude.{ℕ, false, List, Option, codes}
 use Rattle.{text_parts.specs.Names.TestCounts, text_parts.specs.Names.skip_counts_text, text_parts.specs.Names.bar_line, text_parts.specs.declared.settings.Settings.Settings}
 use Rattle.{run_model.specs.Names.UniquePrefix, run_model.specs.Names.NextestRunMode, styled_text.specs.Texts.Text, run_text.specs.RunId.id_text, report_words.proofs.lemmas.FreeWords.free-binaries_word, report_words.proofs.lemmas.FreeWords.free-tests_word_if}

@@ -8,7 +8,7 @@ use Rattle.report_words.specs.Names.{clock_text, whole_seconds, iterations_word,
 use Rattle.run_names.specs.declared.stress.StressCount.TheVariants as total
 use Rattle.report_words.specs.Parts as tone
 
--- of how many iterations it is one, if that is known
+-- how many iterations are planned, if that is known
 unfoldable pub of_iterations : StressProgress → Fixed Open
 of_iterations (Count (total.Count count) elapsed completed) = words (codes "/") ⧺ number tone.Count (non_zero_u32_get count)
 of_iterations (Count total.Infinite elapsed completed) = openly none
@@ -31,7 +31,7 @@ of_time (Time all elapsed completed) = words (codes "/") ⧺ toned_clock (whole_
 unfoldable pub elapsed_text : StressProgress → Fixed Open
 elapsed_text x = words (codes " (") ⧺ toned_clock (whole_seconds Floor (elapsed_of x).0) ⧺ of_time x ⧺ words (codes " elapsed so far")
 
--- what remains: iterations, or time, of which a part of a second counts as one
+-- what remains: iterations, or time, which is rounded up to whole seconds
 unfoldable pub count_left_text : ℕ → Fixed Open
 count_left_text n =
     words (codes ", ") ⧺ number tone.Count n ⧺ words (codes " ") ⧺ Word (iterations_word n) (free-iterations_word n) ⧺ words (codes " remaining")
@@ -45,7 +45,7 @@ remaining_text (Some (Iterations n)) = count_left_text n
 remaining_text (Some Endless) = openly none
 remaining_text (Some (TimeLeft n)) = time_left_text n
 
--- the line of an iteration that has started: the one after those that have finished
+-- the line of an iteration that has started; its number is one more than the finished ones
 unfoldable pub stress_sub_run_line : StressProgress → Fixed Line
 stress_sub_run_line x =
     right 12 Pass (codes "Stress test")
@@ -58,7 +58,7 @@ stress_sub_run_line x =
 unfoldable pub stress_sub_run_started_text : ThemeCharacters → StressProgress → Fixed Line
 stress_sub_run_started_text theme x = bar_line theme ⧺ stress_sub_run_line x
 
--- an iteration has finished: it is the last of those that have
+-- an iteration has finished; its number is that of the finished ones
 unfoldable pub stress_sub_run_finished_text : NextestRunMode → StressProgress → ℕ → RunStats → Fixed Line
 stress_sub_run_finished_text mode x elapsed stats =
     right 12 (outcome_tone (final_stats_of stats)) (codes "Stress test")

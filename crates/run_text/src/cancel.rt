@@ -18,6 +18,10 @@ use writers::write_str::{WriteFault, WriteStr};
 /// write_begin_cancel(&mut out, &settings, 0, Some(CancelReason::Interrupt), 2)?;
 /// assert_eq!(out.as_str(), "  Cancelling due to interrupt: 2 tests still running\n");
 /// ```
+///
+/// # Errors
+///
+/// The writer's fault. It has accepted a prefix of the text.
 #[tactic(auto, unfolding(crate::specs::Cancel::begin_cancel_text))]
 pub fn write_begin_cancel<W: WriteStr>(
     w: &mut W,
@@ -38,6 +42,10 @@ pub fn write_begin_cancel<W: WriteStr>(
 }
 
 /// Writes that the run is about to be killed, why, and how many setup scripts or tests still run.
+///
+/// # Errors
+///
+/// The writer's fault. It has accepted a prefix of the text.
 #[tactic(auto, unfolding(crate::specs::Cancel::begin_kill_text))]
 pub fn write_begin_kill<W: WriteStr>(
     w: &mut W,
@@ -57,7 +65,7 @@ pub fn write_begin_kill<W: WriteStr>(
     (word, Reason(&settings.styles, reason), still, "\n").write_to(w)
 }
 
-// Whether a run that is cancelled for this reason terminates what runs.
+// Whether a run that is cancelled for this reason also terminates the units that are running.
 fn ends_at_once(reason: Option<CancelReason>) -> bool
     ensures { result ≡ ends_at_once reason }
 {

@@ -21,6 +21,10 @@ use writers::write_str::{WriteFault, WriteStr, write_strs};
 /// let started = "     Started 2024-02-29 07:05:09  status: ok\n";
 /// assert_eq!(out.as_str(), format!(in alloc; "{replaying}{started}")?.as_str());
 /// ```
+///
+/// # Errors
+///
+/// The writer's fault. It has accepted a prefix of the text.
 #[tactic(auto, unfolding(crate::specs::Header::replay_header_text, crate::specs::Header::replaying_line, crate::specs::Header::started_line))]
 pub fn write_replay_header<W: WriteStr>(
     w: &mut W,

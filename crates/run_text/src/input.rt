@@ -12,6 +12,15 @@ use writers::text::WriteText;
 use writers::write_str::{WriteFault, WriteStr};
 
 /// Writes how long a run has taken, how many of its tests have finished, and its counts.
+///
+/// ```
+/// write_input_enter(&mut out, &styles, time, &stats, 0)?;
+/// assert_eq!(out.as_str(), "     Running [ 00:00:00] 1/1: 0 running, 1 passed, 0 skipped\n");
+/// ```
+///
+/// # Errors
+///
+/// The writer's fault. It has accepted a prefix of the text.
 #[tactic(auto, unfolding(crate::specs::Input::input_enter_text, crate::specs::Input::finished_of_initial))]
 pub fn write_input_enter<W: WriteStr>(
     w: &mut W,

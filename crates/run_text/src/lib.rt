@@ -1,9 +1,12 @@
-//! The texts of the events of a whole run, each from the event and from what a reporter goes by.
+//! The texts of the events of a whole run, each from the event and from the reporter's settings.
 //!
-//! `start` says what is to run, `setup_script` what comes before the tests, `stress` which iteration of a stress run it is, and
-//! `input` how the run stands; `cancel` and `pause` that the run is to end or is stopped for a while, with what runs then by
-//! `running`; `summary` says what the run came to, and `not_seen` what it left out. The texts of tests stand in the crate
-//! `test_text`.
+//! `start` writes which tests will run, `setup_script` the setup scripts before them, `stress` the iterations of a
+//! stress run, and `input` the state of a run when a key asks for it. `cancel` and `pause` write that the run ends
+//! early or is stopped for a while, with `running` for what still runs. `summary` writes the result of the run, and
+//! `not_seen` the tests that a rerun has left out. `header` is the header of a replay, and `run_id` the id in it and
+//! in the start.
+//!
+//! The texts of the events of tests are in the crate `test_text`.
 #![tactic(auto)]
 
 pub mod cancel;

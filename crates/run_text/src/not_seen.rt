@@ -14,6 +14,18 @@ use writers::text::{Unless, WriteText};
 use writers::write_str::{WriteFault, WriteStr};
 
 /// Writes how many outstanding tests were not seen, if any, and those that are listed.
+///
+/// ```
+/// use run_model::not_seen::{NotSeen, TestInstanceList};
+/// let not_seen = TestInstanceList::new(alloc, vec![in alloc; test]?)?;
+/// write_not_seen(&mut out, &settings, &Some(NotSeen { not_seen, total_not_seen: 1 }))?;
+/// let note = "        Note 1 outstanding test not seen during this rerun:\n             alpha t1\n";
+/// assert_eq!(out.as_str(), note);
+/// ```
+///
+/// # Errors
+///
+/// The writer's fault. It has accepted a prefix of the text.
 pub fn write_not_seen<W: WriteStr>(
     w: &mut W,
     settings: &Settings,
@@ -80,7 +92,7 @@ fn write_listed<W: WriteStr>(
     Ok(())
 }
 
-// Without a counter or an iteration.
+// A test on a line of its own, without a counter or an iteration.
 #[tactic(auto, unfolding(crate::specs::NotSeen::not_seen_line))]
 fn write_listed_test<W: WriteStr>(
     w: &mut W,

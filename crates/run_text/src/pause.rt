@@ -1,4 +1,4 @@
-//! A run that is stopped for a while, and goes on.
+//! A run that is paused, and continues.
 
 ghost use Rattle.std.specs.Prelude.{◌++◌};
 ghost use Rattle.run_text.specs.Pause.{due_to_signal, run_continued_text, run_paused_text};
@@ -11,12 +11,16 @@ use text_parts::settings::Settings;
 use writers::text::{Unless, WriteText};
 use writers::write_str::{WriteFault, WriteStr};
 
-/// Writes that the run was stopped for a while, and how many setup scripts or tests run.
+/// Writes that the run is paused, and how many setup scripts or tests run.
 ///
 /// ```
 /// write_run_paused(&mut out, &settings, 0, 2)?;
 /// assert_eq!(out.as_str(), "     Pausing due to signal: 2 tests running\n");
 /// ```
+///
+/// # Errors
+///
+/// The writer's fault. It has accepted a prefix of the text.
 #[tactic(auto, unfolding(crate::specs::Pause::run_paused_text))]
 pub fn write_run_paused<W: WriteStr>(
     w: &mut W,
@@ -29,7 +33,11 @@ pub fn write_run_paused<W: WriteStr>(
     write_pause(w, settings, "Pausing", setup_scripts_running, running)
 }
 
-/// Writes that the run goes on after it was stopped, and how many setup scripts or tests run.
+/// Writes that the run continues after a pause, and how many setup scripts or tests run.
+///
+/// # Errors
+///
+/// The writer's fault. It has accepted a prefix of the text.
 #[tactic(auto, unfolding(crate::specs::Pause::run_continued_text))]
 pub fn write_run_continued<W: WriteStr>(
     w: &mut W,

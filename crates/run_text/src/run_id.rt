@@ -11,6 +11,11 @@ use writers::text::WriteText;
 use writers::write_str::{WriteFault, WriteStr};
 
 /// A run's id, with its unique prefix if that is known.
+///
+/// ```
+/// ShownRunId(&styles, &None, &Uuid::from_u128(1)).write_to(&mut out)?;
+/// assert_eq!(out.as_str(), "00000000-0000-0000-0000-000000000001");
+/// ```
 #[derive(Clone, Copy)]
 pub struct ShownRunId<'a>(
     pub &'a Styles,

@@ -10,7 +10,8 @@ use styled_text::text::Number;
 use writers::text::WriteText;
 use writers::write_str::{WriteFault, WriteStr};
 
-/// What runs. Setup scripts and tests never run at the same time; if both are counted, the scripts are shown.
+/// How many units are running. Setup scripts and tests never run at the same time; if both are counted, the scripts are
+/// shown.
 #[derive(Clone, Copy)]
 pub struct Running {
     /// How many setup scripts run.

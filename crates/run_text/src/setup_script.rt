@@ -21,6 +21,20 @@ use writers::text::{When, WriteText};
 use writers::write_str::{WriteFault, WriteStr};
 
 /// Writes that a setup script has started. `index` is its index among all, from 0.
+///
+/// ```
+/// use run_model::name::{ProgramName, ScriptId};
+/// use text_parts::script::ScriptInstance;
+/// let (script_id, program) = (ScriptId::new(alloc, "s1")?, ProgramName::new(alloc, "cmd")?);
+/// let args = CommandLine::from_words(alloc, &["x"])?;
+/// let script = ScriptInstance { stress_index: None, script_id: &script_id, program: &program, args: &args };
+/// write_setup_script_started(&mut out, &styles, 0, 1, script)?;
+/// assert_eq!(out.as_str(), "       SETUP [      1/1] s1: cmd x\n");
+/// ```
+///
+/// # Errors
+///
+/// The writer's fault. It has accepted a prefix of the text.
 #[tactic(auto, unfolding(crate::specs::SetupScript::setup_script_started_text))]
 pub fn write_setup_script_started<W: WriteStr>(
     w: &mut W,
@@ -54,6 +68,10 @@ impl WriteText for ScriptCounter {
 }
 
 /// Writes that a setup script has run for long, if its level is shown.
+///
+/// # Errors
+///
+/// The writer's fault. It has accepted a prefix of the text.
 #[tactic(auto, unfolding(crate::specs::SetupScript::setup_script_slow_text, crate::specs::SetupScript::shown_slow_script))]
 pub fn write_setup_script_slow<W: WriteStr>(
     w: &mut W,
@@ -90,7 +108,7 @@ fn slow_script_level(will_terminate: bool) -> StatusLevel
     }
 }
 
-// Whether it is slow, or is terminated for it.
+// The word of a script that is slow; the flag says that it is terminated for it.
 #[derive(Clone, Copy)]
 struct SlowScriptWord<'a>(&'a Styles, bool);
 
@@ -109,6 +127,10 @@ impl WriteText for SlowScriptWord<'_> {
 
 /// Writes that a setup script has finished, and its output unless it succeeded. Output that is shown must be
 /// loaded.
+///
+/// # Errors
+///
+/// The writer's fault. It has accepted a prefix of the text.
 #[tactic(auto, unfolding(crate::specs::SetupScript::setup_script_finished_text, crate::specs::SetupScript::setup_script_line))]
 pub fn write_setup_script_finished<W: WriteStr>(
     w: &mut W,
@@ -147,7 +169,7 @@ impl WriteText for ScriptStatus<'_> {
     }
 }
 
-// Its style. A timeout that counts as a success has that of a failure.
+// The style of a script's result. A timeout that counts as a success has that of a failure.
 fn script_status_style(styles: &Styles, outcome: &ExecutionResultDescription) -> Style
     ensures { result ≡ style_of styles.now (script_status_tone outcome.now) }
 {

@@ -18,6 +18,17 @@ use writers::text::WriteText;
 use writers::write_str::{WriteFault, WriteStr};
 
 /// Writes the start of a run: its id and profile, and how many tests and binaries there are.
+///
+/// ```
+/// let tests = TestCounts { run_count: 1, listed_binary_count: 1, skip_counts: SkipCounts::default() };
+/// let profile = ProfileName::new(alloc, "default")?;
+/// write_run_started(&mut out, &settings, &None, &tests, &Uuid::from_u128(1), &profile)?;
+/// assert!(out.as_str().ends_with(" with nextest profile: default\n    Starting 1 test across 1 binary\n"));
+/// ```
+///
+/// # Errors
+///
+/// The writer's fault. It has accepted a prefix of the text.
 #[tactic(auto, unfolding(crate::specs::Start::run_started_text, crate::specs::Start::run_id_line, crate::specs::Start::profile_text, crate::specs::Start::starting_line))]
 pub fn write_run_started<W: WriteStr>(
     w: &mut W,

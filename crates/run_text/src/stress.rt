@@ -20,6 +20,17 @@ use writers::text::WriteText;
 use writers::write_str::{WriteFault, WriteStr};
 
 /// Writes that an iteration of a stress run has started, and how much of the run has passed and remains.
+///
+/// ```
+/// use run_model::stress::{StressCount, StressProgress};
+/// let progress = StressProgress::Count { total: StressCount::Infinite, elapsed: time, completed: 0 };
+/// write_stress_sub_run_started(&mut out, &settings, &progress)?;
+/// assert_eq!(out.as_str(), "------------\n Stress test iteration 1 (00:00:00 elapsed so far)\n");
+/// ```
+///
+/// # Errors
+///
+/// The writer's fault. It has accepted a prefix of the text.
 #[tactic(auto, unfolding(crate::specs::Stress::stress_sub_run_started_text, crate::specs::Stress::stress_sub_run_line, crate::specs::Stress::elapsed_text))]
 pub fn write_stress_sub_run_started<W: WriteStr>(
     w: &mut W,
@@ -119,8 +130,8 @@ impl WriteText for Clock<'_> {
     }
 }
 
-// What remains, if that is known. A part of a second counts as one, so that it and the time that has passed do not
-// seem to add up to less than the whole.
+// What remains, if that is known. The time is rounded up to whole seconds, since the time that has passed is rounded
+// down: so the two add up to the whole.
 #[derive(Clone, Copy)]
 struct Remaining<'a>(&'a Styles, Option<StressRemaining>);
 
@@ -154,6 +165,10 @@ fn write_count_left<W: WriteStr>(
 }
 
 /// Writes that an iteration of a stress run has finished, how long it took, and its counts.
+///
+/// # Errors
+///
+/// The writer's fault. It has accepted a prefix of the text.
 #[tactic(auto, unfolding(crate::specs::Stress::stress_sub_run_finished_text))]
 pub fn write_stress_sub_run_finished<W: WriteStr>(
     w: &mut W,

@@ -20,6 +20,10 @@ use writers::text::{Unless, WriteText};
 use writers::write_str::{WriteFault, WriteStr};
 
 /// Writes the end of a run before its entries: how long it took and its counts.
+///
+/// # Errors
+///
+/// The writer's fault. It has accepted a prefix of the text.
 #[tactic(auto, unfolding(crate::specs::Summary::run_finished_text, crate::specs::Summary::summary_line, crate::specs::Summary::stress_counts_text, crate::specs::Summary::iterations_run_text, crate::specs::Summary::failed_iterations))]
 pub fn write_run_finished<W: WriteStr>(
     w: &mut W,
@@ -62,6 +66,11 @@ pub fn write_run_finished<W: WriteStr>(
 }
 
 /// How many tests ran, and the counts.
+///
+/// ```
+/// RunCounts(&styles, NextestRunMode::Test, &stats).write_to(&mut out)?;
+/// assert_eq!(out.as_str(), "1 test run: 1 passed, 0 skipped\n");
+/// ```
 #[derive(Clone, Copy)]
 pub struct RunCounts<'a>(pub &'a Styles, pub NextestRunMode, pub &'a RunStats);
 

@@ -26,7 +26,7 @@ written_text (StartError chain) = []
 abbrev pub is_switched_on : StoreConfig → Bool → Bool
 is_switched_on store is_success = if is_success then store.store_success_output else store.store_failure_output
 
--- the outcome of the attempts decides
+-- the store keeps the output of a test with this outcome
 abbrev pub is_stored : StoreConfig → StatusCase → Bool
 is_stored store case = is_switched_on store (is_success_case case)
 

@@ -13,6 +13,10 @@ use writers::write_str::{WriteFault, WriteStr, write_strs};
 /// write_netstring(&mut out, "é")?;
 /// assert_eq!(out.as_str(), "2:t1,2:é,");
 /// ```
+///
+/// # Errors
+///
+/// The writer's fault. It has accepted a prefix of the text.
 #[tactic(auto, unfolding(crate::specs::Netstring::netstring, crate::specs::Netstring::netstring_head))]
 pub fn write_netstring<W: WriteStr>(w: &mut W, text: &str) -> Result<(), WriteFault>
     ensures { Puts W.meaning w.old (netstring text.now) result w.new }
@@ -21,12 +25,16 @@ pub fn write_netstring<W: WriteStr>(w: &mut W, text: &str) -> Result<(), WriteFa
     write_strs(w, &[length.format(text.len()), ":", text, ","])
 }
 
-/// Writes a text in two parts as one netstring. It allocates nothing.
+/// Writes a text that is in two parts as a single netstring. It allocates nothing.
 ///
 /// ```
 /// write_joined_netstring(&mut out, "SIG ", "6")?;
 /// assert_eq!(out.as_str(), "5:SIG 6,");
 /// ```
+///
+/// # Errors
+///
+/// The writer's fault. It has accepted a prefix of the text.
 #[tactic(auto, unfolding(crate::specs::Netstring::netstring, crate::specs::Netstring::netstring_head))]
 pub fn write_joined_netstring<W: WriteStr>(
     w: &mut W,

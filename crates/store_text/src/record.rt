@@ -15,12 +15,14 @@ use writers::write_str::{WriteFault, WriteStr};
 /// Writes the record of a finished test: its binary's id, its name, the short word of its last result, and its output
 /// if the store keeps it, each as a netstring, and a line feed. It allocates nothing.
 ///
-/// On a fault the writer has accepted a prefix of the record.
-///
 /// ```
 /// write_record(&mut out, store, test.as_ref(), &statuses)?;
 /// assert_eq!(out.as_str(), "5:alpha,2:t1,4:PASS,0:,\n");
 /// ```
+///
+/// # Errors
+///
+/// The writer's fault. It has accepted a prefix of the record.
 #[tactic(auto, unfolding(crate::specs::Record::record_text))]
 pub fn write_record<W: WriteStr>(
     w: &mut W,

@@ -22,6 +22,10 @@ use writers::write_str::{WriteFault, WriteStr};
 /// write_stored_output(&mut out, store, &failed)?;
 /// assert_eq!(out.as_str(), "4:é\nx,");
 /// ```
+///
+/// # Errors
+///
+/// The writer's fault. It has accepted a prefix of the text.
 pub fn write_stored_output<W: WriteStr>(
     w: &mut W,
     store: StoreConfig,

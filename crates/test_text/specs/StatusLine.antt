@@ -30,7 +30,7 @@ abbrev pub flaky_words : StatusLineKind → FlakyResult → RetryData → Text
 flaky_words Intermediate result retry = attempt_words retry.attempt (codes "PASS")
 flaky_words Final result retry = flaky_label result ++ (decimal retry.attempt ++ (codes "/" ++ decimal retry.total_attempts))
 
--- no escape character is in them
+-- these words hold no escape character
 pub free-flaky_words : (kind : StatusLineKind) (x : FlakyResult) (retry : RetryData) → HasNoEscape (flaky_words kind x retry)
 free-flaky_words Intermediate x retry = free-attempt_words retry.attempt (codes "PASS") refl
 free-flaky_words Final flaky.Pass retry = free_both (decimal retry.attempt) (codes "/" ++ decimal retry.total_attempts) (decimal_free _) (decimal_free retry.total_attempts)
@@ -48,7 +48,7 @@ abbrev pub failure_words : ℕ → ExecutionResultDescription → Text
 failure_words attempt result =
     if attempt == 1 then long_word result else attempt_words attempt (short_word result)
 
--- as the code has it
+-- what a `StatusLine` shows, as a summary of attempts
 abbrev pub shown_summary : StatusLine → StatusSummary
 shown_summary line = record {
   case = line.case;
@@ -79,11 +79,11 @@ is_flaky_failure (Flaky flaky.Pass) = false
 is_flaky_failure (Flaky flaky.Fail) = true
 is_flaky_failure Failure = false
 
--- the note about that
+-- the note about such a failure, which follows its line
 unfoldable pub flaky_note : Fixed Line
 flaky_note = words (codes "           - test configured to ") ⧺ toned Fail (codes "fail") ⧺ words (codes " if flaky\n")
 
--- it follows the line during the run
+-- only during the run, not in the summary
 unfoldable pub flaky_failure_line : StatusLineKind → StatusCase → Fixed Lines
 flaky_failure_line Final x = none
 flaky_failure_line Intermediate x = choice (is_flaky_failure x) flaky_note none

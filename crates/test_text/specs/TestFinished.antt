@@ -7,8 +7,8 @@ use Rattle.text_parts.specs.declared.{finish.OutputTiming.OutputTiming, instance
 use Rattle.report_words.specs.Parts.{Parts, Lines, none, ◌⧺◌, choice}
 use Rattle.test_text.specs.{StatusLine.status_line, declared.status_line.StatusLineKind.TheVariants.Intermediate, declared.test_finished.FinishedTest.FinishedTest}
 
--- a finished test under a reason: as its line names it, when its output is shown, its row, its outcome,
--- and its last attempt
+-- What is shown of a finished test: the test as its line names it, the display setting of its output, when that output
+-- is shown under the run's cancel reason, the outcome of its attempts, and the last of them.
 pub record FinishReport : Type 0 where
   pub test : CountedInstance
   pub display : TestOutputDisplay
@@ -25,7 +25,7 @@ test_finish s reason stress instance success failure statuses stats = record {
   last = statuses.last;
 }
 
--- as the code has it
+-- a `FinishedTest` as a `FinishReport`
 abbrev pub finish_of : FinishedTest → FinishReport
 finish_of f = record {
   test = f.test;

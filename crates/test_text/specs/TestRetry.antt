@@ -8,7 +8,7 @@ use Rattle.styled_text.proofs.lemmas.{Closed.decimal_free, Widths.free_both}
 use Rattle.report_words.specs.Parts.{Parts, Line, Lines, Retry, none, words, Right, given_right, ◌⧺◌, choice}
 use Rattle.{text_parts.specs.declared.instance.CountedInstance.CountedInstance, text_parts.specs.declared.settings.Settings.Settings, test_text.specs.StatusLine.attempt_words}
 
--- its line
+-- the line of the failed attempt
 unfoldable pub attempt_failed_line : CountedInstance → Attempt → Parts false Line
 attempt_failed_line test x =
     given_right 12 Retry (attempt_words x.retry_data.attempt (short_word x.result))
@@ -16,15 +16,16 @@ attempt_failed_line test x =
     ⧺ bracketed x.time_taken.0
     ⧺ instance_end test
 
--- its output is shown immediately: by the setting for failures, also if the test could not be started
+-- the output of a failed attempt is shown immediately: by the setting for failures, also if the test could not be
+-- started
 unfoldable pub is_failed_output_shown : Settings → TestOutputDisplay → Bool
 is_failed_output_shown s failure = is_immediate (unwrap_or s.unit_output.overrides.force_failure_output failure)
 
--- its output is loaded, if it is shown immediately
+-- the output of a failed attempt is loaded, if it is shown immediately
 abbrev pub HasFailedAttemptOutput : Settings → Attempt → TestOutputDisplay → Type 0
 HasFailedAttemptOutput s x failure = is_failed_output_shown s failure ≡ true → has_loaded_output x.output ≡ true
 
--- its output, if that is shown immediately
+-- the output of a failed attempt, if that is shown immediately
 unfoldable pub failed_output : Settings → Attempt → TestOutputDisplay → Parts false Lines
 failed_output s x failure = choice (is_failed_output_shown s failure) (attempt_output s true x.result x.output) none
 

@@ -6,7 +6,7 @@ use Rattle.report_words.specs.Parts.{Parts, Line, Lines, Skip, none, right, ◌�
 use Rattle.text_parts.specs.Names.{padded_instance, untimed_end, is_level_shown}
 use Rattle.text_parts.specs.declared.{instance.CountedInstance.CountedInstance, settings.Settings.Settings}
 
--- its line
+-- the line of a skipped test
 unfoldable pub skip_line : CountedInstance → Parts false Line
 skip_line test = right 12 Skip (codes "SKIP") ⧺ untimed_end test
 

@@ -39,7 +39,7 @@ terminating_tone r = if is_last_attempt r then Fail else Retry
 unfoldable pub is_level_exceeded : Settings → StatusLevel → Bool
 is_level_exceeded s level = nat_lt (status_rank level) (status_rank s.status_levels.status_level)
 
--- its number is shown: there are other attempts, and more is shown than the lines of its level
+-- the number of a terminated attempt is shown: it is not the only attempt, and lines of lower levels are shown
 unfoldable pub has_number : Settings → RetryData → Bool
 has_number s r = nat_lt 1 r.total_attempts && is_level_exceeded s (terminating_level r)
 
@@ -58,7 +58,7 @@ terminating_text s test r elapsed =
     (Right 12 (terminating_tone r) (terminating_word s r) (free-terminating_word s r) ⧺ slow_end test elapsed)
     none
 
--- a test is slow, and goes on or is terminated
+-- a test is slow, and still runs or is terminated
 abbrev pub slow_or_terminating : Settings → CountedInstance → RetryData → ℕ → Bool → Parts false Lines
 slow_or_terminating s test r elapsed true = terminating_text s test r elapsed
 slow_or_terminating s test r elapsed false = slow_text s test r.attempt elapsed

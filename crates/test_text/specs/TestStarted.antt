@@ -9,11 +9,11 @@ use Rattle.report_words.specs.Parts.{Parts, Lines, Count, Pass, Retry, none, wor
 abbrev pub started_instance : Settings → Option StressIndex → TestInstanceId → RunStats → CountedInstance
 started_instance s stress instance x = record { stress_index = stress; counter = started_counter s x; instance = instance }
 
--- its line, if starts are shown
+-- the line of a test that starts, if starts are shown
 unfoldable pub start_line : Settings → CountedInstance → Parts false Lines
 start_line s test = choice (shows_starts s) (right 12 Pass (codes "START") ⧺ untimed_end test) none
 
--- for a retry
+-- the line of a retry that starts, if starts are shown
 unfoldable pub retry_start_line : Settings → ℕ → CountedInstance → Parts false Lines
 retry_start_line s attempt test =
     choice (shows_starts s)

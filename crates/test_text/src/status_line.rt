@@ -91,6 +91,17 @@ impl<'b> StatusLine<'b> {
 }
 
 /// Writes the line of a finished test.
+///
+/// ```
+/// let line = StatusLine::of_description(&statuses.describe());
+/// let shown = settings.padded_instance(None, test.as_ref());
+/// write_status_line(&mut out, &styles, StatusLineKind::Final, &shown, line)?;
+/// assert_eq!(out.as_str(), "        PASS [   0.020s] alpha t1\n");
+/// ```
+///
+/// # Errors
+///
+/// The writer's fault. It has accepted a prefix of the text.
 #[inline(always)]
 pub fn write_status_line<W: WriteStr>(
     w: &mut W,
@@ -104,7 +115,7 @@ pub fn write_status_line<W: WriteStr>(
     write_line(w, styles, kind, test, &line)
 }
 
-// `write_status_line` by reference.
+// Like `write_status_line`, with the line by reference.
 #[tactic(auto, unfolding(crate::specs::StatusLine::status_line))]
 fn write_line<W: WriteStr>(
     w: &mut W,

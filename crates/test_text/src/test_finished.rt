@@ -18,16 +18,16 @@ use text_parts::instance::CountedInstance;
 use text_parts::settings::Settings;
 use writers::write_str::{WriteFault, WriteStr};
 
-/// A finished test, for its line, its output and its entry.
+/// A finished test: what its line, its output and its entry in the summary need.
 #[derive(Clone, Copy)]
 pub struct FinishedTest<'e, 'a> {
     /// The test.
     pub test: CountedInstance<'a>,
     /// Its attempts.
     pub describe: ExecutionDescription<'e, LiveSpec>,
-    /// When the output of the last one is asked to be shown.
+    /// When the output of the last attempt should be shown.
     pub display: TestOutputDisplay,
-    /// When its output is shown.
+    /// When that output is shown, since a cancel reason can hide it.
     pub row: OutputTiming,
 }
 
@@ -62,6 +62,17 @@ impl<'e, 'a> FinishedTest<'e, 'a> {
 
 /// Writes the line of a finished test if its level is shown, and the output of its last attempt if that is
 /// shown immediately. That output must be loaded.
+///
+/// ```
+/// let never = TestOutputDisplay::Never;
+/// let finished = FinishedTest::new(&settings, None, None, test.as_ref(), never, never, &statuses, &stats);
+/// write_test_finished(&mut out, &settings, &finished)?;
+/// assert_eq!(out.as_str(), "        PASS [   0.020s] alpha t1\n");
+/// ```
+///
+/// # Errors
+///
+/// The writer's fault. It has accepted a prefix of the text.
 #[inline(always)]
 #[tactic(auto, unfolding(crate::specs::TestFinished::test_finished_text))]
 pub fn write_test_finished<W: WriteStr>(
@@ -98,7 +109,7 @@ fn write_line_at_once<W: WriteStr>(
     }
 }
 
-// Whatever the status level is.
+// Failed tests show their output even if the status level hides their line.
 #[tactic(auto, unfolding(crate::specs::TestFinished::output_at_once))]
 fn write_output_at_once<W: WriteStr>(
     w: &mut W,

@@ -34,6 +34,10 @@ use writers::write_str::{WriteFault, WriteStr};
 /// write_attempt_failed(&mut out, &settings, None, test.as_ref(), &attempt, delay, display)?;
 /// assert_eq!(out.as_str(), "  TRY 1 FAIL [   0.500s] alpha t1\n   DELAY 2/3 by   1.000s alpha t1\n");
 /// ```
+///
+/// # Errors
+///
+/// The writer's fault. It has accepted a prefix of the text.
 #[tactic(auto, unfolding(crate::specs::TestRetry::attempt_failed_text, crate::specs::TestRetry::attempt_failed_line, crate::specs::TestRetry::delay_line))]
 pub fn write_attempt_failed<W: WriteStr>(
     w: &mut W,

@@ -11,6 +11,10 @@ use writers::text::WriteText;
 use writers::write_str::{WriteFault, WriteStr};
 
 /// Writes that a test is skipped, if skipped tests are shown.
+///
+/// # Errors
+///
+/// The writer's fault. It has accepted a prefix of the text.
 #[tactic(auto, unfolding(crate::specs::TestSkipped::test_skipped_text))]
 pub fn write_test_skipped<W: WriteStr>(
     w: &mut W,
@@ -33,6 +37,10 @@ pub fn write_test_skipped<W: WriteStr>(
 /// write_skip_line(&mut out, &settings, settings.padded_instance(None, test.as_ref()))?;
 /// assert_eq!(out.as_str(), "        SKIP [         ] alpha t1\n");
 /// ```
+///
+/// # Errors
+///
+/// The writer's fault. It has accepted a prefix of the text.
 #[tactic(auto, unfolding(crate::specs::TestSkipped::skip_line))]
 pub fn write_skip_line<W: WriteStr>(
     w: &mut W,

@@ -24,6 +24,10 @@ use writers::write_str::{WriteFault, WriteStr};
 /// write_test_slow(&mut out, &settings, None, test.as_ref(), RetryData::only(), Nanos::from_secs(60), false)?;
 /// assert_eq!(out.as_str(), "        SLOW [> 60.000s] alpha t1\n");
 /// ```
+///
+/// # Errors
+///
+/// The writer's fault. It has accepted a prefix of the text.
 #[tactic(auto, unfolding(crate::specs::TestSlow::test_slow_text, crate::specs::TestSlow::slow_text, crate::specs::TestSlow::terminating_text, crate::specs::TestSlow::slow_end))]
 pub fn write_test_slow<W: WriteStr>(
     w: &mut W,
@@ -70,7 +74,7 @@ impl WriteText for SlowWord {
     }
 }
 
-// The word of a terminated attempt, with its number if more is shown than such lines.
+// The word of a terminated attempt, with its number if `has_number`.
 #[derive(Clone, Copy)]
 struct TerminatingWord<'a>(&'a Settings, RetryData);
 
@@ -101,7 +105,7 @@ fn terminating_level(retry_data: RetryData) -> StatusLevel
     }
 }
 
-// Its style.
+// The style of a terminated attempt.
 #[tactic(auto, unfolding(crate::specs::TestSlow::is_last_attempt))]
 fn terminating_style(styles: &Styles, retry_data: RetryData) -> Style
     ensures { result ≡ style_of styles.now (terminating_tone retry_data) }
@@ -113,7 +117,7 @@ fn terminating_style(styles: &Styles, retry_data: RetryData) -> Style
     }
 }
 
-// Whether its number is shown: there are other attempts, and more is shown than the lines of its level.
+// Whether the number of a terminated attempt is shown: it is not the only attempt, and lines of lower levels are shown.
 #[tactic(auto, unfolding(crate::specs::TestSlow::has_number))]
 fn has_number(settings: &Settings, retry_data: RetryData) -> bool
     ensures { result ≡ has_number settings.now retry_data }

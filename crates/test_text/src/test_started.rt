@@ -23,6 +23,10 @@ use writers::write_str::{WriteFault, WriteStr};
 /// write_test_started(&mut out, &settings, None, test.as_ref(), &stats, &command)?;
 /// assert_eq!(out.as_str(), "       START [         ] alpha t1\n             command: cargo test t1\n");
 /// ```
+///
+/// # Errors
+///
+/// The writer's fault. It has accepted a prefix of the text.
 #[tactic(auto, unfolding(crate::specs::TestStarted::test_started_text, crate::specs::TestStarted::start_line))]
 pub fn write_test_started<W: WriteStr>(
     w: &mut W,
@@ -46,6 +50,10 @@ pub fn write_test_started<W: WriteStr>(
 }
 
 /// Writes that another attempt of a test has started, and the command that runs it.
+///
+/// # Errors
+///
+/// The writer's fault. It has accepted a prefix of the text.
 #[tactic(auto, unfolding(crate::specs::TestStarted::test_retry_started_text, crate::specs::TestStarted::retry_start_line))]
 pub fn write_test_retry_started<W: WriteStr>(
     w: &mut W,

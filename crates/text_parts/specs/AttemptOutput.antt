@@ -51,8 +51,8 @@ layout_in kind no_indent theme style = record {
 abbrev pub finished_layout : Settings → UnitKind → ExecutionResultDescription → Bool → OutputLayout
 finished_layout s kind result is_retry = layout_in kind s.no_output_indent s.theme_characters (header_style s.styles result is_retry)
 
--- the result is repeated after the output, unless it is plain: not for a panic, which exits with code 101,
--- nor for a code if handles were left open
+-- The result is repeated after the output, but for plain ones: a pass, a process that could not be started, a panic
+-- (code 101), and an exit code if handles were left open.
 abbrev pub has_info_after_failure : FailureDescription → Bool → Bool
 has_info_after_failure (ExitCode code) leaked = not (int_eq code (pos 101)) && not leaked
 has_info_after_failure (Abort abort) leaked = true
@@ -64,7 +64,7 @@ has_info_line (outcome.Fail failure leaked) = has_info_after_failure failure lea
 has_info_line outcome.ExecFail = false
 has_info_line (outcome.Timeout result) = true
 
--- the start of that line; a benchmark is called a test there
+-- the start of the line that repeats the result; it calls a benchmark a test, too
 unfoldable pub info_line_start : UnitKind → Text
 info_line_start unit.Test = codes "    (test "
 info_line_start unit.Script = codes "    (script "
@@ -74,14 +74,14 @@ unfolding info_line_start
 free-info_line_start unit.Test = refl
 free-info_line_start unit.Script = refl
 
--- that line, aligned with the output, and an empty line
+-- the line that repeats the result, aligned with the output, and an empty line
 unfoldable pub shown_info_line : UnitKind → ExecutionResultDescription → Parts false Line
 shown_info_line kind result = Word (info_line_start kind) (free-info_line_start kind) ⧺ info_text false result ⧺ words (codes ")\n\n")
 
 unfoldable pub info_line : UnitKind → ExecutionResultDescription → Parts false Lines
 info_line kind result = choice (has_info_line result) (shown_info_line kind result) none
 
--- the output of a unit with this result, which decides the style of its headers
+-- the output of a unit; its headers have the style of its result
 abbrev pub written_part : Settings → UnitKind → Bool → ExecutionResultDescription → Written → Parts false Line
 written_part s kind is_retry result output =
     drawn_given_line
@@ -92,7 +92,7 @@ written_part s kind is_retry result output =
 unfoldable pub unit_output : Settings → UnitKind → Bool → ExecutionResultDescription → Written → Parts false Line
 unit_output s kind is_retry result output = written_part s kind is_retry result output ⧺ info_line kind result
 
--- for an attempt of a test, and for a setup script, which is never retried
+-- `unit_output` of an attempt of a test, and of a setup script, which is never retried
 abbrev pub attempt_output : Settings → Bool → ExecutionResultDescription → Written → Parts false Line
 attempt_output s is_retry result output = unit_output s unit.Test is_retry result output
 

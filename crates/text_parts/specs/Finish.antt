@@ -8,7 +8,7 @@ use Rattle.run_names.specs.declared.level.CancelReason.TheVariants as cause
 use Rattle.run_model.specs.declared.status.ExecutionResultDescription.TheVariants as outcome
 use Rattle.text_parts.specs.declared.finish.OutputTiming.TheVariants as row
 
--- the process was ended in the way of nextest: by signal 15, or with its job
+-- the process was ended as nextest ends processes: by SIGTERM (15), or with its job object
 abbrev pub is_terminated_abort : AbortDescription → Bool
 is_terminated_abort (UnixSignal signal name) = int_eq signal (pos 15)
 is_terminated_abort (WindowsNtStatus code message) = false
@@ -25,7 +25,7 @@ is_terminated (outcome.Fail failure leaked) = is_terminated_failure failure
 is_terminated outcome.ExecFail = false
 is_terminated (outcome.Timeout result) = false
 
--- the row of a test with this result, under a reason of this rank
+-- when the output of a test with this result is shown, in a run cancelled for a reason of this rank
 unfoldable pub output_timing : ℕ → ExecutionResultDescription → OutputTiming
 output_timing reason result =
     if (reason == reason_rank (Some cause.TestFailureImmediate)) && is_terminated result then row.Hidden
@@ -36,7 +36,7 @@ output_timing reason result =
 abbrev pub is_ever_shown : TestOutputDisplay → Bool
 is_ever_shown display = is_immediate display || is_final display
 
--- a row for a display: whether the output is shown immediately, and whether at the end
+-- whether output with this display setting is shown immediately, and whether at the end of the run
 unfoldable pub timed_at_once : OutputTiming → TestOutputDisplay → Bool
 timed_at_once row.Hidden display = false
 timed_at_once row.Shown display = is_immediate display
@@ -47,7 +47,7 @@ timed_at_end row.Hidden display = false
 timed_at_end row.Shown display = is_final display
 timed_at_end row.ShownOnce display = is_final display && not (is_immediate display)
 
--- a row for a test that the summary should list
+-- whether the summary lists a test whose level or output asks for it
 unfoldable pub timed_listed : OutputTiming → Bool → Bool
 timed_listed row.Hidden is_wanted = false
 timed_listed row.Shown is_wanted = is_wanted
@@ -61,7 +61,7 @@ display_of s success failure x = display_for s.unit_output.overrides success fai
 unfoldable pub is_line_shown : Settings → StatusSummary → Bool
 is_line_shown s x = nat_le (status_rank (status_level_of x)) (status_rank s.status_levels.status_level)
 
--- its output is shown immediately
+-- the output of the test is shown immediately
 abbrev pub is_shown_at_once : ℕ → TestOutputDisplay → ExecutionResultDescription → Bool
 is_shown_at_once reason display result = timed_at_once (output_timing reason result) display
 
@@ -77,12 +77,12 @@ is_shown_at_end reason display result = timed_at_end (output_timing reason resul
 abbrev pub Showing : Type 0
 Showing = ℕ → TestOutputDisplay → ExecutionResultDescription → Bool
 
--- a reason shows nothing that is not shown without one
+-- with a reason no output is shown that is not shown without one
 abbrev pub IsOnlyHidden : Showing → Type 0
 IsOnlyHidden shown =
     (reason : ℕ) (display : TestOutputDisplay) (result : ExecutionResultDescription) → shown reason display result ≡ true → shown 0 display result ≡ true
 
--- a reason below the immediate end of a failed run changes nothing
+-- a reason less severe than `TestFailureImmediate` changes nothing
 abbrev pub IsSameBelowImmediate : Showing → Type 0
 IsSameBelowImmediate shown =
     (reason : ℕ) (display : TestOutputDisplay) (result : ExecutionResultDescription) → reason < reason_rank (Some cause.TestFailureImmediate) →

@@ -9,7 +9,7 @@ use Rattle.run_model.specs.declared.status.ExecutionResultDescription.TheVariant
 use Rattle.run_model.specs.declared.status.LeakTimeoutResult.TheVariants as leak
 use Rattle.run_model.specs.declared.status.SlowTimeoutResult.TheVariants as slow
 
--- a process left handles open, if it did
+-- the note that a process left handles open, if it did
 unfoldable pub leaked_note : Bool → Text
 leaked_note false = []
 leaked_note true = plain (codes " (leaked handles)")

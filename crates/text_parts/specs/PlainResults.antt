@@ -3,12 +3,12 @@ use Rattle.{report_words.specs.PlainTexts.IsPlainAbort, run_model.specs.declared
 use Rattle.run_model.specs.declared.status.FailureDescription.{FailureDescription, TheVariants.ExitCode, TheVariants.Abort}
 use Rattle.run_model.specs.declared.status.ExecutionResultDescription.TheVariants as outcome
 
--- a failure's signal and message hold none
+-- the signal's name and the message of a failure hold no escape character
 abbrev pub IsPlainFailure : FailureDescription → Type 0
 IsPlainFailure (ExitCode code) = Unit {0}
 IsPlainFailure (Abort abort) = IsPlainAbort abort
 
--- nor those of a result
+-- the names and messages of a result hold no escape character
 abbrev pub IsPlainResult : ExecutionResultDescription → Type 0
 IsPlainResult outcome.Pass = Unit {0}
 IsPlainResult (outcome.Leak result) = Unit {0}

@@ -10,7 +10,7 @@ pub record Script : Type 0 where
   pub program : Text
   pub args : List Text
 
--- as the code has it
+-- a `ScriptInstance` as a `Script`
 abbrev pub script_of : ScriptInstance → Script
 script_of x = record { stress_index = x.stress_index; script_id = x.script_id.now; program = x.program.now; args = x.args.now }
 
@@ -18,6 +18,6 @@ script_of x = record { stress_index = x.stress_index; script_id = x.script_id.no
 abbrev pub shown_script : Script → Parts false Open
 shown_script x = script_part x.stress_index x.script_id (shell_words (x.program ∷ x.args))
 
--- its id, its program and the program's arguments hold no escape character
+-- a script's id, its program and the program's arguments hold no escape character
 abbrev pub IsPlainScript : Script → Type 0
 IsPlainScript x = HasNoEscape x.script_id × HasNoEscape x.program × AllByRecursion HasNoEscape x.args

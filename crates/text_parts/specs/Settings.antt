@@ -16,7 +16,8 @@ counter_width_of shown.Counter run_count = Some (length (decimal run_count))
 counter_width_of shown.Bar run_count = None
 counter_width_of shown.None run_count = None
 
--- whose setting decides when output is shown. Without capture there is none to show, except why a test could not be started
+-- The overrides of the tests' own display settings. Without capture there is no output to show, only why a test could
+-- not be started.
 abbrev pub overrides_by : Bool → Option TestOutputDisplay → Option TestOutputDisplay → OutputDisplayOverrides
 overrides_by true success failure = record {
   force_success_output = Some display.Never;
@@ -37,7 +38,7 @@ counter_where (Some width) x = Some (Counter x.finished_count x.initial_run_coun
 abbrev pub finished_counter : Settings → RunStats → Option DisplayCounterIndex
 finished_counter s x = counter_where s.counter_width x
 
--- plus one: the number of the test that starts
+-- like `counter_where`, plus one: the counter of a test that starts
 abbrev pub next_where : Option ℕ → RunStats → Option DisplayCounterIndex
 next_where None x = None
 next_where (Some width) x = Some (Counter (x.finished_count + 1) x.initial_run_count)

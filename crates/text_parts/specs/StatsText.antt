@@ -14,7 +14,7 @@ counted_front n = number Count n ⧺ words (codes " ")
 abbrev pub counted_text : ℕ → Fixed Open → Fixed Open
 counted_text n word = counted_front n ⧺ word
 
--- the separator before the first of the notes in parentheses, and before each other
+-- what precedes a note in parentheses: the flag says that it is the first
 abbrev pub note_separator : Bool → Text
 note_separator true = codes " ("
 note_separator false = codes ", "

@@ -12,6 +12,20 @@ use writers::text::WriteText;
 use writers::write_str::{WriteFault, WriteStr};
 
 /// Writes the line about an abort after the line of its test. A signal is named in the line itself.
+///
+/// ```
+/// use run_model::abort::AbortDescription;
+/// use run_model::boxed::Boxed;
+/// use run_model::status::FailureDescription;
+/// let abort = Boxed::new(alloc, AbortDescription::WindowsJobObject)?;
+/// let outcome = ExecutionResultDescription::Fail { failure: FailureDescription::Abort { abort }, leaked: false };
+/// write_abort_line(&mut out, &styles, &outcome)?;
+/// assert_eq!(out.as_str(), "           - terminated via job object\n");
+/// ```
+///
+/// # Errors
+///
+/// The writer's fault. It has accepted a prefix of the text.
 #[tactic(auto, unfolding(crate::specs::AbortLine::abort_line))]
 #[inline(always)]
 pub fn write_abort_line<W: WriteStr>(

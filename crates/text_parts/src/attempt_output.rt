@@ -20,6 +20,16 @@ use writers::write_str::{WriteFault, WriteStr};
 /// Writes the output of an attempt with this result, and how it ended if nextest has a line for that.
 ///
 /// `is_retry` says that another attempt follows. The output must be loaded.
+///
+/// ```
+/// let failed = ExecuteStatus::failed(1, time);
+/// write_test_execute_status(&mut out, &settings, false, &failed.result, &failed.output)?;
+/// assert!(out.as_str().ends_with("    (test failed with exit code 1)\n\n"));
+/// ```
+///
+/// # Errors
+///
+/// The writer's fault. It has accepted a prefix of the text.
 pub fn write_test_execute_status<W: WriteStr>(
     w: &mut W,
     settings: &Settings,
@@ -36,6 +46,10 @@ pub fn write_test_execute_status<W: WriteStr>(
 
 /// Writes the output of a setup script with this result, and how it ended if nextest has a line for that. The output
 /// must be loaded.
+///
+/// # Errors
+///
+/// The writer's fault. It has accepted a prefix of the text.
 pub fn write_setup_script_execute_status<W: WriteStr>(
     w: &mut W,
     settings: &Settings,
@@ -49,7 +63,7 @@ pub fn write_setup_script_execute_status<W: WriteStr>(
     write_unit_execute_status(w, settings, kind, false, outcome, output)
 }
 
-// For either.
+// Writes the output of a unit, either an attempt of a test or a setup script.
 #[tactic(auto, unfolding(crate::specs::AttemptOutput::unit_output, crate::specs::AttemptOutput::info_line, crate::specs::AttemptOutput::shown_info_line))]
 fn write_unit_execute_status<W: WriteStr>(
     w: &mut W,
@@ -72,7 +86,7 @@ fn write_unit_execute_status<W: WriteStr>(
     When(show_finished_status_info_line(outcome), line).write_to(w)
 }
 
-// The start of that line. A benchmark is called a test there.
+// The start of the line that repeats the result. It calls a benchmark a test, too.
 #[tactic(auto, unfolding(crate::specs::AttemptOutput::info_line_start))]
 fn info_line_start(kind: UnitKind) -> &'static str
     ensures { result.now ≡ info_line_start kind }
@@ -126,7 +140,7 @@ fn output_spec_for_finished(
     )
 }
 
-// The layout with headers in this style. `no_output_indent` says that output has no margin.
+// The layout with headers in this style. With `no_output_indent` output has no margin.
 fn spec_in(
     kind: UnitKind,
     no_output_indent: bool,

@@ -8,6 +8,11 @@ use writers::text::WriteText;
 use writers::write_str::{WriteFault, WriteStr};
 
 /// The line of a bar of twelve characters.
+///
+/// ```
+/// BarLine(settings.theme_characters).write_to(&mut out)?;
+/// assert_eq!(out.as_str(), "------------\n");
+/// ```
 #[derive(Clone, Copy)]
 pub struct BarLine(pub ThemeCharacters);
 

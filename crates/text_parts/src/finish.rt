@@ -2,7 +2,7 @@
 
 ghost use Rattle.std.specs.Prelude.{◌≡◌, true};
 ghost use Rattle.run_model.specs.Names.{reason_rank, described_summary};
-ghost use Rattle.text_parts.specs.Finish.{IsOnlyHidden, IsSameBelowImmediate, display_of, output_timing, is_ever_shown, is_shown_at_end, is_shown_at_once, is_final_wanted, is_line_shown, is_terminated, is_terminated_abort, is_terminated_failure, timed_at_end, timed_at_once, timed_listed};
+ghost use Rattle.text_parts.specs.Finish.{display_of, output_timing, is_ever_shown, is_final_wanted, is_line_shown, is_terminated, is_terminated_abort, is_terminated_failure, timed_at_end, timed_at_once, timed_listed};
 
 use crate::settings::Settings;
 use run_model::abort::AbortDescription;
@@ -12,13 +12,18 @@ use run_model::output::LiveSpec;
 use run_model::status::{ExecutionDescription, ExecutionResultDescription, FailureDescription};
 
 /// How a finished test is shown.
+///
+/// ```
+/// let timing = OutputTiming::of_test(Some(CancelReason::Interrupt), &ExecutionResultDescription::Pass);
+/// assert!(!timing.is_shown_at_once(TestOutputDisplay::Immediate));
+/// ```
 #[derive(Clone, Copy, PartialEq, Eq)]
 pub enum OutputTiming {
     /// Its output is not shown, and it is not kept.
     Hidden,
     /// Its output is shown where its display says: at once, at the end or both times.
     Shown,
-    /// The same, but at the end only where it was not shown at once.
+    /// Like `Shown`, but not a second time at the end if it was shown at once.
     ShownOnce,
 }
 
@@ -89,15 +94,6 @@ impl OutputTiming {
         }
     }
 }
-
-/// A cancel reason shows no output that is not shown without one, neither immediately nor at the end of the run; and
-/// a reason below the immediate end of a failed run changes nothing.
-pub fn reasons_only_hide()
-    ensures at_once { IsOnlyHidden is_shown_at_once }
-    ensures at_end { IsOnlyHidden is_shown_at_end }
-    ensures same_at_once { IsSameBelowImmediate is_shown_at_once }
-    ensures same_at_end { IsSameBelowImmediate is_shown_at_end }
-{}
 
 fn is_terminated(outcome: &ExecutionResultDescription) -> bool
     ensures { result ≡ is_terminated outcome.now }

@@ -14,6 +14,11 @@ use writers::text::WriteText;
 use writers::write_str::{WriteFault, WriteStr};
 
 /// How an attempt ended, as in `failed with exit code 1`; the flag says that it was slow.
+///
+/// ```
+/// InfoResult(&styles, false, &ExecutionResultDescription::ExecFail).write_to(&mut out)?;
+/// assert_eq!(out.as_str(), "failed to execute");
+/// ```
 #[derive(Clone, Copy)]
 pub struct InfoResult<'a>(pub &'a Styles, pub bool, pub &'a ExecutionResultDescription);
 

@@ -41,6 +41,15 @@ impl Settings {
 }
 
 /// Writes a test as its lines name it.
+///
+/// ```
+/// write_instance(&mut out, &styles, &settings.padded_instance(None, test.as_ref()))?;
+/// assert_eq!(out.as_str(), "alpha t1");
+/// ```
+///
+/// # Errors
+///
+/// The writer's fault. It has accepted a prefix of the text.
 #[inline(always)]
 pub fn write_instance<W: WriteStr>(
     w: &mut W,

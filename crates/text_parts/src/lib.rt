@@ -1,9 +1,11 @@
 //! What the texts of events share, and the settings of a reporter.
 //!
-//! `settings` has these, `finish` when a finished test is shown, `instance` and `script` which test or setup script a line is about. `attempt_output` is the output
-//! of an attempt (with `info_result`), `result_words` and `abort_line` are about how it ended, and `bar` and `stats_text` are parts of the
-//! texts of runs and of responses. The events of tests have their texts in `test_text`, those of runs in `run_text`, and responses in
-//! `info_text`.
+//! `settings` has the settings, and `finish` says when a finished test is shown. `instance` and `script` name the
+//! test or setup script that a line is about. `attempt_output` and `info_result` write the output of an attempt,
+//! `result_words` and `abort_line` how it ended. `bar` and `stats_text` are parts of the texts of runs and responses.
+//!
+//! The texts of the events of tests are in the crate `test_text`, those of runs in `run_text`, and those of responses
+//! in `info_text`.
 #![tactic(auto)]
 
 pub mod abort_line;
@@ -12,6 +14,7 @@ pub mod bar;
 pub mod finish;
 pub mod info_result;
 pub mod instance;
+pub mod laws;
 pub mod result_words;
 pub mod script;
 pub mod settings;

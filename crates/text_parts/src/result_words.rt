@@ -9,7 +9,7 @@ use run_model::status::{
     ExecutionResultDescription, FailureDescription, LeakTimeoutResult, SlowTimeoutResult,
 };
 
-/// A word in two pieces, of which the second may be empty.
+/// A word in two pieces. The second may be empty.
 #[derive(Clone, Copy)]
 pub struct Word<'b> {
     /// The first piece.
@@ -111,7 +111,7 @@ pub fn short_status_str<'b>(
     }
 }
 
-/// A space and that word.
+/// A space, and the word that [`short_status_str`] returns.
 pub fn spaced_short_status_str<'b>(
     outcome: &'b ExecutionResultDescription,
     number: &'b mut Buffer,

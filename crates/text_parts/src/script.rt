@@ -24,6 +24,15 @@ pub struct ScriptInstance<'a> {
 }
 
 /// A setup script as a report shows it: its iteration, if there is one, its id and its command as a shell reads it.
+///
+/// ```
+/// use run_model::name::{ProgramName, ScriptId};
+/// let (script_id, program) = (ScriptId::new(alloc, "s1")?, ProgramName::new(alloc, "cmd")?);
+/// let args = CommandLine::from_words(alloc, &["x"])?;
+/// let script = ScriptInstance { stress_index: None, script_id: &script_id, program: &program, args: &args };
+/// ShownScript(&styles, &script).write_to(&mut out)?;
+/// assert_eq!(out.as_str(), "s1: cmd x");
+/// ```
 #[derive(Clone, Copy)]
 pub struct ShownScript<'s, 'a>(pub &'s Styles, pub &'s ScriptInstance<'a>);
 

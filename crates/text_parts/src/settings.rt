@@ -96,6 +96,11 @@ impl Settings {
 }
 
 /// The width of the numbers of a counter, if counters are shown: that of the number of tests.
+///
+/// ```
+/// use unit_report::config::ProgressDisplay;
+/// assert_eq!(counter_width_for(ProgressDisplay::Counter, 120), Some(3));
+/// ```
 pub fn counter_width_for(progress_display: ProgressDisplay, run_count: usize) -> Option<usize>
     ensures { result ≡ counter_width_of progress_display run_count }
 {
@@ -127,8 +132,8 @@ pub fn theme_for(use_unicode: bool) -> ThemeCharacters
     theme_characters
 }
 
-/// Whose setting decides when the output of tests is shown. Without capture there is none to show, except why a test
-/// could not be started.
+/// The overrides of the tests' own display settings. Without capture there is no output to show, only why a test could
+/// not be started.
 pub fn overrides_for(
     no_capture: bool,
     success_output: Option<TestOutputDisplay>,

@@ -22,6 +22,11 @@ pub fn failure_style(styles: &Styles, stats: &RunStats) -> Style
 }
 
 /// All counts: passed and skipped always, the others if they are not 0.
+///
+/// ```
+/// Counts(&styles, &stats).write_to(&mut out)?;
+/// assert_eq!(out.as_str(), "1 passed, 0 skipped");
+/// ```
 #[derive(Clone, Copy)]
 pub struct Counts<'a>(pub &'a Styles, pub &'a RunStats);
 

@@ -3,11 +3,11 @@ use Rattle.std.specs.Prelude.{ℕ, ◌+◌, Bool, true, false, ◌&&◌, ◌||�
 use Rattle.styled_text.specs.Names.{starts_with, without_trailing_newline, visible, highlight_end, plain, reset_color, Text}
 use Rattle.{report_words.specs.Names.Style, report_words.specs.Names.Styles, run_model.specs.Outputs.Part, run_model.specs.declared.output.ByteSubslice.ByteSubslice, unit_report.specs.HighlightedLines.highlighted_lines}
 
--- without colour: no escape sequences, and one line feed at the end
+-- a captured text without colour: without its escape sequences, and with one line feed at the end
 unfoldable pub plain_output : Text → Text
 plain_output t = without_trailing_newline (visible t) ++ 10 ∷ []
 
--- with colour: unchanged, and a reset at the end
+-- a captured text with colour: unchanged, and a reset at the end
 unfoldable pub reset_output : Text → Text
 reset_output t = without_trailing_newline t ++ (reset_color ++ 10 ∷ [])
 
@@ -15,7 +15,7 @@ reset_output t = without_trailing_newline t ++ (reset_color ++ 10 ∷ [])
 unfoldable pub highlighted_output : Style → Text → Text → Text → Text
 highlighted_output s front lit back = front ++ (plain reset_color ++ (highlighted_lines s lit ++ reset_output back))
 
--- its bytes, without their address
+-- the bytes of a part of an output, without their address
 abbrev pub part_value : ByteSubslice → Part
 part_value s = record { start = s.start; bytes = s.slice.now }
 
@@ -35,7 +35,7 @@ is_valid t h = ends_character h.start t && (starts_with ◌==◌ (drop h.start t
 abbrev pub highlighted_by : Style → Text → Part → Text
 highlighted_by s t h = highlighted_output s (take h.start t) (take (highlight_end h.bytes) (drop h.start t)) (drop (highlight_stop h) t)
 
--- with colour: a highlight that is not valid is left out
+-- a captured text with colour and a highlight; one that is not valid is left out
 unfoldable pub coloured_output : Style → Text → Option Part → Text
 coloured_output s t None = reset_output t
 coloured_output s t (Some h) = if is_valid t h then highlighted_by s t h else reset_output t

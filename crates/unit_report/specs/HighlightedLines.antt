@@ -17,7 +17,8 @@ unfoldable pub body_len : Text → ℕ
 body_len [] = 0
 body_len (c ∷ t) = if is_line_end (c ∷ t) then 0 else suc (body_len t)
 
--- a line in the style of a highlight: without its escape sequences, and what closes it after the style
+-- a line in the style of a highlight, without its escape sequences; the bytes that close it come after the style's
+-- suffix
 unfoldable pub highlighted_line : Style → Text → Text
 highlighted_line s l = style_prefix s ++ (visible (take (body_len l) l) ++ (style_suffix s ++ drop (body_len l) l))
 

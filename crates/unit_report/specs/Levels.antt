@@ -7,7 +7,7 @@ use Rattle.run_names.specs.declared.level.FinalStatusLevel.TheVariants as final
 use Rattle.unit_report.specs.declared.config.ShowProgress.TheVariants as asked
 use Rattle.unit_report.specs.declared.config.ProgressDisplay.TheVariants as shown
 
--- each level is asked for, and is the profile's as well
+-- a configuration with these levels, as the user's and as the profile's
 abbrev pub overridden : ShowProgress → Bool → StatusLevel → FinalStatusLevel → DisplayConfig
 overridden show_progress no_capture status_level final_status_level = record {
   show_progress = show_progress;
@@ -55,6 +55,6 @@ display_where c can_bar = record {
   status_levels = resolved_levels c (suppresses c.show_progress can_bar);
 }
 
--- what the report resolves to
+-- the progress display and the levels that the report gets
 unfoldable pub resolved_display : DisplayConfig → Bool → Bool → ResolvedDisplay
 resolved_display c is_terminal is_ci = display_where c (can_show_bar c is_terminal is_ci)

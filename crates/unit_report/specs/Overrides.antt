@@ -1,4 +1,4 @@
--- Whose setting decides when a test's output is shown.
+-- Overrides of the display settings that tests have for their output.
 use Rattle.std.specs.Prelude.{Bool, true, false, unwrap_or, if◌then◌else◌}
 use Rattle.unit_report.specs.declared.unit_output.overrides.OutputDisplayOverrides.{OutputDisplayOverrides}
 use Rattle.run_model.specs.{Names.is_success_case, Names.TestOutputDisplay, declared.status.ExecutionResultDescription.ExecutionResultDescription, declared.status.StatusSummary.StatusSummary}

@@ -61,7 +61,7 @@ included_text mode c f =
     ⧺ between (words (codes ", and ")) (c.skipped_tests_rerun == 0) (has_no_filtered c)
     ⧺ filtered_text mode c f)
 
--- why n tests and the binaries are skipped: the one reason, or the parts that have one
+-- why n tests and the binaries are skipped: one reason for all, or how many have which reason
 unfoldable pub skip_reason : NextestRunMode → ℕ → SkipCounts → CompiledDefaultFilter → Parts false Open
 skip_reason mode tests c f =
     choice ((tests == c.skipped_tests_rerun) && (c.skipped_binaries == 0)) (words (codes " that already passed"))

@@ -1,4 +1,4 @@
-//! Which levels and which progress display a report has.
+//! The progress display and the levels of a report: what a user and a profile ask for, and what the report gets.
 
 ghost use Rattle.std.specs.Prelude.{◌≡◌, ◌≤◌, true, false};
 ghost use Rattle.unit_report.specs.Levels.{progress_display_of, suppresses, raised, resolved_levels, resolved_display, overridden};
@@ -69,7 +69,7 @@ pub struct DisplayConfig {
 }
 
 impl DisplayConfig {
-    /// Asks for these levels, and makes them the profile's as well.
+    /// A configuration with these levels, as the user's and as the profile's.
     ///
     /// ```
     /// let (level, final_level) = (StatusLevel::Fail, FinalStatusLevel::Fail);
@@ -94,8 +94,15 @@ impl DisplayConfig {
         }
     }
 
-    /// Resolves what the report has. A bar needs captured output, a terminal and no CI; without capture the status level is at
-    /// least Pass, since the tests' own output then comes between the lines.
+    /// The progress display and the levels that the report gets. A bar needs captured output, a terminal and no CI.
+    /// Without capture the status level is at least Pass: the tests' own output then comes between the lines.
+    ///
+    /// ```
+    /// let config = DisplayConfig::with_overrides(ShowProgress::Running, true, StatusLevel::Fail, FinalStatusLevel::Fail);
+    /// let resolved = config.resolve(true, false);
+    /// assert_eq!(resolved.progress_display, ProgressDisplay::None);
+    /// assert_eq!(resolved.status_levels.status_level, StatusLevel::Pass);
+    /// ```
     #[tactic(auto, unfolding(crate::specs::Levels::resolved_display))]
     pub fn resolve(&self, is_terminal: bool, is_ci: bool) -> ResolvedDisplay
         ensures table { result ≡ resolved_display self.now is_terminal is_ci }

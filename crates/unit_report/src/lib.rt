@@ -1,4 +1,5 @@
-//! What is shown of a test or a setup script: the settings, the durations and the captured output.
+//! What a report shows of a unit, which is a test or a setup script: the settings, the durations and the captured
+//! output.
 #![tactic(auto)]
 
 pub mod config;

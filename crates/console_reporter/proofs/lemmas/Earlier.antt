@@ -30,7 +30,7 @@ module _ (s : Settings) (stress : Option StressIndex) (test : TestInstanceId) (s
       ap (λ (x : StatusSummary). record { test = (finish reason).test; display = display_of s success failure x; row = (finish reason).row; summary = x; last = statuses.last })
       (last-summary statuses)
 
--- the event is the same for a report
+-- both events have the same text and entry (`IsSameEvent`)
 pub same-last : (s : Settings) (elapsed : Nanos) (e : TestEventKind) → IsSameEvent s (record { elapsed = elapsed; kind = e }) (record { elapsed = elapsed; kind = kind_of_last e })
 unfolding event_text
 same-last s elapsed (TestFinished stress test success failure statuses stats) = record {
@@ -40,14 +40,14 @@ same-last s elapsed (TestFinished stress test success failure statuses stats) = 
 }
 same-last s elapsed other = record { reason = refl; entry = λ before. refl; text = λ known. refl }
 
--- it is refused for the same reason
+-- both events are refused for the same reason, or accepted
 pub refused-last : (d : OutputLoadDecider) (e : TestEventKind) → event_refusal d (kind_of_last e) ≡ event_refusal d e
 refused-last d (TestFinished stress test success failure statuses stats) =
     ap (λ (x : StatusSummary). if option_map_or (λ (o : Written). not (has_loaded_output o)) (if loads_finish d success failure x then Some statuses.last.output else None) false then Some OutputNotLoaded else None)
     (last-summary statuses)
 refused-last d other = refl
 
--- and has the same record
+-- both events have the same record
 pub record-last : (store : Option StoreConfig) (e : TestEventKind) → record_of store (kind_of_last e) ≡ record_of store e
 unfolding record_text stored_output
 record-last None e = refl

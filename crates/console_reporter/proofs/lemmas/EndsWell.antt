@@ -1,4 +1,4 @@
--- A run that is stopped has a cause: it is memory where no call is refused and no device fails (for `runs_end_well`).
+-- If no call is refused and no device fails, only refused memory stops a run (for `runs_end_well`).
 use Rattle.std.proofs.Common.{arith, ◌≡◌, ◌⊎◌, inl, inr, ℕ, zero, suc, List, [], ◌∷◌, None}
 use Rattle.std.proofs.Common.{Result, Ok, Err, refl, sym, ◌∙◌}
 use Rattle.styled_text.specs.Names.{Meaning, successor}

@@ -32,7 +32,7 @@ same-decision d output (TestAttemptFailedWillRetry stress test status delay fail
 same-decision d output (TestFinished stress test success failure statuses stats) = refl
 same-decision d output other = refl
 
--- unloaded, all combined outputs are one
+-- events that differ in a combined output alone are equal once it is unloaded
 same-unread : (t u : Text) (e : TestEventKind) → unloaded_kind (with_output (combined t) e) ≡ unloaded_kind (with_output (combined u) e)
 same-unread t u (SetupScriptFinished stress id program args status) = refl
 same-unread t u (TestAttemptFailedWillRetry stress test status delay failure) = refl
@@ -64,7 +64,7 @@ module _ (config : Configuration) (before after : List ReportCall) (event : Test
       same-but-one config before after (record event { kind = with_output (combined t) event.kind }) _
       (same-unloaded (settings_of config) config.store event.elapsed (with_output (combined t) event.kind) (ap is_skip (same-decision (decider_of config) (combined t) event.kind ∙ skips)))
 
-  -- nor does its record differ
+  -- the records do not differ if the decider skips the output
   unread-records : (t : Text) → decision (decider_of config) event.kind ≡ Some Skip →
       records config.store (before ++ Event (unloaded_event (record event { kind = with_output (combined t) event.kind })) ∷ after) ≡ records config.store (before ++ writing t event ∷ after)
   unread-records t skips =
@@ -92,14 +92,14 @@ unfolding report_texts
 text_of_one config [] past x y is = (same_from_push _ _ _ _ is).1
 text_of_one config (call ∷ later) past x y is = text_of_one config later past x y (same_from_push _ _ _ _ is).0
 
--- so it suffices that the event's own text differs
+-- the event is observed if its own text differs
 observed_at_once : (config : Configuration) (before after : List ReportCall) (event : TestEvent) →
     text config (reverse before) (writing (codes "a") event) ≢ text config (reverse before) (writing (codes "b") event) → IsSeen config before event after
 observed_at_once config before after event differ same =
     differ (text_of_one config (reverse after) (reverse before) (writing (codes "a") event) (writing (codes "b") event)
     (rw (reverse-middle before (writing (codes "a") event) after, reverse-middle before (writing (codes "b") event) after) at same))
 
--- or the text of the end
+-- the event is observed if the text of the end of the run differs
 observed_at_end : (config : Configuration) (before after : List ReportCall) (event end : TestEvent) →
     text config (reverse (before ++ writing (codes "a") event ∷ after)) (Event end) ≢ text config (reverse (before ++ writing (codes "b") event ∷ after)) (Event end) →
     IsSeen config before event (after ++ Event end ∷ [])

@@ -56,7 +56,7 @@ order_independent config calls before after first second end is ends uninterrupt
     ∙ ap (λ entries. event_text s (listing entries) end.elapsed.0 end.kind) (exchanged s before after first second _ _ kept_first kept_second differ)
     ∙ sym (uninterrupted_end config (before ++ first ∷ second ∷ after) end one ends)
 
--- a finished test without a counter is the same event, whatever the statistics are
+-- a finished test without a counter is the same to a report, whatever the statistics are
 same-finished : (s : Settings) (elapsed : Nanos) (e : TestEventKind) (stats : RunStats) → s.counter_width ≡ None →
     IsSameEvent s (record { elapsed = elapsed; kind = e }) (record { elapsed = elapsed; kind = with_stats stats e })
 unfolding event_text

@@ -52,7 +52,7 @@ never-kept s f last h =
 pub unloaded-summary : (a : Attempts LiveSpec ChildOutputDescription) → summary_of (unloaded_attempts a) ≡ summary_of a
 unloaded-summary a = rw (length-map a.earlier unloaded_attempt) refl
 
--- nor does that of their event
+-- the event of a finished test whose output is never shown is the same to a report once its output is unloaded
 module _ (s : Settings) (stress : Option StressIndex) (test : TestInstanceId) (success failure : TestOutputDisplay) (statuses : Attempts LiveSpec ChildOutputDescription) (stats : RunStats)
     (never : is_ever_shown (display_for s.unit_output.overrides success failure (summary_of statuses)) ≡ false) where
   abbrev finish : ℕ → FinishReport
@@ -95,7 +95,7 @@ never-script : (s : Settings) (script : Script) (x : SetupScriptExecuteStatus Li
 unfolding setup_script_finished_text failed_script_output
 never-script s script x never = elim (cases_Bool (is_success x.result)) [ inl y ↦ rw y refl | inr n ↦ absurd (false≢true (sym (rw n at never))) ]
 
--- an event whose output the decider skips is the same without it
+-- an event whose output the decider skips is the same to a report without that output
 pub same-unloaded : (s : Settings) (store : Option StoreConfig) (elapsed : Nanos) (e : TestEventKind) → is_skipped (decider_by s store) e ≡ true →
     IsSameEvent s (record { elapsed = elapsed; kind = e }) (record { elapsed = elapsed; kind = unloaded_kind e })
 unfolding event_text
@@ -113,7 +113,7 @@ same-unloaded s store elapsed (TestFinished stress test success failure statuses
     same-finish s stress test success failure statuses stats (or_parts _ _ (not_loaded (loads_finish (decider_by s store) success failure (summary_of statuses)) h)).0 elapsed
 same-unloaded s store elapsed other h = absurd (false≢true h)
 
--- calls are the same without the outputs that the decider skips
+-- calls are the same to a report without the outputs that the decider skips
 same-calls : (config : Configuration) (calls : List ReportCall) → AreSame config calls (unread (decider_of config) calls)
 same-calls config [] = same-itself config []
 same-calls config (Event e ∷ calls) =
@@ -179,7 +179,7 @@ map_reverse f (x ∷ xs) =
     ap (map f) (reverse-append (x ∷ []) xs) ∙ map-append f (reverse xs) (x ∷ []) ∙ ap (λ ys. ys ++ f x ∷ []) (map_reverse f xs)
     ∙ sym (reverse-append (f x ∷ []) (map f xs))
 
--- from the latest call on, as in a past
+-- like `same-calls`, for the calls in reverse, as a past has them
 same-past : (config : Configuration) (d : OutputLoadDecider) (calls : List ReportCall) → decider_of config ≡ d → AreSame config (reverse calls) (reverse (unread d calls))
 same-past config d calls is =
     subst (AreSame config (reverse calls)) (map_reverse (unread_call d) calls)

@@ -80,7 +80,7 @@ plain-kept k s (Event e ∷ past) h = All-append (IsPlainEntry k) (kept s past) 
 plain-kept k s (Header x ∷ past) h = plain-kept k s past h.1
 plain-kept k s (Prefix p ∷ past) h = plain-kept k s past h.1
 
--- it is the same in colour
+-- the entry of an event does not depend on colour
 same-entry_of : (s : Settings) (reason : ℕ) (e : TestEventKind) → entry_of (painted true s) reason e ≡ entry_of (painted false s) reason e
 unfolding display_of is_final_wanted
 same-entry_of s reason (TestFinished stress instance success failure statuses stats) = refl

@@ -130,7 +130,7 @@ pub event_accepted : {W S : Type 0} (reporter : DisplayReporter W S) (event : Te
     (config : Configuration) (past : List ReportCall) → StandsAfter config past reporter → None ≡ refusal_for config (Some (Event event))
 event_accepted reporter event none config past stands = sym none ∙ ap (λ d. event_refusal d event.kind) (ap₂ decider_by stands.settings stands.store)
 
--- and an event that it refuses changes nothing
+-- an event that the reporter refuses changes nothing
 pub event_refused : {W S : Type 0} (m : Meaning W) (n : Meaning S) (reporter : DisplayReporter W S) (event : TestEvent) (refusal : Option WriteEventError) →
     reporter.state.has_failed ≡ false → IfSome refusal (λ e. refusal_in e ≡ Some e) → refusal ≡ event_refusal (decider_by reporter.state.settings (config_of reporter.store)) event.kind →
     IfSome refusal (λ e. Promises m n reporter (Some (Event event)) (Err e) reporter)

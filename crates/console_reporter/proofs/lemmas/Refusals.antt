@@ -22,7 +22,7 @@ stops_refused side m w t Memory told = cc
 stops_refused side m w t Failed told = cc
 stops_refused side m w t StoreIo told = cc
 
--- and is no fault of the device or of memory
+-- a refusal is no fault of a device or of memory
 refused_not_io : (e : WriteEventError) → refusal_in e ≡ Some e → e ≡ Io → ⊥
 refused_not_io e told is = cc
 

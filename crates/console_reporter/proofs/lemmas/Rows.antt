@@ -87,7 +87,7 @@ named : test_text settings.styles.list_styles None None (codes "alpha") (codes "
 unfolding test_text stress_prefix counter_prefix test_name_text plain styled last_colons
 named = refl
 
--- its line, in the run and in the summary
+-- the line of the failed test, in the run and in the summary
 failed_line : (kind : StatusLineKind) (test : TestInstanceId) (output : Written) (code : ℤ) (time : Nanos) →
     test.binary_id.now ≡ codes "alpha" → test.test_name.now ≡ codes "mod::t2" → time.0 ≡ 1500000000 →
     paint settings.styles (status_line kind (record { stress_index = None; counter = None; instance = test }) (summary_of (failed output code time))) ≡ codes "        FAIL [   1.500s] alpha mod::t2\n"

@@ -92,7 +92,7 @@ module _ {W S : Type 0} {m : Meaning W} {n : Meaning S} (laws : WriterLaws m) (s
         let same : new.store ≡ h.0.store = subst (λ e. Stops Records (store_meaning n) h.0.store stored_here e new.store) is records_stopped in
         subst (store_meaning n).is_delivered (sym same) (h.3 held).store
 
-    -- with a store
+    -- a run with a store
     records_delivered_there : {a b : Store S} → old.store ≡ Some a → new.store ≡ Some b → m.is_delivered old.writer.now → n.is_delivered a.writer.now → stop.fault ≡ Io → n.is_delivered b.writer.now
     records_delivered_there {a} {b} old_is new_is w r is =
         subst (store_meaning n).is_delivered new_is (records_delivered (record { writer = w; store = subst (store_meaning n).is_delivered (sym old_is) r }) is)
@@ -123,7 +123,7 @@ module _ {W S : Type 0} {m : Meaning W} {n : Meaning S} (laws : WriterLaws m) (s
     memory_there : {a : Store S} → old.store ≡ Some a → stop.fault ≡ Memory → m.may_refuse old.writer.now ⊎ MayGrowAt config calls stop.position ⊎ n.may_refuse a.writer.now
     memory_there old_is is = let s = memory is in rw old_is at s
 
-    -- without one
+    -- a run without a store
     no_store_fails : old.store ≡ None → stop.fault ≡ StoreIo → ⊥
     no_store_fails none is =
         absent_stop n h.0.store stored_before stored_here new.store
@@ -156,7 +156,7 @@ module _ {W S : Type 0} {m : Meaning W} {n : Meaning S} (laws : WriterLaws m) (s
     (accepted_before : IfErr result (λ stop. (c : Configuration) → StandsAfter c [] old → AreAccepted c (take stop.position calls)))
     (stopped : IfErr result (λ stop. (mid : DisplayReporter W S) × TellsRun m n old (past_at calls stop.position) mid × Promises m n mid (slice_get calls stop.position) (Err stop.fault) new
     × (AreDelivered m n old → AreDelivered m n mid))) where
-  -- with a store
+  -- what a run with a store promises
   pub runs_with_store : {a b : Store S} → old.store ≡ Some a → new.store ≡ Some b → Runs m n config calls (old.writer.now, a.writer.now) result (new.writer.now, b.writer.now)
   runs_with_store old_is new_is =
       let told : OnOk result (m.accepts old.writer.now (report config (reverse calls)) new.writer.now) = on_ok_weaker _ (λ (h : TellsRun m n old (reverse calls) new). h.accepted config stands) made in
@@ -186,7 +186,7 @@ module _ {W S : Type 0} {m : Meaning W} {n : Meaning S} (laws : WriterLaws m) (s
         statistics = stats_independent config calls;
       }
 
-  -- without one
+  -- what a run without a store promises
   pub runs_alone : old.store ≡ None → Runs m absent config calls (old.writer.now, tt) result (new.writer.now, tt)
   runs_alone none =
       let told : OnOk result (m.accepts old.writer.now (report config (reverse calls)) new.writer.now) = on_ok_weaker _ (λ (h : TellsRun m n old (reverse calls) new). h.accepted config stands) made in

@@ -30,7 +30,7 @@ module _ (config : Configuration) where
     unfolding report_texts
     same-report_texts x y here = ap₂ (λ (before : List Text) (t : Text). before ++ t ∷ []) all.texts here
 
-    -- the same event after them
+    -- two events that are the same to a report, after these pasts
     pub same-event : (e f : TestEvent) → IsSameEvent (settings_of config) e f → AreSame config (Event e ∷ xs) (Event f ∷ ys)
     unfolding prefix cancel kept
     same-event e f one = record {
@@ -40,7 +40,7 @@ module _ (config : Configuration) where
       texts = same-report_texts (Event e) (Event f) (ap (λ known. event_text (settings_of config) known f.elapsed.0 f.kind) same-known ∙ one.text (known_after config xs));
     }
 
-    -- one call after them
+    -- one call after these pasts
     pub same-call : (call : ReportCall) → AreSame config (call ∷ xs) (call ∷ ys)
     unfolding prefix cancel kept
     same-call (Event e) = same-event e e (record { reason = refl; entry = λ before. refl; text = λ known. refl })
@@ -50,7 +50,7 @@ module _ (config : Configuration) where
     pub same-report : report config ys ≡ report config xs
     same-report = report-joined config ys ∙ ap (flat_map (λ t. t)) all.texts ∙ sym (report-joined config xs)
 
-  -- calls after them
+  -- a list of calls after these pasts
   pub same-onto : (xs ys : List ReportCall) → AreSame config xs ys → (later : List ReportCall) → AreSame config (later ++ xs) (later ++ ys)
   same-onto xs ys all [] = all
   same-onto xs ys all (call ∷ later) = same-call (later ++ xs) (later ++ ys) (same-onto xs ys all later) call
@@ -60,7 +60,7 @@ pub reverse-middle : {X : Type 0} (front : List X) (x : X) (back : List X) → r
 reverse-middle front x back =
     reverse-append front (x ∷ back) ∙ ap (λ l. l ++ reverse front) (reverse-append (x ∷ []) back) ∙ append_assoc (reverse back) (x ∷ []) (reverse front)
 
--- one event in place of another that is the same
+-- an event replaced by one that is the same to a report
 pub same-but-one : (config : Configuration) (front back : List ReportCall) (e f : TestEvent) → IsSameEvent (settings_of config) e f →
     report_texts config (reverse (front ++ Event f ∷ back)) ≡ report_texts config (reverse (front ++ Event e ∷ back))
 same-but-one config front back e f one =

@@ -48,7 +48,7 @@ of_lines-text config past (Event e) = ends _ (event_parts _ _ e.elapsed.0 e.kind
 of_lines-text config past (Header h) = inr (ends _ (replay_header_text h))
 of_lines-text config past (Prefix p) = inl refl
 
--- and so is that of the end of a report, which is empty
+-- the text of a call, or of the end of a report, is whole lines or empty
 pub of_lines-told : (config : Configuration) (past : List ReportCall) (call : Option ReportCall) → IsOfLines (told_text config past call)
 of_lines-told config past None = inl refl
 of_lines-told config past (Some call) = of_lines-text config past call

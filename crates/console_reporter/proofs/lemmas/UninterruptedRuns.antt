@@ -21,7 +21,7 @@ pub uninterrupted_both : (xs ys : List ReportCall) → AreUninterrupted xs → A
 uninterrupted_both [] ys a b = b
 uninterrupted_both (x ∷ xs) ys a b = (a.0, uninterrupted_both xs ys a.1 b)
 
--- an uninterrupted reason keeps the same entries as none
+-- under an uninterrupted reason the same entries are kept as without a reason
 pub uninterrupted_entry : (s : Settings) (reason : ℕ) (e : TestEventKind) → reason < 5 → entry_of s reason e ≡ entry_of s 0 e
 uninterrupted_entry s reason (TestFinished stress test success failure statuses stats) h =
     rw (row_below reason statuses.last.result h, row_below 0 statuses.last.result (omega arith)) refl
@@ -45,7 +45,7 @@ kept_more s (Event e) past h = ap (λ o. kept s past ++ option_to_list o) (unint
 kept_more s (Header k) past h = sym (append-nil (kept s past))
 kept_more s (Prefix p) past h = sym (append-nil (kept s past))
 
--- a past, and calls after it of which one is the first
+-- a past with one call and then others after it
 reverse_onto : (call : ReportCall) (calls past : List ReportCall) → reverse (call ∷ calls) ++ past ≡ reverse calls ++ call ∷ past
 reverse_onto call calls past = ap (λ l. l ++ past) (reverse-append (call ∷ []) calls) ∙ append_assoc (reverse calls) (call ∷ []) past
 

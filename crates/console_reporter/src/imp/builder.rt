@@ -20,7 +20,7 @@ use unit_report::config::{DisplayConfig, ShowProgress};
 use unit_report::unit_output::{DisplayerKind, OutputDisplayOverrides, UnitOutputReporter};
 use writers::write_str::WriteStr;
 
-/// Where a report goes: nextest detects this by itself, and a caller of this library says it. By default it goes to a file: no
+/// Where a report goes. nextest detects this itself; a caller of this library sets it. The default is a file: no
 /// terminal, no build machine, ASCII characters, and empty outputs are not shown.
 ///
 /// ```
@@ -49,7 +49,7 @@ pub struct Surroundings {
 /// drop(reporter);
 /// assert!(out.as_str().ends_with("alpha\x1b[0m \x1b[34;1mt1\x1b[0m\n"));
 /// ```
-#[derive(Drop)]
+#[derive(Debug, Drop)]
 pub struct DisplayReporterBuilder {
     /// Whether the run runs tests or benchmarks.
     pub mode: NextestRunMode,
@@ -82,6 +82,10 @@ impl DisplayReporterBuilder {
     /// builder.should_colorize = true;
     /// builder.display_config.status_level = Some(StatusLevel::Fail);
     /// ```
+    ///
+    /// # Errors
+    ///
+    /// Memory was refused.
     pub fn new(alloc: Global, run_count: usize) -> Result<Self, OutOfMemory>
         ensures { IfOk result (λ builder. builder ≡ default_builder run_count) }
     {
@@ -117,8 +121,8 @@ impl DisplayReporterBuilder {
     /// assert_eq!(out.as_str(), "        PASS [   0.020s] (1/1) alpha t1\n");
     /// ```
     ///
-    /// It is the one that [`DisplayReporterBuilder::build`] makes from nextest's four flags. It allocates nothing itself: the reporter keeps
-    /// `alloc` for the tests that the summary will list.
+    /// [`DisplayReporterBuilder::build`] makes the same reporter from nextest's four flags. Neither allocates: the
+    /// reporter keeps `alloc` for the tests that the summary will list.
     pub fn build_for<'a, W: WriteStr>(
         self,
         alloc: Global,

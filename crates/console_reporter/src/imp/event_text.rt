@@ -37,7 +37,12 @@ use text_parts::settings::Settings;
 use unit_report::formatters::write_final_warnings;
 use writers::write_str::{WriteFault, WriteStr};
 
-/// Writes the text of an event: one arm for each kind, in the order of `event_text`. A test that it finishes is passed with it.
+/// Writes the text of an event: one arm for each kind, in the order of the definition `event_text`. `finished` is the
+/// test that the event finishes, if it does.
+///
+/// # Errors
+///
+/// The writer's fault. It has accepted a prefix of the text.
 #[tactic(auto, unfolding(crate::specs::Report::event_text))]
 pub fn write_event_text<W: WriteStr>(
     w: &mut W,

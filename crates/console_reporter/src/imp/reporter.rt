@@ -31,6 +31,14 @@ use writers::write_str::{WriteFault, WriteStr};
 ///
 /// After a call that returned `Io`, `StoreIo` or `Memory` the reporter has failed: every later call returns `Failed` and changes
 /// nothing. What each call promises is one record, `Promises` in specs/Telling.antt.
+///
+/// ```
+/// let mut reporter = builder.build_for(alloc, &mut out, Surroundings::default());
+/// reporter.write_event(&event)?;
+/// reporter.finish()?;
+/// drop(reporter);
+/// assert_eq!(out.as_str(), "        PASS [   0.020s] (1/1) alpha t1\n");
+/// ```
 #[derive(Drop)]
 pub struct DisplayReporter<'a, W, S> {
     pub(super) writer: &'a mut W,
@@ -98,6 +106,12 @@ impl<'a, W: WriteStr, S: WriteStr> DisplayReporter<'a, W, S> {
     /// drop(reporter);
     /// assert_eq!(out.as_str(), "        PASS [   0.020s] (1/1) alpha t1\n");
     /// ```
+    ///
+    /// # Errors
+    ///
+    /// A refused event (`RetriedSuccess`, `OutputNotLoaded`) changes nothing. After `Io` or `Memory` a prefix of the
+    /// text was accepted, after `StoreIo` the text and a prefix of the record; every later call then returns
+    /// `Failed`.
     pub fn write_event(&mut self, event: &TestEvent<'_>) -> Result<(), WriteEventError>
         ensures { Promises W.meaning S.meaning self.old (Some (ReportCall.Event event.now)) result self.new }
     {
@@ -151,7 +165,7 @@ impl<'a, W: WriteStr, S: WriteStr> DisplayReporter<'a, W, S> {
         }
     }
 
-    // Looks at a test that finishes once, for its text and its entry.
+    // Prepares a finished test once, for its text and for its entry in the summary.
     #[inline(always)]
     fn report(&mut self, event: &TestEvent<'_>) -> Result<(), WriteEventError>
         requires { lacks_output (decider_by self.old.state.settings None) event.now.kind ≡ false }
@@ -187,7 +201,7 @@ impl<'a, W: WriteStr, S: WriteStr> DisplayReporter<'a, W, S> {
         }
     }
 
-    // A test that finishes is passed with the event. Inlined, so that for most events only their own arm runs.
+    // `finished` is the test that the event finishes. Inlined, so that for most events only their own arm runs.
     #[inline(always)]
     fn report_event(
         &mut self,
@@ -254,6 +268,11 @@ impl<'a, W: WriteStr, S: WriteStr> DisplayReporter<'a, W, S> {
     /// drop(reporter);
     /// assert!(out.as_str().starts_with("   Replaying recorded run 00000000-0000-4000-8000-000000000001\n"));
     /// ```
+    ///
+    /// # Errors
+    ///
+    /// `Io`, `Memory` or `StoreIo` if a writer fails: a prefix of the text was accepted, and every later call returns
+    /// `Failed`.
     pub fn write_replay_header(&mut self, header: &ReplayHeader) -> Result<(), WriteEventError>
         ensures { Promises W.meaning S.meaning self.old (Some (ReportCall.Header header.now)) result self.new }
     {
@@ -316,6 +335,10 @@ impl<'a, W: WriteStr, S: WriteStr> DisplayReporter<'a, W, S> {
     /// reporter.write_event(&event)?;
     /// reporter.finish()?;
     /// ```
+    ///
+    /// # Errors
+    ///
+    /// `Io`, `Memory` or `StoreIo` if a writer does not deliver what it holds: every later call returns `Failed`.
     pub fn finish(&mut self) -> Result<(), WriteEventError>
         ensures call { Promises W.meaning S.meaning self.old None result self.new }
         ensures told_nothing { OnOk result (W.meaning.accepts self.old.writer.now [] self.new.writer.now) }
@@ -353,12 +376,14 @@ impl<'a, W: WriteStr, S: WriteStr> DisplayReporter<'a, W, S> {
         (writer, store)
     }
 
-    /// Gives the writer and the store back as `into_parts` does, and frees nothing: for a program that ends.
+    /// Returns the writer and the store as [`into_parts`](DisplayReporter::into_parts) does, and frees nothing: for a
+    /// program that ends then. Hidden: only the programs of this repository need it.
     ///
     /// ```
     /// let (writer, _) = reporter.into_parts_unfreed();
     /// assert_eq!(writer.as_str(), "");
     /// ```
+    #[doc(hidden)]
     pub fn into_parts_unfreed(self) -> (&'a mut W, Option<Store<'a, S>>)
         ensures writer { result.0 ≡ self.entry.writer }
         ensures store { result.1 ≡ self.entry.store }
@@ -412,6 +437,11 @@ impl<'a, W: WriteStr, S: WriteStr> DisplayReporter<'a, W, S> {
     /// drop(reporter);
     /// assert_eq!(out.as_str(), "        PASS [   0.020s] (1/1) alpha t1\n");
     /// ```
+    ///
+    /// # Errors
+    ///
+    /// Those of [`write_event`](DisplayReporter::write_event), and `Memory` if the memory for a copied prefix is
+    /// refused.
     pub fn make_call(&mut self, alloc: Global, call: &ReportCall<'_>) -> Result<(), WriteEventError>
         ensures { Promises W.meaning S.meaning self.old (Some call.now) result self.new }
     {

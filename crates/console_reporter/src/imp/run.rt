@@ -1,8 +1,7 @@
 //! The run of a list of calls, with a reporter of its own.
 
-ghost use Rattle.std.specs.Prelude.{◌≡◌, ◌++◌, ◌∷◌, List, Result, Some, length, slice_get};
-ghost use Rattle.{std.specs.List.flat_map, run_model.specs.declared.call.ReportCall.ReportCall, reporter_state.specs.declared.faults.RunFault.RunFault};
-ghost use Rattle.console_reporter.specs.Names.{AreAccepted, Configuration, EndsWell, configured, configured_with_store, report, report_texts, text, Runs, absent};
+ghost use Rattle.std.specs.Prelude.◌≡◌;
+ghost use Rattle.console_reporter.specs.Names.{configured, configured_with_store, Runs, absent};
 
 use super::builder::DisplayReporterBuilder;
 use super::reporter::DisplayReporter;
@@ -12,34 +11,6 @@ use run_model::call::ReportCall;
 use std::alloc::Global;
 use store_text::config::StoreConfig;
 use writers::write_str::WriteStr;
-
-/// A report is the texts of its calls, one after another, each at the index of its call.
-pub fn texts_make_the_report()
-    ensures joined { (config : Configuration) (past : List ReportCall) → report config past ≡ flat_map (λ t. t) (report_texts config past) }
-    ensures placed { (config : Configuration) (later : List ReportCall) (call : ReportCall) (past : List ReportCall) → slice_get (report_texts config (later ++ call ∷ past)) (length past) ≡ Some (text config past call) }
-{}
-
-/// What [`run_report`] promises is no empty promise: accepted calls end well, while no device fails and no memory is refused.
-///
-/// No device failed if the writer's count of failures is the same at the end. Then:
-///
-/// - If the writer asks for no memory, as a `TextBuffer` does not, and the reporter copies no prefix and keeps no test for
-///   the summary, the result is `Ok`: the whole report is accepted and delivered.
-/// - Else the result is that `Ok`, or an `Err` by refused memory, at a call where the writer or the reporter asks for some.
-pub fn runs_end_well<W: WriteStr>()
-    ensures { (config : Configuration) (calls : List ReportCall) (old new : W) (result : Result (Unit {0}) RunFault)
-        → Runs W.meaning absent config calls (old, tt) result (new, tt) → AreAccepted config calls
-        → W.meaning.failures new ≡ W.meaning.failures old
-        → EndsWell W.meaning absent config calls (old, tt) result (new, tt) }
-{}
-
-/// The same of [`run_report_with_store`], where neither device fails: the records are accepted and delivered too.
-pub fn runs_with_store_end_well<W: WriteStr, S: WriteStr>()
-    ensures { (config : Configuration) (calls : List ReportCall) (old new : W × S) (result : Result (Unit {0}) RunFault)
-        → Runs W.meaning S.meaning config calls old result new → AreAccepted config calls
-        → W.meaning.failures new.0 ≡ W.meaning.failures old.0 → S.meaning.failures new.1 ≡ S.meaning.failures old.1
-        → EndsWell W.meaning S.meaning config calls old result new }
-{}
 
 /// Makes the calls in order with a new reporter, ends the report, and stops at the first fault. What it promises is one record, `Runs`
 /// in specs/Runs.antt.
@@ -52,6 +23,11 @@ pub fn runs_with_store_end_well<W: WriteStr, S: WriteStr>()
 /// run_report(alloc, builder, &mut out, true, false, false, false, &calls)?;
 /// assert!(out.as_str().starts_with("        PASS [   0.020s] (1/1) alpha t1\n"));
 /// ```
+///
+/// # Errors
+///
+/// The first fault with the index of its call. The writer has accepted the report of the calls before, and a prefix
+/// of the text of that call.
 pub fn run_report<W: WriteStr>(
     alloc: Global,
     builder: DisplayReporterBuilder,
@@ -99,6 +75,11 @@ pub fn run_report<W: WriteStr>(
 /// run_report_with_store(alloc, builder, &mut out, &mut records, store, true, false, false, false, &calls)?;
 /// assert_eq!(records.as_str(), "5:alpha,2:t1,4:PASS,0:,\n");
 /// ```
+///
+/// # Errors
+///
+/// The first fault with the index of its call. The writers have accepted the texts and records of the calls before,
+/// and a prefix of those of that call.
 pub fn run_report_with_store<W: WriteStr, S: WriteStr>(
     alloc: Global,
     builder: DisplayReporterBuilder,
@@ -144,7 +125,9 @@ pub fn run_report_with_store<W: WriteStr, S: WriteStr>(
     }
 }
 
-/// Takes back the two writers of a reporter with a store: both end as they are.
+/// Ends two borrows and leaves what they refer to as it is. Hidden: only this library and its programs need it, where a
+/// reporter with a store ends before its writers.
+#[doc(hidden)]
 pub fn give_back<W, S>(writer: &mut W, store_writer: &mut S)
     ensures writer { writer.new ≡ writer.old }
     ensures store_writer { store_writer.new ≡ store_writer.old }

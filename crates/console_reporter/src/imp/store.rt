@@ -26,6 +26,19 @@ impl<'a, S: WriteStr> Store<'a, S> {
     }
 
     /// Writes the record of an event, if it has one, and delivers it.
+    ///
+    /// ```
+    /// use console_reporter::imp::Store;
+    /// let mut records = String::new(alloc);
+    /// let mut store = Store::new(&mut records, store);
+    /// store.deliver_record(&event)?;
+    /// drop(store);
+    /// assert_eq!(records.as_str(), "5:alpha,2:t1,4:PASS,0:,\n");
+    /// ```
+    ///
+    /// # Errors
+    ///
+    /// The writer's fault. It has accepted a prefix of the record.
     pub fn deliver_record(&mut self, event: &TestEvent<'_>) -> Result<(), WriteFault>
         ensures same { self.new.writer.ghost_name ≡ self.old.writer.ghost_name }
         ensures config { self.new.config ≡ self.old.config }

@@ -6,10 +6,10 @@ ghost use Rattle.{reporter_state.specs.Unread.unread, console_reporter.specs.Iso
 use reporter_state::decider::OutputLoadDecider;
 use run_model::call::ReportCall;
 
-/// Unloads the captured output of every attempt of each event that the decider skips, like a replay that did not load
-/// it. It allocates nothing.
+/// Unloads the captured output of every attempt of each event whose output the decider skips, as in a replay that
+/// does not load it. It allocates nothing.
 ///
-/// No reporter with the decider's configuration then writes another byte, and it accepts the same calls.
+/// This changes no byte that a reporter with the decider's configuration writes, and no call that it accepts.
 ///
 /// ```
 /// unload_skipped(&decider, &mut calls);

@@ -43,6 +43,15 @@ pub fn display_exited_with(alloc: Global, exit: &ExitDescription) -> Result<Stri
 }
 
 /// Writes how a process ended.
+///
+/// ```
+/// write_exited_with(&mut out, &ExitDescription::Code(3))?;
+/// assert_eq!(out.as_str(), "exited with exit code 3");
+/// ```
+///
+/// # Errors
+///
+/// The writer's fault. It has accepted a prefix of the text.
 #[tactic(auto, unfolding(crate::specs::Failure::exit_text))]
 pub fn write_exited_with<W: WriteStr>(w: &mut W, exit: &ExitDescription) -> Result<(), WriteFault>
     ensures { Puts W.meaning w.old (exit_text exit.now) result w.new }
@@ -96,6 +105,16 @@ pub fn display_abort_status(alloc: Global, abort: &AbortDescription) -> Result<S
 }
 
 /// Writes how a process was ended from outside.
+///
+/// ```
+/// use run_names::abort::AbortDescription;
+/// write_abort_status(&mut out, &AbortDescription::UnixSignal { signal: 9, name: None })?;
+/// assert_eq!(out.as_str(), "aborted with signal 9");
+/// ```
+///
+/// # Errors
+///
+/// The writer's fault. It has accepted a prefix of the text.
 #[tactic(auto, unfolding(crate::specs::Failure::abort_text))]
 pub fn write_abort_status<W: WriteStr>(
     w: &mut W,
@@ -167,6 +186,10 @@ fn write_message<W: WriteStr>(
 /// write_nt_status(&mut out, -1073741819)?;
 /// assert_eq!(out.as_str(), "0xc0000005");
 /// ```
+///
+/// # Errors
+///
+/// The writer's fault. It has accepted a prefix of the text.
 #[tactic(auto, unfolding(crate::specs::Failure::hex_text))]
 pub fn write_nt_status<W: WriteStr>(w: &mut W, code: i32) -> Result<(), WriteFault>
     ensures { Puts W.meaning w.old (nt_status_text code) result w.new }

@@ -57,8 +57,13 @@ impl<'a> DisplayTestInstance<'a> {
         }
     }
 
-    /// Shows at most the given number of columns. The iteration, the counter and the binary's id take from them in this order, each
-    /// cut at its end; the name takes the rest, cut at its beginning.
+    /// Shows at most the given number of columns. The iteration, the counter and the binary's id come first, in this
+    /// order, and are cut at their ends. The name gets the columns that are left, and is cut at its beginning.
+    ///
+    /// ```
+    /// let shown = DisplayTestInstance::new(None, None, test.as_ref(), &styles.list_styles);
+    /// assert_eq!(shown.with_max_width(7).to_string(alloc)?.as_str(), "alpha 1");
+    /// ```
     pub fn with_max_width(mut self, max_width: usize) -> DisplayTestInstance<'a>
         ensures width { result.max_width ≡ Some max_width }
         ensures stress_index { result.stress_index ≡ self.entry.stress_index }
@@ -117,6 +122,10 @@ impl WriteText for DisplayTestInstance<'_> {
 /// write_test_instance(&mut out, &styles.list_styles, &None, &counter, test.as_ref())?;
 /// assert_eq!(out.as_str(), "(1/2) alpha t1");
 /// ```
+///
+/// # Errors
+///
+/// The writer's fault. It has accepted a prefix of the text.
 #[inline(always)]
 #[tactic(auto, unfolding(crate::specs::Instance::test_text))]
 pub fn write_test_instance<W: WriteStr>(
@@ -137,7 +146,7 @@ pub fn write_test_instance<W: WriteStr>(
 impl fmt::Display for DisplayTestInstance<'_> {
     ghost output = { λ t. Some (shown_instance t.max_width t.styles t.stress_index t.counter_index t.instance) };
 
-    // If the names have no escape character, the text is within the greatest width.
+    // If the names have no escape character, the text is at most that wide.
     fn fmt<W: fmt::Write>(&self, f: &mut Formatter<W>) -> fmt::Result
         ensures writes { DisplaysOnOk W.write_str_gives f.old result (Some (shown_instance self.now.max_width self.now.styles self.now.stress_index self.now.counter_index self.now.instance)) f.new }
         ensures styled { DisplaysStyledOnOk W.write_str_gives f.old result None f.new }
@@ -390,6 +399,16 @@ impl fmt::Display for DisplayTestName<'_> {
 }
 
 /// Writes a test's name: the module path and its `::`, if there is one, and the name in it.
+///
+/// ```
+/// let name = TestCaseName::new(alloc, "mod::t2")?;
+/// write_test_name(&name, &styles.list_styles, &mut out)?;
+/// assert_eq!(out.as_str(), "mod::t2");
+/// ```
+///
+/// # Errors
+///
+/// The writer's fault. It has accepted a prefix of the text.
 #[tactic(auto, unfolding(crate::specs::Instance::test_name_text))]
 #[inline(always)]
 pub fn write_test_name<W: WriteStr>(
@@ -406,7 +425,7 @@ pub fn write_test_name<W: WriteStr>(
     write_coloured_name(name, styles, w)
 }
 
-// In any styles.
+// Like `write_test_name`, in any styles.
 #[tactic(auto, unfolding(crate::specs::Instance::test_name_text))]
 #[inline(never)]
 fn write_coloured_name<W: WriteStr>(

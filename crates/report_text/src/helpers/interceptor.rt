@@ -56,6 +56,10 @@ pub fn format_interceptor_too_many_tests(
 }
 
 /// Writes what [`format_interceptor_too_many_tests`] says.
+///
+/// # Errors
+///
+/// The writer's fault. It has accepted a prefix of the text.
 #[tactic(auto, unfolding(crate::specs::Interceptor::too_many_tests_text))]
 pub fn write_interceptor_too_many_tests<W: WriteStr>(
     w: &mut W,

@@ -1,7 +1,7 @@
 //! A test that is cut to a greatest width.
 //!
-//! Its four parts take from the width in this order: the iteration of a stress run, the counter and the binary's id, each cut at
-//! its end, and the name, cut at its beginning. So nothing is left after a part that is cut.
+//! The iteration of a stress run, the counter and the binary's id come first, in this order, and are cut at their
+//! ends. The name gets the columns that are left, and is cut at its beginning.
 
 ghost use Rattle.std.specs.Prelude.{◌<◌, ◌^◌, ◌∷◌, []};
 ghost use Rattle.styled_text.specs.Names.{FitsWidth, columns, shrunk_parts, Puts};

@@ -57,6 +57,15 @@ pub fn shell_join<T: CommandWord>(alloc: Global, words: &[T]) -> Result<String, 
 }
 
 /// Writes words as a shell reads them, separated by single spaces.
+///
+/// ```
+/// write_shell_words(&mut out, &["echo", "a b"])?;
+/// assert_eq!(out.as_str(), "echo 'a b'");
+/// ```
+///
+/// # Errors
+///
+/// The writer's fault. It has accepted a prefix of the text.
 #[tactic(auto, unfolding(crate::specs::Quoting::shell_words))]
 pub fn write_shell_words<W: WriteStr, T: CommandWord>(
     w: &mut W,
@@ -71,6 +80,15 @@ pub fn write_shell_words<W: WriteStr, T: CommandWord>(
 }
 
 /// Writes a command and its arguments as a shell reads them, separated by single spaces.
+///
+/// ```
+/// write_shell_command(&mut out, "echo", &["a b"])?;
+/// assert_eq!(out.as_str(), "echo 'a b'");
+/// ```
+///
+/// # Errors
+///
+/// The writer's fault. It has accepted a prefix of the text.
 pub fn write_shell_command<W: WriteStr, T: CommandWord>(
     w: &mut W,
     command: &str,
@@ -111,6 +129,10 @@ fn write_word_after<W: WriteStr>(w: &mut W, separator: &str, word: &str) -> Resu
 /// write_shell_word(&mut out, "it's")?;
 /// assert_eq!(out.as_str(), r"'it'\''s'");
 /// ```
+///
+/// # Errors
+///
+/// The writer's fault. It has accepted a prefix of the text.
 #[tactic(auto, unfolding(crate::specs::Quoting::shell_word))]
 pub fn write_shell_word<W: WriteStr>(w: &mut W, word: &str) -> Result<(), WriteFault>
     ensures { Puts W.meaning w.old (shell_word word.now) result w.new }

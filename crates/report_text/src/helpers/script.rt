@@ -93,6 +93,10 @@ impl fmt::Display for DisplayScriptInstance {
 }
 
 /// Writes a setup script as [`DisplayScriptInstance`] shows it.
+///
+/// # Errors
+///
+/// The writer's fault. It has accepted a prefix of the text.
 #[tactic(auto, unfolding(crate::specs::Instance::script_text))]
 pub fn write_script_instance<W: WriteStr, T: CommandWord>(
     w: &mut W,

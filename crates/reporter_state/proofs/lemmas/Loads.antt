@@ -7,7 +7,7 @@ use Rattle.run_model.specs.declared.event.TestEventKind.TheVariants.{SetupScript
 use Rattle.reporter_state.specs.Names.{StoreConfig, FinishReport, HasShownOutput, test_finish, HasFailedAttemptOutput, is_failed_output_shown, finish_by, decider_by, lacks_output, loads_attempt, loads_finish, Settings}
 use Rattle.run_names.specs.declared.level.StatusLevel.TheVariants as level
 
--- needed output is loaded, unless needed output was not loaded
+-- needed output is loaded, if the event was accepted
 pub loaded_where : (is_needed : Bool) (output : Written) →
     option_map_or (λ (o : Written). not (has_loaded_output o)) (if is_needed then Some output else None) false ≡ false → is_needed ≡ true → has_loaded_output output ≡ true
 loaded_where is_needed output lacks is =

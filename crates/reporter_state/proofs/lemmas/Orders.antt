@@ -52,7 +52,7 @@ module _ {X : Type 0} (lt : X → X → Bool) (o : IsStrictWeakOrder lt) where
   head_of_ties : (z : X) (x : X) (xs : List X) → ties lt z x ≡ true → filter (ties lt z) (x ∷ xs) ≡ x ∷ filter (ties lt z) xs
   head_of_ties z x xs h = rw h
 
-  -- the heads of two lists in order with the same ties
+  -- two lists in order whose ties are equal have equal heads
   same_head : (x y : X) (xs ys : List X) → IsRising lt (x ∷ xs) → IsRising lt (y ∷ ys)
       → filter (ties lt x) (x ∷ xs) ≡ filter (ties lt x) (y ∷ ys) → filter (ties lt y) (x ∷ xs) ≡ filter (ties lt y) (y ∷ ys) → x ≡ y
   same_head x y xs ys a b at_x at_y = elim (cases_Bool (lt x y)) [
@@ -187,7 +187,7 @@ module _ {X : Type 0} (lt : X → X → Bool) (o : IsStrictWeakOrder lt) where
         )
   ]
 
-  -- two elements of which one is less may be inserted in either order
+  -- two elements that do not tie may be inserted in either order
   put_both : (x y : X) (fs : List X) → lt x y ≡ true → put_in lt x (put_in lt y fs) ≡ put_in lt y (put_in lt x fs)
   unfolding put_in
   put_both x y [] h = rw (h, o.one_way x y h) refl
@@ -196,7 +196,7 @@ module _ {X : Type 0} (lt : X → X → Bool) (o : IsStrictWeakOrder lt) where
     | inr a ↦ (elim (cases_Bool (lt f y)) [ inl b ↦ rw (a, b, a, h) refl | inr b ↦ (let back = o.one_way x y h in rw (a, b, h, back) refl) ])
   ]
 
-  -- so the order does not depend on which of two neighbours came first
+  -- the order does not depend on which of two neighbours came first, if they do not tie
   pub order-swap : (front back : List X) (x y : X) → lt x y ≡ true → ordered_by lt (front ++ x ∷ y ∷ back) ≡ ordered_by lt (front ++ y ∷ x ∷ back)
   unfolding ordered_by
   order-swap [] back x y h = put_both x y (ordered_by lt back) h

@@ -5,7 +5,7 @@ use Rattle.reporter_state.specs.Names.{shown_entries, shown_entry, final_order, 
 use Rattle.reporter_state.specs.declared.final_output.FinalOutput.TheVariants.{Executed, ExecutedWithOutput}
 
 module _ (test : KeptTest) (x : StatusSummary) where
-  -- the test with an output
+  -- the entry of this test with an output
   abbrev pub entry_with : Written → FinalOutputEntry
   entry_with output = record { test = test; output = ExecutedWithOutput x output }
 
@@ -13,7 +13,7 @@ module _ (test : KeptTest) (x : StatusSummary) where
   abbrev without_output : FinalOutputEntry
   without_output = record { test = test; output = Executed x }
 
-  -- its place is between these, whatever its output is
+  -- there are lists before and after the entry's place that do not depend on its output
   abbrev HasPlace : (Written → List FinalOutputEntry) → Type 0
   HasPlace f = (front back : List FinalOutputEntry) × ((output : Written) → f output ≡ front ++ entry_with output ∷ back)
 
@@ -44,7 +44,7 @@ module _ (test : KeptTest) (x : StatusSummary) where
       let past = put_in-past g more.0 more.1 in
       (past.0, past.1, λ output. ap (λ es. put_in is_before g es) (more.2 output) ∙ past.2 output)
 
-  -- and so is that of its text
+  -- there are texts before and after the entry's text that do not depend on its output
   pub text-place : (s : Settings) (front back : List FinalOutputEntry) →
       (before after : Text) × ((output : Written) → shown_entries s (final_order (front ++ entry_with output ∷ back)) ≡ before ++ (shown_entry s (entry_with output) ++ after))
   text-place s front back =

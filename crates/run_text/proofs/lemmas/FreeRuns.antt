@@ -19,7 +19,7 @@ unfolding id_text
 free-id_text k None id h = tt
 free-id_text k (Some p) id h = h
 
--- its start
+-- the start of a run
 free-starting_line : (k : Bool) (s : Settings) (c : TestCounts) → HasNoEscape s.default_filter.profile → AreFree k (starting_line s c)
 unfolding starting_line
 free-starting_line k s c h = (tt, (tt, (tt, (free-skip_note k s.mode (skipped_tests_in s.mode c.skip_counts) c.skip_counts s.default_filter h, tt))))

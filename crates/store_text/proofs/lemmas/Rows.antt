@@ -54,7 +54,7 @@ row_output : (test : TestInstanceId) → test.binary_id.now ≡ codes "alpha" �
 unfolding record_text netstring netstring_head stored_output short_word digits
 row_output test id name = rw (id, name, accented_decoded, x_decoded) refl
 
--- without the switch there is no output
+-- if the store is not asked to keep it, there is no output in the record
 row_without : (test : TestInstanceId) → test.binary_id.now ≡ codes "alpha" → test.test_name.now ≡ codes "t1" →
     record_text (record store { store_success_output = true }) test (attempt (outcome.Fail (ExitCode (pos 1)) false) accented (codes "x"))
     ≡ codes "5:alpha,2:t1,4:FAIL,0:,\n"

@@ -5,7 +5,7 @@ use Rattle.run_names.specs.declared.config.TestOutputDisplay.TheVariants.{Immedi
 use Rattle.text_parts.specs.Names.{IsOnlyHidden, IsSameBelowImmediate, output_timing, is_shown_at_end, is_shown_at_once, timed_at_end, timed_at_once, OutputTiming, ExecutionResultDescription}
 use Rattle.text_parts.specs.declared.finish.OutputTiming.TheVariants.{Hidden, Shown, ShownOnce}
 
--- below the immediate end, and without a reason, there is one row
+-- a reason less severe than `TestFailureImmediate` gives the same timing as no reason
 pub row_below : (reason : ℕ) (result : ExecutionResultDescription) → reason < 5 → output_timing reason result ≡ Shown
 unfolding output_timing
 row_below reason result h =

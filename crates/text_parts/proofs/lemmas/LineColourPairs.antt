@@ -4,7 +4,7 @@ use Rattle.{run_model.specs.Names.TestInstanceId, run_model.specs.Names.StressIn
 use Rattle.text_parts.specs.Names.{HasPlainCounter, padded_instance, instance_end, untimed_end, IsPlainScript, Script, shown_script, counter_where, finished_counter, next_where, started_counter, padded_where, padded_counter, CountedInstance, Settings, RunStats}
 use Rattle.report_text.proofs.lemmas.{FreeDetails.free-shell_words, InstanceColourPairs.colour_pair-instance_text, InstanceColourPairs.colour_pair-script_text}
 
--- the same settings, in colour or plain
+-- these settings, with colours or without
 abbrev pub painted : Bool → Settings → Settings
 painted b s = record s { styles = styles_of b }
 
@@ -34,7 +34,7 @@ plain-padded_counter s = go s.counter_width
     go None = tt
     go (Some width) = plain-hbar s.theme_characters.is_unicode
 
--- nor does a test of a line
+-- a test that a line names holds no escape character
 abbrev pub IsPlainTest : CountedInstance → Type 0
 IsPlainTest test = HasPlainCounter test.counter × IsPlainInstance test.instance
 

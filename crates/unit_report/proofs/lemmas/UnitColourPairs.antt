@@ -52,7 +52,7 @@ free-error_chain_text : (chain : MessageAndCauses) → IsPlainChain chain → Ha
 unfolding error_chain_text
 free-error_chain_text chain h = let first = h.0 in let more = free-causes_text chain.causes h.1 in search frees depth 12
 
--- two layouts that differ in the styles of their headers, of which the second has none
+-- two layouts that differ in the styles of their headers; the second has no styles
 pub record IsColourPairOfLayout (k : Bool) (l m : OutputLayout) : Type 0 where
   pub stdout : IsColourPair k (header_text l.stdout_header) (header_text m.stdout_header)
   pub stderr : IsColourPair k (header_text l.stderr_header) (header_text m.stderr_header)

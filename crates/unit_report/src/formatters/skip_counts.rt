@@ -22,6 +22,10 @@ use writers::write_str::{WriteFault, WriteStr};
 /// write_skip_counts(NextestRunMode::Test, &skipped, &filter, &styles, &mut out)?;
 /// assert_eq!(out.as_str(), " (2 tests and 1 binary skipped, including 1 test that already passed)");
 /// ```
+///
+/// # Errors
+///
+/// The writer's fault. It has accepted a prefix of the text.
 #[tactic(auto, unfolding(crate::specs::SkipCounts::skip_note))]
 pub fn write_skip_counts<W: WriteStr>(
     mode: NextestRunMode,
@@ -62,7 +66,7 @@ fn skipped_tests(mode: NextestRunMode, skip_counts: &SkipCounts) -> usize
     }
 }
 
-// Why: the one reason, or the parts that have one.
+// Why tests and binaries are skipped: one reason for all, or how many have which reason.
 #[derive(Clone, Copy)]
 struct SkipReason<'a> {
     styles: &'a Styles,
@@ -90,7 +94,7 @@ impl WriteText for SkipReason<'_> {
     }
 }
 
-// Writes, of what is skipped, what passed before and what the default filter leaves out.
+// Writes how many of the skipped tests passed before, and how many tests and binaries the default filter leaves out.
 #[tactic(auto, unfolding(crate::specs::SkipCounts::included_text, crate::specs::SkipCounts::rerun_text, crate::specs::SkipCounts::filtered_text))]
 fn write_included<W: WriteStr>(w: &mut W, reason: &SkipReason<'_>) -> Result<(), WriteFault>
     ensures { Puts W.meaning w.old (paint reason.now.styles.now (included_text reason.now.mode reason.now.counts.now reason.now.filter.now)) result w.new }
@@ -153,7 +157,7 @@ fn write_filter_name<W: WriteStr>(
     }
 }
 
-// The numbers of tests and binaries, without one that is 0.
+// The numbers of tests and binaries. A number that is 0 is left out.
 #[derive(Clone, Copy)]
 struct Skipped<'a>(&'a Styles, NextestRunMode, usize, usize);
 

@@ -21,6 +21,10 @@ use writers::write_str::{WriteFault, WriteStr};
 /// write_final_warnings(NextestRunMode::Test, cancelled, &styles, &mut out)?;
 /// assert_eq!(out.as_str(), "warning: 1/1 test was not run due to interrupt\n");
 /// ```
+///
+/// # Errors
+///
+/// The writer's fault. It has accepted a prefix of the text.
 #[tactic(auto, unfolding(crate::specs::Warnings::final_warnings))]
 pub fn write_final_warnings<W: WriteStr>(
     mode: NextestRunMode,

@@ -77,7 +77,7 @@ fn split_highlight<'a>(
     Some((front, lit, back))
 }
 
-// The reset comes before the line feed at the end.
+// Writes a text and a reset, which comes before the line feed at the end of the text.
 #[tactic(auto, unfolding(crate::specs::Captured::reset_output))]
 fn write_reset_output<W: WriteStr>(w: &mut W, text: &str) -> Result<(), WriteFault>
     ensures { Puts W.meaning w.old (reset_output text.now) result w.new }

@@ -24,6 +24,11 @@ impl fmt::Display for FmtPrefix {
 }
 
 /// Displays the suffix of a style: ESC `[0m`, or nothing.
+///
+/// ```
+/// use styled_text::style::Style;
+/// assert_eq!(FmtSuffix(Style::BoldRed).to_string(alloc)?.as_str(), "\x1b[0m");
+/// ```
 #[derive(Clone, Copy, Debug, PartialEq, Eq)]
 pub struct FmtSuffix(pub Style);
 

@@ -25,7 +25,11 @@ pub enum OutputName {
 }
 
 impl OutputName {
-    /// The word.
+    /// The name as the header shows it.
+    ///
+    /// ```
+    /// assert_eq!(OutputName::Stdout.as_str(), "stdout");
+    /// ```
     pub fn as_str(self) -> &'static str
         ensures { result.now ≡ output_name_text self }
     {
@@ -40,6 +44,13 @@ impl OutputName {
 }
 
 /// The line before a stream, without its line feed.
+///
+/// ```
+/// use styled_text::style::Style;
+/// let header = OutputHeader::Label { style: Style::Plain, name: OutputName::Stdout };
+/// header.write_to(&mut out)?;
+/// assert_eq!(out.as_str(), "stdout:");
+/// ```
 #[derive(Clone, Copy, Debug, PartialEq, Eq)]
 pub enum OutputHeader {
     /// The name between bars, as `  stdout ---`.

@@ -26,7 +26,7 @@ pub(super) fn write_highlighted_lines<W: WriteStr>(
     Ok(())
 }
 
-// What closes the line comes after the style.
+// Writes a line in this style. The line feeds and carriage returns at its end come after the suffix of the style.
 #[tactic(auto, unfolding(crate::specs::HighlightedLines::highlighted_line))]
 fn write_highlighted_line<W: WriteStr>(
     w: &mut W,

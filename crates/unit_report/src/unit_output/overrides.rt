@@ -1,4 +1,4 @@
-//! Whose setting decides when a test's output is shown.
+//! Overrides of the display settings that tests have for their output.
 
 ghost use Rattle.std.specs.Prelude.{◌≡◌, unwrap_or};
 ghost use Rattle.{run_model.specs.Statuses.described_summary, unit_report.specs.Overrides.display_for, unit_report.specs.Overrides.display_when};
@@ -7,7 +7,14 @@ use run_model::config::TestOutputDisplay;
 use run_model::output::OutputSpec;
 use run_model::status::{ExecutionDescription, ExecutionResultDescription};
 
-/// Overrides of the settings that each test has. An absent one leaves the choice to the test.
+/// Overrides of the display settings that each test has. Where an override is absent, the setting of the test counts.
+///
+/// ```
+/// let force_success_output = Some(TestOutputDisplay::Final);
+/// let overrides = OutputDisplayOverrides { force_success_output, ..OutputDisplayOverrides::default() };
+/// assert_eq!(overrides.success_output(TestOutputDisplay::Never), TestOutputDisplay::Final);
+/// assert_eq!(overrides.failure_output(TestOutputDisplay::Never), TestOutputDisplay::Never);
+/// ```
 #[derive(Clone, Copy, Debug, Default, PartialEq, Eq)]
 pub struct OutputDisplayOverrides {
     /// For tests that succeed.
@@ -59,8 +66,15 @@ impl OutputDisplayOverrides {
         )
     }
 
-    /// When the output of a test is shown, given whether its last attempt succeeded and its last result. This is all that a replay
-    /// knows of a test whose attempts are not loaded.
+    /// When the output of a test is shown, from whether its last attempt succeeded and from its last result. A replay
+    /// that has not loaded the attempts of a test knows no more.
+    ///
+    /// ```
+    /// let overrides = OutputDisplayOverrides::default();
+    /// let (success, failure) = (TestOutputDisplay::Never, TestOutputDisplay::Immediate);
+    /// let shown = overrides.resolve(false, success, failure, &ExecutionResultDescription::ExecFail);
+    /// assert_eq!(shown, TestOutputDisplay::Immediate);
+    /// ```
     pub fn resolve(
         &self,
         is_success: bool,

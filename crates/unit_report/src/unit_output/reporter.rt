@@ -65,7 +65,7 @@ impl UnitOutputReporter {
         }
     }
 
-    /// Whose setting decides when an output is shown.
+    /// The overrides of the tests' display settings.
     pub fn overrides(&self) -> OutputDisplayOverrides
         ensures { result ≡ self.now.overrides }
     {

@@ -1,5 +1,5 @@
 use Rattle.console_reporter.proofs.lemmas.Texts.{report-joined, report_texts-placed}
-use Rattle.console_reporter.proofs.imp.run.texts_make_the_report.Goals as goal
+use Rattle.console_reporter.proofs.laws.texts_make_the_report.Goals as goal
 
 pub returns-clause-joined : goal.returns-clause-joined
 returns-clause-joined c = report-joined

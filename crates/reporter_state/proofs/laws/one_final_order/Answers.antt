@@ -1,5 +1,5 @@
 use Rattle.reporter_state.proofs.lemmas.FinalOrders.{final_order-is, final_order-holds}
-use Rattle.reporter_state.proofs.kept.one_final_order.Goals as goal
+use Rattle.reporter_state.proofs.laws.one_final_order.Goals as goal
 
 pub returns-clause-exists : goal.returns-clause-exists
 returns-clause-exists c = final_order-holds

@@ -1,5 +1,5 @@
 use Rattle.text_parts.proofs.lemmas.Finishes.{only_hidden-at_once, only_hidden-at_end, same-at_once, same-at_end}
-use Rattle.text_parts.proofs.finish.reasons_only_hide.Goals as goal
+use Rattle.text_parts.proofs.laws.reasons_only_hide.Goals as goal
 
 pub returns-clause-at_once : goal.returns-clause-at_once
 returns-clause-at_once c = only_hidden-at_once
