@@ -90,7 +90,6 @@ abbrev pub options_of : List Argument → Option Asked
 options_of words = options_after no_args None words
 
 -- like options_of, where the file is `-`, standard input, if none is named
---
 abbrev pub options_or_input : List Argument → Option Asked
 options_or_input words = option_or (options_of (words ++ codes "-" ∷ [])) (options_of words)
 

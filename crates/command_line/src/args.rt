@@ -183,7 +183,6 @@ fn set_first(flag: &mut bool) -> Option<()>
 }
 
 // The status level with this name.
---
 fn read_level(word: &str) -> Option<StatusLevel>
     ensures { result ≡ level_of word.now }
 {

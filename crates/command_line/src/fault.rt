@@ -113,7 +113,6 @@ pub enum ReportProgram {
 
 impl ReportProgram {
     // Its name, and what its usage names last: what it reads.
-    --
     fn words(self) -> (&'static str, &'static str)
         ensures { (result.0.now, result.1.now) ≡ program_words self }
     {

@@ -48,7 +48,6 @@ enum Chunk {
 }
 
 // Takes the whole lines that the reader has buffered, or else its whole buffer.
---
 fn take_at_hand<R: Read>(
     reader: &mut BufReader<R>,
     piece: &mut Vec<u8>,

@@ -69,7 +69,7 @@ impl<T: AsBytes> Source for Cursor<T> {
     fn read_at(&mut self, offset: u64, buffer: &mut [u8]) -> io::Result<()> {
         self.seek(SeekFrom::Start(offset))?;
         let len = buffer.len();
-        // All the bytes are in memory, so one read gives what there is.
+        // All the bytes are in memory, so one read returns as many as there are.
         if self.read(buffer)? < len {
             return Err(ErrorKind::UnexpectedEof.into());
         }
@@ -77,7 +77,7 @@ impl<T: AsBytes> Source for Cursor<T> {
     }
 }
 
-/// The bytes of a file, wherever it is. No call moves it.
+/// The bytes of a file, from any offset. Calls do not use or move its position.
 impl Source for File {
     fn len(&mut self) -> io::Result<u64> {
         // A seek to the end of a folder would return a number that no file has.

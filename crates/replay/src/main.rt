@@ -97,7 +97,6 @@ fn replay<'a>(
     } = files;
     let mut run = RecordedRun::new(alloc, options, lines, outputs)?;
     // A write that a signal interrupts is repeated.
-    --
     let output = RetryInterrupted::new(io::writer(rt));
     let Some(store) = options.store else {
         return run.replay(alloc, output, io::sink()).0;

@@ -53,7 +53,6 @@ fn run<'a>(rt: &HostRuntime, args: &'a [String]) -> Result<(), Fault<'a>> {
         return report_accepted(alloc, &judged, output, io::sink()).0;
     };
     // The scene has been read to its end, so the file of the records may even be the scene's own file.
-    --
     let records = match create_store(rt, store.file, &[]) {
         Ok(records) => records,
         Err(fault) => return Err(fault),

@@ -104,7 +104,6 @@ pub extern "C" fn norigully_report(
 }
 
 // An outcome without a report.
---
 fn failed(status: u32, line: u64) -> NorigullyOutcome
     ensures status { result.status ≡ status }
     ensures line { result.line ≡ line }

@@ -69,7 +69,6 @@ pub fn report_of(alloc: Global, options: &Options<'_>, text: &[u8]) -> Result<Ve
 }
 
 // The error as a wrong line, or else as refused memory: a report to memory has no other error.
---
 fn read_fault_of(fault: &Fault<'_>) -> ReadFault
     ensures { result ≡ read_fault_of fault.now }
 {

@@ -1,4 +1,4 @@
-//! Events one by one: one that is refused, and one whose text a device has no room for.
+//! Single events: one that is refused, and one whose text a device has no room for.
 
 use crate::runs::{TWO_TESTS, run_started};
 use crate::testing::{line_builder, retried_success, write_event};
@@ -25,7 +25,7 @@ fn start_after_refused(alloc: Global, refused: &TestEvent<'_>) -> Result<(), Fai
     tried
 }
 
-// Tests have no lines, so that no text comes before the refusal.
+// The level shows no lines of tests, so there is no text before the refusal.
 fn write_both(alloc: Global, refused: &TestEvent<'_>, next: &TestEvent<'_>) -> Result<(), Fail> {
     let builder = line_builder(alloc, StatusLevel::None)?;
     let mut report = String::new(alloc);

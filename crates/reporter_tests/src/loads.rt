@@ -23,7 +23,7 @@ const FAILURES: StoreConfig = StoreConfig {
     store_failure_output: true,
 };
 
-// What a test came to.
+// The result of a test.
 #[derive(Clone, Copy)]
 enum Outcome {
     Passed,
@@ -62,10 +62,10 @@ fn leaky_script<'a>(alloc: Global, leak: LeakTimeoutResult) -> Result<TestEvent<
     script_finished(alloc, outcome, output)
 }
 
-// The decision for an event's recorded form, and why a reporter refuses the event, as it is and without its output.
+// The decision for an event's recorded form, and the error of a reporter for the event with its output and without.
 type Answer = (LoadOutput, [Option<WriteEventError>; 2]);
 
-// None of events that have no output.
+// None for an event that has no output.
 fn answer_of(
     alloc: Global,
     decider: &OutputLoadDecider,
@@ -85,7 +85,7 @@ fn answer_of(
     Ok(Some((answer, [as_it_is, unread])))
 }
 
-// The same decision for a live event: if its output is loaded, it is refused without.
+// The same decision for a live event. If its output has to be loaded, the event is refused without it.
 fn both(answer: LoadOutput) -> Option<Answer> {
     match answer {
         LoadOutput::Load => Some((LOAD, [None, Some(WriteEventError::OutputNotLoaded)])),
@@ -93,7 +93,7 @@ fn both(answer: LoadOutput) -> Option<Answer> {
     }
 }
 
-// Whether a reporter of this level and store decides so.
+// Whether a reporter with this level and store makes this decision.
 fn is_answered(
     alloc: Global,
     status_level: StatusLevel,
@@ -151,7 +151,7 @@ fn setup_scripts(rt: HostRuntime) -> Result<(), Fail> {
     Ok(())
 }
 
-// A test that failed, the same with its output left unread, and an attempt that succeeded and is said to be retried.
+// A test that failed, that test without its output, and an attempt that succeeded and is retried.
 fn calls_to_refuse<'a>(
     alloc: Global,
     test: TestInstanceId<'a>,

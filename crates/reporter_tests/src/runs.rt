@@ -1,6 +1,6 @@
-//! Three runs, and what each of their calls adds to the report and the store: two tests from their start to their summary, a run that is
-//! cancelled twice, and a test that responds. The tests run them over devices that fail and over memory that is refused.
-//! A function here holds little over a `?`, and lends the rest: what is held there makes its proof long.
+//! Three runs, with what each of their calls adds to the report and the records: two tests from their start to their
+//! summary, a run that is cancelled twice, and a test that responds. The tests run them with devices that fail and with
+//! memory that is refused. The functions here own little across a `?`, which keeps their proofs short.
 
 #[cfg(test)]
 mod faults;
@@ -19,11 +19,11 @@ use std::test::Fail;
 /// What is tried with each run.
 #[derive(Clone, Copy)]
 pub enum Trial {
-    /// Each call of a device fails.
+    /// Each call of a device fails once.
     Faults,
     /// The report and the records grow.
     Strings,
-    /// They are gathered for devices.
+    /// The report and the records are buffered for devices.
     Buffers,
     /// The prefix of the run's id comes first.
     Prefix,
@@ -44,7 +44,7 @@ pub struct Texts {
     pub records: &'static [&'static str],
 }
 
-/// Those of the run of two tests.
+/// The texts of `two_tests`.
 pub const TWO_TESTS: Texts = Texts {
     report: &[
         "------------
@@ -66,7 +66,7 @@ pub const TWO_TESTS: Texts = Texts {
     ],
 };
 
-// Those of `cancelled`.
+// The texts of `cancelled`.
 const CANCELLED: Texts = Texts {
     report: &[
         "  Cancelling due to interrupt\n",
@@ -80,7 +80,7 @@ warning: 1/2 tests were not run due to signal
     records: &["", "", "1:a,2:t1,4:FAIL,5:boom\n,\n", ""],
 };
 
-// Those of `answer`.
+// The texts of `answer`.
 const ANSWER: Texts = Texts {
     report: &[
         "
@@ -149,7 +149,7 @@ fn try_answer(alloc: Global, trial: Trial, test: TestInstanceId<'_>) -> Result<(
     tried
 }
 
-// Tries a run, of which this is a test.
+// Tries a run; `test` is one of its tests.
 fn try_run(
     alloc: Global,
     trial: Trial,
@@ -189,7 +189,7 @@ fn two_tests<'a>(
     ]
 }
 
-// A run that is cancelled by an interrupt and by a signal, after which a test fails that wrote this.
+// A run that is cancelled by an interrupt and then by a signal. Then a test with this output fails.
 fn cancelled<'a>(
     alloc: Global,
     test: TestInstanceId<'a>,
@@ -284,7 +284,7 @@ fn written_so_far(alloc: Global) -> Result<ChildExecutionOutputDescription<LiveS
     })
 }
 
-/// Makes calls on a reporter without a store. It has no clause, as those of `testing`.
+/// Makes calls on a reporter without a store. It has no contract, like the functions of `testing`.
 pub fn run_alone<W: WriteStr>(
     alloc: Global,
     report: &mut W,
@@ -316,7 +316,7 @@ pub fn front_len(texts: &[&str], number: usize) -> usize {
     len
 }
 
-/// Whether these bytes are a beginning of these texts, one after another.
+/// Whether these bytes are a prefix of these texts, joined.
 pub fn begin(bytes: &[u8], texts: &[&str]) -> bool {
     let mut rest = bytes;
     for text in texts {

@@ -146,7 +146,7 @@ fn read_delay(text: &str) -> Option<UnitState>
     })
 }
 
-/// The state with the result of the field behind it, which what has ended has.
+/// Adds the result to a state of a unit that has ended; the field after the state holds it.
 pub fn state_with(
     state: UnitState,
     outcome: Option<ExecutionResultDescription>,

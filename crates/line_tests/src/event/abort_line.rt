@@ -1,4 +1,5 @@
-//! The line after the line of a test that was ended from outside. A status of a scene always has a message.
+//! The line below the line of a test that was aborted, for a Windows status without a message: in a scene it always has
+//! one.
 
 use crate::testing::expect_text;
 use report_text::helpers::display_abort_status;

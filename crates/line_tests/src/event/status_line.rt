@@ -1,4 +1,4 @@
-//! The line of a finished test in the summary. No scene reaches one with a bar in the place of its counter.
+//! The line of a finished test in the summary, with a bar in place of its counter: no scene leads to one.
 
 use crate::testing::expect_text;
 use report_text::helpers::DisplayCounterIndex;

@@ -1,5 +1,6 @@
-//! Runs whose memory may be refused. With ample memory every report is whole. `scripts/check-faults` runs these tests once for each
-//! growth, which is refused then: they return that error, and fail with other words if a text is no prefix of the whole.
+//! Runs when memory is refused. With enough memory every report is complete. `scripts/check-faults` runs these tests
+//! once for each allocation, which it refuses: a test then returns that error, and fails with another message if a text
+//! is no prefix of the whole one.
 
 use super::{ALL_OUTPUT, Texts, Trial, begin, front_len, run_alone, run_with_store, try_runs};
 use crate::testing::{Answers, line_builder, make_call, make_calls};
@@ -10,7 +11,7 @@ use std::mem;
 use std::test::Fail;
 use test_devices::Device;
 
-// How a run is made: by one call, without a store and with one, or call by call.
+// How a run is reported: at once, without a store or with one, or call by call.
 #[derive(Clone, Copy, PartialEq, Eq)]
 enum Way {
     Alone,
@@ -20,10 +21,10 @@ enum Way {
 
 const WAYS: [Way; 3] = [Way::Alone, Way::WithStore, Way::CallByCall];
 
-// Bytes enough for each of the texts.
+// More bytes than each of the texts has.
 const ROOM: usize = 1000;
 
-// Makes a run, whose second writer gets nothing if there is no store.
+// Reports a run. Without a store the second writer gets nothing.
 fn run_over<W: WriteStr, S: WriteStr>(
     alloc: Global,
     way: Way,
@@ -56,8 +57,8 @@ fn make_each<W: WriteStr, S: WriteStr>(
     answers
 }
 
-// Whether a run with these results leaves these texts: all, or if memory was refused a prefix of each, and of a record only
-// after the whole text of its call. Without a store there are no records.
+// Whether these texts are right for a run with these results: complete, or a prefix of each if memory was refused. A
+// record comes only after the whole text of its call. Without a store there are no records.
 fn leaves(texts: Texts, answers: Answers, report: &[u8], records: Option<&[u8]>) -> bool {
     let is_known = match answers.outcome {
         Ok(()) => true,
@@ -73,7 +74,7 @@ fn leaves(texts: Texts, answers: Answers, report: &[u8], records: Option<&[u8]>)
         && is_text_first(texts, answers.outcome, report, records)
 }
 
-// Whether these bytes are the texts of the calls that worked, and a beginning of that of the call that did not.
+// Whether these bytes are the texts of the calls that succeeded and a prefix of the text of the call that did not.
 fn reaches(bytes: &[u8], texts: &[&str], outcome: Result<(), RunFault>) -> bool {
     let (least, most) = match outcome {
         Ok(()) => (texts.len(), texts.len()),
@@ -98,7 +99,7 @@ fn is_text_first(
         || report.len() == front_len(texts.report, stop.position.saturating_add(1))
 }
 
-// How the run ended, unless it left other texts than it may.
+// The result of the run, after its texts were checked.
 fn judge(
     texts: Texts,
     answers: Result<Answers, OutOfMemory>,
@@ -113,7 +114,7 @@ fn judge(
     Ok(())
 }
 
-/// Runs the calls over two texts that grow.
+/// Reports the run to two texts that grow.
 pub fn run_over_strings(alloc: Global, calls: &[ReportCall<'_>], texts: Texts) -> Result<(), Fail> {
     for way in WAYS {
         let (mut report, mut records) = (String::new(alloc), String::new(alloc));
@@ -124,7 +125,7 @@ pub fn run_over_strings(alloc: Global, calls: &[ReportCall<'_>], texts: Texts) -
     Ok(())
 }
 
-/// Runs the calls over two buffers, which reserve their memory before.
+/// Reports the run through two buffers, which reserve their memory first.
 pub fn run_over_buffers(alloc: Global, calls: &[ReportCall<'_>], texts: Texts) -> Result<(), Fail> {
     for way in WAYS {
         let mut report = buffer(alloc)?;
@@ -156,7 +157,8 @@ pub fn run_after_prefix(alloc: Global, calls: &[ReportCall<'_>], texts: Texts) -
     tried
 }
 
-// The copy of a prefix may be refused as well. The reporter would go on with another text than its calls have, so it has failed then.
+// The memory for the copy of the prefix may be refused too. The reporter then has failed: it would go on with other
+// texts.
 fn run_after(
     alloc: Global,
     prefix: &ReportCall<'_>,
