@@ -68,6 +68,10 @@ pub fn words(words: &[String]) -> Option<Options<'_>>
 /// given.push(String::from_str(alloc, "--color")?)?;
 /// assert_eq!(args_or_input(alloc, &mut given)?.map(|options| options.file), Some("-"));
 /// ```
+///
+/// # Errors
+///
+/// Memory was refused. A wrong command line is no error but `None`.
 pub fn args_or_input<'a>(
     alloc: Global,
     given: &'a mut Vec<String>,

@@ -11,6 +11,10 @@ use std::io::{BufRead, BufReader, ErrorKind, Read};
 
 /// Replaces `piece` by the next lines: all whole lines that the reader has buffered, or one line that is longer than its
 /// buffer. The last line feed is left out. It returns false at the end of the file.
+///
+/// # Errors
+///
+/// `CannotRead` with this file if the reader failed, or `OutOfMemory`.
 pub fn next_piece<'a, R: Read>(
     file: &'a str,
     reader: &mut BufReader<R>,

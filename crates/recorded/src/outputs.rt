@@ -76,6 +76,10 @@ pub struct RecordedOutputs<O: ReadAt> {
 
 impl<O: ReadAt + Drop> RecordedOutputs<O> {
     /// The outputs in this source, of which nothing is read. It asks how many bytes there are, and an error is that of this question.
+    ///
+    /// # Errors
+    ///
+    /// The error of the request for the length. The source is dropped.
     pub fn new(mut source: O) -> io::Result<RecordedOutputs<O>>
         ensures recorded { IfOk result (λ outputs. O.recorded outputs.source ≡ O.recorded source) }
         ensures count { IfOk result (λ outputs. O.count outputs.source ≡ O.count source) }
@@ -93,6 +97,10 @@ impl<O: ReadAt + Drop> RecordedOutputs<O> {
 
     /// Whether all bytes that a reference names are there, of which none is read. Where they end behind the last byte that is known, it
     /// asks anew how many there are, since a run that is still recorded writes more.
+    ///
+    /// # Errors
+    ///
+    /// The error of the request for the length.
     pub fn holds(&mut self, reference: &Reference) -> io::Result<bool>
         ensures holds { IfSome (O.recorded self.old.source) (λ all. IfOk result (λ holds. IsTrue holds ↔ (end_of reference.now ≤ length all))) }
         ensures kept { O.recorded self.new.source ≡ O.recorded self.old.source }
@@ -116,6 +124,10 @@ impl<O: ReadAt + Drop> RecordedOutputs<O> {
     /// assert_eq!(stream.as_slice(), b"failed\n".as_slice());
     /// assert_eq!(outputs.bytes_read(), 7);
     /// ```
+    ///
+    /// # Errors
+    ///
+    /// Why the bytes were not loaded; see [`LoadFault`]. If they are not all there, no memory is requested.
     #[tactic(auto, using(crate::proofs::lemmas::Streams::not_there, crate::proofs::lemmas::Streams::same_read, crate::proofs::lemmas::Streams::other_read))]
     pub fn load(&mut self, alloc: Global, reference: &Reference) -> Result<Bytes, LoadFault>
         ensures loaded { IfSome (O.recorded self.old.source) (λ all. IsLoaded all reference.now result) }
@@ -158,6 +170,10 @@ impl<O: ReadAt + Drop> RecordedOutputs<O> {
     /// assert!(outputs.load_output(alloc, &stored)?.is_loaded());
     /// assert_eq!(outputs.bytes_read(), 7);
     /// ```
+    ///
+    /// # Errors
+    ///
+    /// The first stream that was not loaded, and why. Standard output comes first.
     pub fn load_output(
         &mut self,
         alloc: Global,

@@ -23,6 +23,10 @@ pub trait Source {
     ghost read_once: { ℕ → ℕ → Self → Self → Type 0 } = { λ _ _ _ _. ⊤ };
 
     /// How many bytes there are now. A file may grow between two calls.
+    ///
+    /// # Errors
+    ///
+    /// The length cannot be found.
     fn len(&mut self) -> io::Result<u64>
         ensures once { asked self.old self.new }
         ensures kept { recorded self.new ≡ recorded self.old }
@@ -38,6 +42,10 @@ pub trait Source {
     /// assert_eq!(&buffer, b"failed");
     /// assert!(outputs.read_at(8, &mut buffer).is_err());
     /// ```
+    ///
+    /// # Errors
+    ///
+    /// There are fewer bytes, or a read failed. The contents of the buffer are then unspecified.
     fn read_at(&mut self, offset: u64, buffer: &mut [u8]) -> io::Result<()>
         ensures once { read_once offset (length buffer.old) self.old self.new }
         ensures kept { recorded self.new ≡ recorded self.old }
@@ -103,6 +111,10 @@ pub trait ReadAt {
     ghost read_once: { ℕ → ℕ → Self → Self → Type 0 } = { λ _ _ _ _. ⊤ };
 
     /// How many bytes there are now, as [`Source::len`] returns it. None is read.
+    ///
+    /// # Errors
+    ///
+    /// The errors of [`Source::len`].
     fn len(&mut self) -> io::Result<u64>
         ensures once { asked self.old self.new }
         ensures kept { recorded self.new ≡ recorded self.old }
@@ -110,6 +122,10 @@ pub trait ReadAt {
         ensures count { count self.new ≡ count self.old };
 
     /// Fills the buffer with the bytes from this place on, as [`Source::read_at`] does, and counts them. A read that fails is not counted.
+    ///
+    /// # Errors
+    ///
+    /// The errors of [`Source::read_at`]. Nothing is counted.
     fn read_at(&mut self, offset: u64, buffer: &mut [u8]) -> io::Result<()>
         ensures once { read_once offset (length buffer.old) self.old self.new }
         ensures kept { recorded self.new ≡ recorded self.old }

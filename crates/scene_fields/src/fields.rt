@@ -18,6 +18,10 @@ use std::mem;
 pub const LARGE: usize = 65_536;
 
 /// Splits a line into its fields, which tabs separate. They replace the contents of the list.
+///
+/// # Errors
+///
+/// Memory was refused. The list then has some of the fields.
 #[tactic(auto, using(crate::proofs::lemmas::Marks::all_left, crate::proofs::lemmas::Marks::none_left))]
 pub fn split_fields<'a>(line: &'a str, fields: &mut Vec<&'a str>) -> Result<(), OutOfMemory>
     ensures { OnOk result (field_texts fields.new.items ≡ split_on 9 line.now) }
@@ -144,6 +148,10 @@ impl<'a> Fields<'a> {
     }
 
     /// Checks that this many fields are left.
+    ///
+    /// # Errors
+    ///
+    /// `WrongNumberOfFields` if another number of fields is left.
     pub fn exactly(&self, count: usize) -> Result<(), LineFault>
         ensures { IsRightNumber (length self.now.left == count) result }
     {
@@ -154,6 +162,10 @@ impl<'a> Fields<'a> {
     }
 
     /// Checks that eight fields are left to take with one attempt or more: each has eight.
+    ///
+    /// # Errors
+    ///
+    /// `WrongNumberOfFields` if another number of fields is left.
     pub fn with_attempts(&self) -> Result<(), LineFault>
         ensures { IsRightNumber (nat_le 16 (length self.now.left) && (length self.now.left % 8 == 0)) result }
     {
@@ -192,6 +204,10 @@ impl<'a> Fields<'a> {
     }
 
     /// Counts the output that comes next, and notes it if it is stored, where outputs may be.
+    ///
+    /// # Errors
+    ///
+    /// Memory was refused.
     #[inline(always)]
     pub fn note(&mut self, output: Option<StoredOutput>) -> Result<(), OutOfMemory>
         ensures { OnOk result (self.new ≡ noting output self.old) }
@@ -241,6 +257,10 @@ impl<'a> Fields<'a> {
     }
 
     /// Takes a field.
+    ///
+    /// # Errors
+    ///
+    /// `WrongNumberOfFields` if no field is left.
     #[inline(always)]
     pub fn take(&mut self) -> Result<&'a str, LineFault>
         ensures { next self.old ≡ answered (taken_text result) self.new }
@@ -280,6 +300,10 @@ impl<'a> Fields<'a> {
     }
 
     /// Takes a field, and reads it with a function that returns None for a bad field.
+    ///
+    /// # Errors
+    ///
+    /// `WrongNumberOfFields` if no field is left, or `BadField` with the number of the field.
     #[inline(always)]
     pub fn read<T: Drop, F: FnOnce(&'a str) -> Option<T>>(
         &mut self,
@@ -296,6 +320,10 @@ impl<'a> Fields<'a> {
     }
 
     /// Takes a field, and reads it as `read` does, by a function that allocates.
+    ///
+    /// # Errors
+    ///
+    /// `WrongNumberOfFields` if no field is left, `BadField` with the number of the field, or refused memory.
     #[inline(always)]
     pub fn try_read<T: Drop, F: FnOnce(&'a str) -> Result<Option<T>, OutOfMemory>>(
         &mut self,

@@ -23,6 +23,10 @@ use std::mem;
 /// let command = read_command_line(alloc, r"cargo\,nextest")?;
 /// assert_eq!(command.map(|command| command.words().len()), Some(2));
 /// ```
+///
+/// # Errors
+///
+/// Memory was refused. A bad field is no error but `None`.
 pub fn read_command_line(alloc: Global, field: &str) -> Result<Option<CommandLine>, OutOfMemory>
     ensures { IfOk result (λ command. command ≡ words_of field.now) }
 {
@@ -38,6 +42,10 @@ pub fn read_command_line(alloc: Global, field: &str) -> Result<Option<CommandLin
 /// let chain = read_chain(alloc, r"cannot spawn\,no file")?;
 /// assert_eq!(chain.map(|chain| chain.causes().len()), Some(1));
 /// ```
+///
+/// # Errors
+///
+/// Memory was refused. A bad field is no error but `None`.
 pub fn read_chain(alloc: Global, field: &str) -> Result<Option<ErrorChain>, OutOfMemory>
     ensures { IfOk result (λ chain. chain ≡ chain_in field.now) }
 {
@@ -63,6 +71,10 @@ pub fn read_chain(alloc: Global, field: &str) -> Result<Option<ErrorChain>, OutO
 /// let tests = read_instances(alloc, r"alpha\,t1\,beta\,t2")?;
 /// assert_eq!(tests.map(|tests| tests.as_slice().len()), Some(2));
 /// ```
+///
+/// # Errors
+///
+/// Memory was refused. A bad field is no error but `None`.
 pub fn read_instances(alloc: Global, field: &str) -> Result<Option<TestInstanceList>, OutOfMemory>
     ensures { IfOk result (λ list. list ≡ instances_in field.now) }
 {

@@ -65,6 +65,10 @@ impl OwnedText {
     }
 
     /// Splits a line into its fields, which tabs separate. It copies nothing.
+    ///
+    /// # Errors
+    ///
+    /// Memory was refused. The line is dropped.
     pub fn split_fields(self, alloc: Global) -> Result<Vec<OwnedText>, OutOfMemory>
         ensures { IfOk result (λ fields. fields.items ≡ split_on 9 self) }
     {

@@ -27,6 +27,10 @@ pub type ReadResult = Result<Option<ExecutionResultDescription>, OutOfMemory>;
 /// let outcome = read_result(alloc, "sig:11:SEGV")?;
 /// assert!(matches!(outcome, Some(ExecutionResultDescription::Fail { leaked: false, .. })));
 /// ```
+///
+/// # Errors
+///
+/// Memory was refused. A bad field is no error but `None`.
 #[inline(always)]
 #[tactic(auto, unfolding(crate::specs::Results::result_in))]
 pub fn read_result(alloc: Global, field: &str) -> ReadResult

@@ -23,6 +23,10 @@ const ASCII: u8 = 0x7f;
 /// let text = read_text(alloc, r"a\tb")?;
 /// assert_eq!(text.map(|text| text.as_str() == "a\tb"), Some(true));
 /// ```
+///
+/// # Errors
+///
+/// Memory was refused. A bad field is no error but `None`.
 #[inline(always)]
 pub fn read_text(alloc: Global, field: &str) -> Result<Option<CowStr<'_, Global>>, OutOfMemory>
     ensures { IfOk result (λ text. option_map cow_text text ≡ text_in field.now) }
@@ -59,6 +63,10 @@ pub(crate) fn push_stretch<'a>(
 }
 
 /// Reads the bytes that a test wrote. They are decoded in the memory of their copy. `None` means a bad field.
+///
+/// # Errors
+///
+/// Memory was refused. A bad field is no error but `None`.
 pub fn read_bytes(alloc: Global, field: &str) -> Result<Option<Vec<u8>>, OutOfMemory>
     ensures { IfOk result (λ bytes. option_map (λ v. v.items) bytes ≡ bytes_in field.now) }
 {

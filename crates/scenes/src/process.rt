@@ -18,6 +18,10 @@ const STANDARD_ERROR: i32 = 2;
 
 /// The words that follow the program's name. The kit's `env::args` has no contract, so this has none; the stored runs test it. The error is
 /// `Usage` where a word is no text, or that memory is refused.
+///
+/// # Errors
+///
+/// `Usage` if a word is not UTF-8, or `OutOfMemory`.
 pub fn arguments(rt: &HostRuntime) -> Result<Vec<String>, Fault<'static>>
     ensures err { IfErr result (λ fault. (fault ≡ Fault.Usage) ⊎ (fault ≡ Fault.OutOfMemory)) }
 {
@@ -53,6 +57,11 @@ fn is_standard(file: &File) -> bool
 
 /// Makes or empties the file of the records. It is refused where that is one of the files that are read, since it would be empty then, and
 /// where it would be a standard descriptor, since it would get what is printed.
+///
+/// # Errors
+///
+/// `CannotWrite` with this path if the file cannot be created or is refused, or `OutOfMemory`. Files that are read stay
+/// as they were.
 pub fn create_store<'a>(
     rt: &HostRuntime,
     path: &'a str,

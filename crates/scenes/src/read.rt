@@ -23,6 +23,11 @@ pub trait RunSource {
     ghost left: { ℕ → Self → ParsedLines → List RunLine → Type 0 };
 
     /// Reads further lines of this file. It returns whether there may be more. If a line has a fault, the lines before it are read.
+    ///
+    /// # Errors
+    ///
+    /// The fault of the first line that is wrong, `CannotRead` with this file, or `OutOfMemory`. The lines before are
+    /// read.
     fn read_next<'a>(
         &mut self,
         alloc: Global,
@@ -46,6 +51,10 @@ pub struct SceneSource<R> {
 
 impl<R: Read + Drop> SceneSource<R> {
     /// The scene that this reader has. It allocates what is read at once.
+    ///
+    /// # Errors
+    ///
+    /// Memory was refused. The reader is dropped.
     pub fn new(alloc: Global, reader: R) -> Result<SceneSource<R>, OutOfMemory>
         ensures { IfOk result (λ source. reader_remaining R.remaining source.reader ≡ R.remaining reader) }
     {

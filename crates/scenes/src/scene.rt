@@ -32,6 +32,10 @@ impl Scene {
 
     /// The calls that the scene makes of a reporter, in order. They borrow its names. Where the options ask for it, the output
     /// that the reporter does not show is left unread, which changes neither its report nor what it refuses.
+    ///
+    /// # Errors
+    ///
+    /// `OutOfMemory`.
     #[tactic(auto, using(crate::proofs::lemmas::ReadyCalls::ready_whole, crate::proofs::lemmas::ReadyCalls::ready_unread))]
     pub fn calls(
         &self,

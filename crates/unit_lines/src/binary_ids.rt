@@ -35,6 +35,10 @@ impl BinaryIds {
     }
 
     /// Reads the id of a test's binary. It is copied where it is none of the ids that are kept, and is shared with those lines else.
+    ///
+    /// # Errors
+    ///
+    /// Memory was refused. A bad field is no error but `None`.
     #[inline(always)]
     pub fn read(&mut self, alloc: Global, field: &str) -> Field<SharedBinaryId>
         ensures { IfOk result (λ id. id ≡ text_in field.now) }
