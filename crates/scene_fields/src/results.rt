@@ -18,7 +18,7 @@ use run_model::status::{
 };
 use std::alloc::Global;
 
-/// What is read of a result: `None` means a bad field.
+/// A result that was read: `None` means a bad field.
 pub type ReadResult = Result<Option<ExecutionResultDescription>, OutOfMemory>;
 
 /// Reads how an attempt ended. `None` means a bad field.
@@ -120,7 +120,7 @@ fn read_nameless_signal(alloc: Global, number: &str, leaked: bool) -> ReadResult
     aborted(alloc, abort, leaked)
 }
 
-// Reads a status of Windows by its number, and what the system says of it.
+// Reads a Windows status: its number, and the system's message for it.
 fn read_status(alloc: Global, text: &str) -> ReadResult
     ensures { IfOk result (λ outcome. outcome ≡ status_cut (cut 58 text.now)) }
 {
@@ -141,7 +141,7 @@ fn read_status(alloc: Global, text: &str) -> ReadResult
     )
 }
 
-// A failure from outside.
+// A failure by an abort.
 fn aborted(alloc: Global, abort: AbortDescription, leaked: bool) -> ReadResult
     ensures { IfOk result (λ outcome. outcome ≡ Some (aborted leaked abort)) }
 {
