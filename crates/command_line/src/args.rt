@@ -96,8 +96,8 @@ struct ArgsSoFar {
 }
 
 impl ArgsSoFar {
-    // Parses the remaining words; `store` is the file of the records so far. No option occurs twice, so the recursion is
-    // shallow.
+    // Parses the remaining words; `store` is the file of the records so far. No option occurs twice, so the recursion
+    // is shallow.
     #[tactic(auto, unfolding(crate::specs::Args::options_after))]
     fn followed_by<'a>(self, store: Option<&'a str>, words: &'a [String]) -> Option<Options<'a>>
         ensures { asked result ≡ options_after self (option_map (λ path. path.now) store.entry) (texts words.now) }
@@ -146,8 +146,8 @@ impl ArgsSoFar {
         })
     }
 
-    // The parsed options with the file of the scene and that of the records. None if outputs are to be stored and there is
-    // no file of records.
+    // The parsed options with the file of the scene and that of the records. None if outputs are to be stored and
+    // there is no file of records.
     fn options<'a>(self, store: Option<&'a str>, file: &'a str) -> Option<Options<'a>>
         ensures { asked result ≡ asked_of self (option_map (λ path. path.now) store.entry) file.now }
     {

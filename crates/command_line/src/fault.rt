@@ -86,7 +86,8 @@ impl fmt::Display for Fault<'_> {
 
 impl Error for Fault<'_> {}
 
-/// The line that a program prints on standard error: its name and the fault. For a wrong command line it shows the usage.
+/// The line that a program prints on standard error: its name and the fault. For a wrong command line it shows the
+/// usage.
 ///
 /// ```
 /// let line = FaultLine { program: ReportProgram::Report, fault: Fault::WriteFailed };

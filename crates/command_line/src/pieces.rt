@@ -9,8 +9,8 @@ use memchr::memrchr;
 use run_model::memory::OutOfMemory;
 use std::io::{BufRead, BufReader, ErrorKind, Read};
 
-/// Replaces `piece` by the next lines: all whole lines that the reader has buffered, or one line that is longer than its
-/// buffer. The last line feed is left out. It returns false at the end of the file.
+/// Replaces `piece` by the next lines: all whole lines that the reader has buffered, or one line that is longer than
+/// its buffer. The last line feed is left out. It returns false at the end of the file.
 ///
 /// # Errors
 ///

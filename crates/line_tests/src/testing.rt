@@ -1,4 +1,5 @@
-//! What the tests share: settings of a reporter, and the assertion, which is proved anew at each place where it is used.
+//! What the tests share: settings of a reporter, and the assertion, which is proved anew at each place where it is
+//! used.
 
 use run_model::config::{CompiledDefaultFilter, CompiledDefaultFilterSection, NextestRunMode};
 use run_model::level::{FinalStatusLevel, StatusLevel};

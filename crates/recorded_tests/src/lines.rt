@@ -95,14 +95,14 @@ fn reads_other_lines_as_those_of_a_scene(rt: HostRuntime) -> Result<(), Fail> {
             .replace(alloc, "FAILED", FAILED)?;
         let line = line.as_str().as_bytes();
         let (mut recorded, mut plain) = (LinesRead::new(alloc), LinesRead::new(alloc));
-        let told = match recorded.read_recorded(alloc, line) {
+        let outcome = match recorded.read_recorded(alloc, line) {
             Ok(value) => {
                 recorded.push(value)?;
                 Ok(())
             }
             Err(fault) => Err(fault),
         };
-        expect_row(&rt, told == plain.read_more(alloc, line), short);
+        expect_row(&rt, outcome == plain.read_more(alloc, line), short);
         let is_same = recorded.run.events.len() == plain.run.events.len();
         expect_row(&rt, recorded.stored.is_empty() && is_same, short);
     }
@@ -146,7 +146,7 @@ fn loads_outputs(rt: HostRuntime) -> Result<(), Fail> {
 }
 
 #[test]
-fn tells_which_stream_is_damaged(rt: HostRuntime) -> Result<(), Fail> {
+fn reports_which_stream_is_damaged(rt: HostRuntime) -> Result<(), Fail> {
     let past = "\\@8:7:ee2a98c236301c76";
     let other = "\\@0:7:ee2a98c236301c76";
     let rows = [
@@ -221,8 +221,8 @@ fn a_fault_of_a_stream_has_the_words_of_its_fault(rt: HostRuntime) -> Result<(),
     ];
     for (fault, words) in faults {
         for stream in [StreamField::First, StreamField::Second] {
-            let told = StreamFault { stream, fault };
-            expect_text(&rt, told.to_string(rt.alloc())?.as_str(), words);
+            let fault = StreamFault { stream, fault };
+            expect_text(&rt, fault.to_string(rt.alloc())?.as_str(), words);
         }
     }
     Ok(())

@@ -268,7 +268,7 @@ fn use_failing(
 }
 
 #[test]
-fn tells_of_each_call_that_fails(rt: HostRuntime) -> Result<(), Fail> {
+fn reports_each_call_that_fails(rt: HostRuntime) -> Result<(), Fail> {
     let [first, past] = [reference(STREAMS[0].0)?, reference(PAST_END[0])?];
     for (kind, row) in [
         (ErrorKind::Other, "other"),
@@ -305,7 +305,7 @@ fn a_call_that_fails_leaves_the_outputs_as_they_were(rt: HostRuntime) -> Result<
 }
 
 #[test]
-fn bytes_that_are_told_and_missing_are_an_error(rt: HostRuntime) -> Result<(), Fail> {
+fn bytes_that_are_counted_and_missing_are_an_error(rt: HostRuntime) -> Result<(), Fail> {
     let (field, missing) = (
         STREAMS[0].0,
         LoadFault::CannotRead(ErrorKind::UnexpectedEof),

@@ -127,7 +127,7 @@ fn reads_what_is_shown_or_stored(rt: HostRuntime) -> Result<(), Fail> {
 }
 
 #[test]
-fn tells_damaged_outputs_by_line_and_field(rt: HostRuntime) -> Result<(), Fail> {
+fn reports_damaged_outputs_by_line_and_field(rt: HostRuntime) -> Result<(), Fail> {
     let alloc = rt.alloc();
     let past = "\\@8:7:ee2a98c236301c76";
     let other = "\\@0:7:ee2a98c236301c76";
@@ -207,7 +207,7 @@ impl Source for Unreadable {
 }
 
 #[test]
-fn tells_that_outputs_cannot_be_read(rt: HostRuntime) -> Result<(), Fail> {
+fn reports_that_outputs_cannot_be_read(rt: HostRuntime) -> Result<(), Fail> {
     let alloc = rt.alloc();
     let lines = lines_with(alloc, PASSED, FAILED)?;
     let report = replay(alloc, &OPTIONS, lines.as_str(), OUTPUTS)?.printed;

@@ -1,7 +1,8 @@
 //! The program `report`: it reads a scene, which is a run written as text, and prints nextest's console report of it.
 //!
-//! With `--store PATH` it writes a record of each finished test to that file. An error is one line on standard error and
-//! an exit status. Standard output stays empty unless the whole scene was accepted and PATH was created or emptied.
+//! With `--store PATH` it writes a record of each finished test to that file. An error is one line on standard error
+//! and an exit status. Standard output stays empty unless the whole scene was accepted and PATH was created or
+//! emptied.
 #![tactic(auto)]
 
 use scenes::args::{Options, words};

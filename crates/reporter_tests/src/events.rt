@@ -30,10 +30,10 @@ fn write_both(alloc: Global, refused: &TestEvent<'_>, next: &TestEvent<'_>) -> R
     let builder = line_builder(alloc, StatusLevel::None)?;
     let mut report = String::new(alloc);
     let mut reporter = builder.build_for(alloc, &mut report, Surroundings::default());
-    let answer = write_event(&mut reporter, refused);
-    let next_answer = write_event(&mut reporter, next);
+    let outcome = write_event(&mut reporter, refused);
+    let next_outcome = write_event(&mut reporter, next);
     let _parts = reporter.into_parts();
-    if answer != Err(WriteEventError::RetriedSuccess) || next_answer != Ok(()) {
+    if outcome != Err(WriteEventError::RetriedSuccess) || next_outcome != Ok(()) {
         return Err(Fail::from("the event was not refused, or the next one was"));
     }
     if TWO_TESTS.report.first().copied() != Some(report.as_str()) {
@@ -54,10 +54,10 @@ fn write_without_room(alloc: Global, event: &TestEvent<'_>) -> Result<(), Fail> 
     let builder = line_builder(alloc, StatusLevel::Pass)?;
     let mut report = TextBuffer::new(alloc, Device::with_room(alloc, 10)?)?;
     let mut reporter = builder.build_for(alloc, &mut report, Surroundings::default());
-    let answer = write_event(&mut reporter, event);
+    let outcome = write_event(&mut reporter, event);
     let later = [write_event(&mut reporter, event), reporter.finish()];
     let _parts = reporter.into_parts();
-    if answer != Err(WriteEventError::Io) || later != [Err(WriteEventError::Failed); 2] {
+    if outcome != Err(WriteEventError::Io) || later != [Err(WriteEventError::Failed); 2] {
         return Err(Fail::from("the device did not fail, or the report went on"));
     }
     let (device, _) = report.into_inner();

@@ -63,14 +63,14 @@ fn leaky_script<'a>(alloc: Global, leak: LeakTimeoutResult) -> Result<TestEvent<
 }
 
 // The decision for an event's recorded form, and the error of a reporter for the event with its output and without.
-type Answer = (LoadOutput, [Option<WriteEventError>; 2]);
+type Decision = (LoadOutput, [Option<WriteEventError>; 2]);
 
 // None for an event that has no output.
-fn answer_of(
+fn decision_of(
     alloc: Global,
     decider: &OutputLoadDecider,
     event: TestEvent<'_>,
-) -> Result<Option<Answer>, OutOfMemory> {
+) -> Result<Option<Decision>, OutOfMemory> {
     let recorded = event.recorded(alloc);
     let as_it_is = decider.refusal_of(&event);
     let mut event = event;
@@ -80,21 +80,21 @@ fn answer_of(
     let Some(kind) = recorded? else {
         return Ok(None);
     };
-    let answer = decider.should_load_output(&kind);
+    let decision = decider.should_load_output(&kind);
     mem::forget(kind);
-    Ok(Some((answer, [as_it_is, unread])))
+    Ok(Some((decision, [as_it_is, unread])))
 }
 
 // The same decision for a live event. If its output has to be loaded, the event is refused without it.
-fn both(answer: LoadOutput) -> Option<Answer> {
-    match answer {
+fn both(decision: LoadOutput) -> Option<Decision> {
+    match decision {
         LoadOutput::Load => Some((LOAD, [None, Some(WriteEventError::OutputNotLoaded)])),
         LoadOutput::Skip => Some((SKIP, [None, None])),
     }
 }
 
 // Whether a reporter with this level and store makes this decision.
-fn is_answered(
+fn decides(
     alloc: Global,
     status_level: StatusLevel,
     store: Option<StoreConfig>,
@@ -103,7 +103,7 @@ fn is_answered(
 ) -> Result<bool, OutOfMemory> {
     let builder = line_builder(alloc, status_level)?;
     let decider = builder.output_load_decider(Surroundings::default(), store);
-    Ok(answer_of(alloc, &decider, event)? == both(want))
+    Ok(decision_of(alloc, &decider, event)? == both(want))
 }
 
 #[test]
@@ -123,7 +123,7 @@ fn tests_that_finished(rt: HostRuntime) -> Result<(), Fail> {
         (beside_store, Outcome::ExecFailed, [NEVER, NEVER], LOAD),
     ] {
         let event = finished(test.as_ref(), displays, outcome.statuses(rt.alloc())?);
-        assert!(rt; is_answered(rt.alloc(), StatusLevel::Pass, store, event, want)?);
+        assert!(rt; decides(rt.alloc(), StatusLevel::Pass, store, event, want)?);
     }
     Ok(())
 }
@@ -134,7 +134,7 @@ fn attempts_that_are_retried(rt: HostRuntime) -> Result<(), Fail> {
     for (status_level, want) in [(StatusLevel::Fail, SKIP), (StatusLevel::Retry, LOAD)] {
         let failed = ExecuteStatus::failed(1, Nanos::from_secs(1));
         let event = retried(test.as_ref(), failed);
-        assert!(rt; is_answered(rt.alloc(), status_level, None, event, want)?);
+        assert!(rt; decides(rt.alloc(), status_level, None, event, want)?);
     }
     Ok(())
 }
@@ -146,7 +146,7 @@ fn setup_scripts(rt: HostRuntime) -> Result<(), Fail> {
         (LeakTimeoutResult::Fail, LOAD),
     ] {
         let event = leaky_script(rt.alloc(), leak)?;
-        assert!(rt; is_answered(rt.alloc(), StatusLevel::Pass, None, event, want)?);
+        assert!(rt; decides(rt.alloc(), StatusLevel::Pass, None, event, want)?);
     }
     Ok(())
 }

@@ -80,8 +80,8 @@ warning: 1/2 tests were not run due to signal
     records: &["", "", "1:a,2:t1,4:FAIL,5:boom\n,\n", ""],
 };
 
-// The texts of `answer`.
-const ANSWER: Texts = Texts {
+// The texts of `response`.
+const RESPONSE: Texts = Texts {
     report: &[
         "
 * 1/1:    a t1
@@ -130,7 +130,7 @@ fn try_both<'a>(
 
 fn try_one_test(alloc: Global, trial: Trial, test: TestInstanceId<'_>) -> Result<(), Fail> {
     try_cancelled(alloc, trial, test)?;
-    try_answer(alloc, trial, test)
+    try_response(alloc, trial, test)
 }
 
 fn try_cancelled(alloc: Global, trial: Trial, test: TestInstanceId<'_>) -> Result<(), Fail> {
@@ -141,10 +141,10 @@ fn try_cancelled(alloc: Global, trial: Trial, test: TestInstanceId<'_>) -> Resul
     tried
 }
 
-fn try_answer(alloc: Global, trial: Trial, test: TestInstanceId<'_>) -> Result<(), Fail> {
+fn try_response(alloc: Global, trial: Trial, test: TestInstanceId<'_>) -> Result<(), Fail> {
     let output = Boxed::new(alloc, written_so_far(alloc)?)?;
-    let calls = [answer(alloc, test, output)?];
-    let tried = try_run(alloc, trial, test, &calls, ANSWER);
+    let calls = [response(alloc, test, output)?];
+    let tried = try_run(alloc, trial, test, &calls, RESPONSE);
     mem::forget(calls);
     tried
 }
@@ -211,7 +211,7 @@ fn cancelled<'a>(
 }
 
 // The response of a test with this output when it is asked for its state.
-fn answer<'a>(
+fn response<'a>(
     alloc: Global,
     test: TestInstanceId<'a>,
     output: Boxed<ChildExecutionOutputDescription<LiveSpec>>,

@@ -124,31 +124,31 @@ pub fn make_call<W: WriteStr, S: WriteStr>(
 
 /// The results of a reporter's calls.
 #[derive(Clone, Copy)]
-pub struct Answers {
+pub struct CallResults {
     /// The index of the first call that failed, if one did.
     pub outcome: Result<(), RunFault>,
     /// Whether all after that one returned that the report has failed.
     pub are_silent: bool,
 }
 
-impl Answers {
+impl CallResults {
     /// The result of a run, which stops at the first fault.
-    pub fn to_run(outcome: Result<(), RunFault>) -> Answers {
-        Answers {
+    pub fn to_run(outcome: Result<(), RunFault>) -> CallResults {
+        CallResults {
             outcome,
             are_silent: true,
         }
     }
 
     // With the result of the call at this index.
-    fn and(self, position: usize, answer: Result<(), WriteEventError>) -> Answers {
-        match (self.outcome, answer) {
-            (Ok(()), Err(fault)) => Answers {
+    fn and(self, position: usize, returned: Result<(), WriteEventError>) -> CallResults {
+        match (self.outcome, returned) {
+            (Ok(()), Err(fault)) => CallResults {
                 outcome: Err(RunFault { position, fault }),
                 ..self
             },
-            (Err(_), answer) => Answers {
-                are_silent: self.are_silent && answer == Err(WriteEventError::Failed),
+            (Err(_), returned) => CallResults {
+                are_silent: self.are_silent && returned == Err(WriteEventError::Failed),
                 ..self
             },
             (Ok(()), Ok(())) => self,
@@ -161,10 +161,10 @@ pub fn make_calls<W: WriteStr, S: WriteStr>(
     alloc: Global,
     reporter: &mut DisplayReporter<'_, W, S>,
     calls: &[ReportCall<'_>],
-) -> Answers {
-    let mut answers = Answers::to_run(Ok(()));
+) -> CallResults {
+    let mut results = CallResults::to_run(Ok(()));
     for (position, call) in calls.iter().enumerate() {
-        answers = answers.and(position, make_call(alloc, reporter, call));
+        results = results.and(position, make_call(alloc, reporter, call));
     }
-    answers.and(calls.len(), reporter.finish())
+    results.and(calls.len(), reporter.finish())
 }

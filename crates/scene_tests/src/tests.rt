@@ -277,7 +277,7 @@ fn reads_on_after_an_interrupt(rt: HostRuntime) -> Result<(), Fail> {
 }
 
 #[test]
-fn tells_why_a_file_is_not_read(rt: HostRuntime) -> Result<(), Fail> {
+fn reports_why_a_file_is_not_read(rt: HostRuntime) -> Result<(), Fail> {
     let alloc = rt.alloc();
     let text = END.as_bytes();
     let kinds = [
@@ -421,7 +421,7 @@ fn takes_options_in_any_order(rt: HostRuntime) -> Result<(), Fail> {
 }
 
 #[test]
-fn tells_each_fault(rt: HostRuntime) -> Result<(), Fail> {
+fn reports_each_fault(rt: HostRuntime) -> Result<(), Fail> {
     let faults = [
         (
             Fault::Usage,
@@ -462,7 +462,7 @@ fn tells_each_fault(rt: HostRuntime) -> Result<(), Fail> {
 }
 
 #[test]
-fn tells_what_is_wrong_with_a_line(rt: HostRuntime) -> Result<(), Fail> {
+fn reports_what_is_wrong_with_a_line(rt: HostRuntime) -> Result<(), Fail> {
     let faults = [
         (LineFault::NotUtf8, "line 3: not UTF-8"),
         (LineFault::UnknownEvent, "line 3: unknown event"),

@@ -1,4 +1,5 @@
-//! The assertions of the tests, one function each: an assertion is expanded and proved anew at each place where it is used.
+//! The assertions of the tests, one function each: an assertion is expanded and proved anew at each place where it is
+//! used.
 
 use std::process::Abort;
 

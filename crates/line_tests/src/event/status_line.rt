@@ -30,7 +30,7 @@ fn flaky() -> StatusSummary {
 }
 
 #[test]
-fn an_iteration_stands_before_a_bar(rt: HostRuntime) -> Result<(), Fail> {
+fn an_iteration_comes_before_a_bar(rt: HostRuntime) -> Result<(), Fail> {
     let alloc = rt.alloc();
     let binary_id = RustBinaryId::new(alloc, "my-binary-id")?;
     let test_name = TestCaseName::new(alloc, "test1")?;

@@ -2,7 +2,7 @@
 //! fault, and that neither a later call nor a refused one writes.
 
 use super::{ALL_OUTPUT, Texts, Trial, begin, front_len, run_alone, run_with_store, try_runs};
-use crate::testing::{Answers, line_builder, make_calls, retried_success, write_event};
+use crate::testing::{CallResults, line_builder, make_calls, retried_success, write_event};
 use console_reporter::imp::Store;
 use console_reporter::prelude::*;
 use std::alloc::Global;
@@ -73,8 +73,8 @@ impl Fault {
         }
     }
 
-    // The call in which the device fails, and how many bytes it took before. Each call writes its text piece by piece and
-    // flushes the device. The end of the report flushes it once more.
+    // The call in which the device fails, and how many bytes it took before. Each call writes its text piece by piece
+    // and flushes the device. The end of the report flushes it once more.
     fn stop(self, texts: &[&str]) -> Option<(usize, usize)> {
         let (mut works, mut taken) = (self.works, 0usize);
         for (position, text) in texts.iter().enumerate() {
@@ -124,15 +124,15 @@ impl Fault {
         Ok((Devices::under(report, records), outcome))
     }
 
-    // Reports an event that is refused, and then makes every call, even after a fault. It returns the devices, whether the
-    // event was refused, and the results of the calls.
+    // Reports an event that is refused, and then makes every call, even after a fault. It returns the devices,
+    // whether the event was refused, and the results of the calls.
     fn make_all(
         self,
         alloc: Global,
         builder: DisplayReporterBuilder,
         refused: &TestEvent<'_>,
         calls: &[ReportCall<'_>],
-    ) -> Result<(Devices, bool, Answers), Fail> {
+    ) -> Result<(Devices, bool, CallResults), Fail> {
         let (mut report, mut records) = self.writers(alloc)?;
         let store = match self.failing {
             Failing::Report => None,
@@ -141,11 +141,11 @@ impl Fault {
             }
         };
         let mut reporter = builder.build_in(alloc, &mut report, store, Surroundings::default());
-        let answer = write_event(&mut reporter, refused);
-        let answers = make_calls(alloc, &mut reporter, calls);
+        let refusal = write_event(&mut reporter, refused);
+        let results = make_calls(alloc, &mut reporter, calls);
         let _parts = reporter.into_parts();
-        let is_refused = answer == Err(WriteEventError::RetriedSuccess);
-        Ok((Devices::under(report, records), is_refused, answers))
+        let is_refused = refusal == Err(WriteEventError::RetriedSuccess);
+        Ok((Devices::under(report, records), is_refused, results))
     }
 
     // Runs the calls over these devices.
@@ -174,12 +174,12 @@ impl Fault {
         left: Left,
     ) -> Result<(), Fail> {
         let builder = line_builder(alloc, StatusLevel::Pass)?;
-        let (devices, is_refused, answers) = self.make_all(alloc, builder, refused, calls)?;
-        if answers.outcome != left.outcome || !devices.took(texts, left) {
+        let (devices, is_refused, results) = self.make_all(alloc, builder, refused, calls)?;
+        if results.outcome != left.outcome || !devices.took(texts, left) {
             return Err(Fail::from("calls one by one left other texts"));
         }
-        if !is_refused || !answers.are_silent {
-            return Err(Fail::from("a call did not answer that it was refused, or that one failed"));
+        if !is_refused || !results.are_silent {
+            return Err(Fail::from("a call did not return that it was refused, or that one failed"));
         }
         Ok(())
     }

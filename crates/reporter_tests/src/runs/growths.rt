@@ -3,7 +3,7 @@
 //! is no prefix of the whole one.
 
 use super::{ALL_OUTPUT, Texts, Trial, begin, front_len, run_alone, run_with_store, try_runs};
-use crate::testing::{Answers, line_builder, make_call, make_calls};
+use crate::testing::{CallResults, line_builder, make_call, make_calls};
 use console_reporter::prelude::*;
 use run_model::run_id::ShortestRunIdPrefix;
 use std::alloc::Global;
@@ -31,10 +31,10 @@ fn run_over<W: WriteStr, S: WriteStr>(
     report: &mut W,
     records: &mut S,
     calls: &[ReportCall<'_>],
-) -> Result<Answers, OutOfMemory> {
+) -> Result<CallResults, OutOfMemory> {
     match way {
-        Way::Alone => Ok(Answers::to_run(run_alone(alloc, report, calls)?)),
-        Way::WithStore => Ok(Answers::to_run(run_with_store(alloc, report, records, calls)?)),
+        Way::Alone => Ok(CallResults::to_run(run_alone(alloc, report, calls)?)),
+        Way::WithStore => Ok(CallResults::to_run(run_with_store(alloc, report, records, calls)?)),
         Way::CallByCall => {
             let builder = line_builder(alloc, StatusLevel::Pass)?;
             Ok(make_each(alloc, builder, report, records, calls))
@@ -48,30 +48,30 @@ fn make_each<W: WriteStr, S: WriteStr>(
     report: &mut W,
     records: &mut S,
     calls: &[ReportCall<'_>],
-) -> Answers {
+) -> CallResults {
     let mut reporter = builder.build_with_store(
         alloc, report, records, ALL_OUTPUT, false, false, false, false,
     );
-    let answers = make_calls(alloc, &mut reporter, calls);
+    let results = make_calls(alloc, &mut reporter, calls);
     let _parts = reporter.into_parts();
-    answers
+    results
 }
 
 // Whether these texts are right for a run with these results: complete, or a prefix of each if memory was refused. A
 // record comes only after the whole text of its call. Without a store there are no records.
-fn leaves(texts: Texts, answers: Answers, report: &[u8], records: Option<&[u8]>) -> bool {
-    let is_known = match answers.outcome {
+fn leaves(texts: Texts, results: CallResults, report: &[u8], records: Option<&[u8]>) -> bool {
+    let is_known = match results.outcome {
         Ok(()) => true,
-        Err(stop) => stop.fault == WriteEventError::Memory && answers.are_silent,
+        Err(stop) => stop.fault == WriteEventError::Memory && results.are_silent,
     };
-    if !is_known || !reaches(report, texts.report, answers.outcome) {
+    if !is_known || !reaches(report, texts.report, results.outcome) {
         return false;
     }
     let Some(records) = records else {
         return true;
     };
-    reaches(records, texts.records, answers.outcome)
-        && is_text_first(texts, answers.outcome, report, records)
+    reaches(records, texts.records, results.outcome)
+        && is_text_first(texts, results.outcome, report, records)
 }
 
 // Whether these bytes are the texts of the calls that succeeded and a prefix of the text of the call that did not.
@@ -102,15 +102,15 @@ fn is_text_first(
 // The result of the run, after its texts were checked.
 fn judge(
     texts: Texts,
-    answers: Result<Answers, OutOfMemory>,
+    results: Result<CallResults, OutOfMemory>,
     report: &[u8],
     records: Option<&[u8]>,
 ) -> Result<(), Fail> {
-    let answers = answers?;
-    if !leaves(texts, answers, report, records) {
+    let results = results?;
+    if !leaves(texts, results, report, records) {
         return Err(Fail::from("a run left other texts"));
     }
-    answers.outcome?;
+    results.outcome?;
     Ok(())
 }
 
@@ -118,9 +118,9 @@ fn judge(
 pub fn run_over_strings(alloc: Global, calls: &[ReportCall<'_>], texts: Texts) -> Result<(), Fail> {
     for way in WAYS {
         let (mut report, mut records) = (String::new(alloc), String::new(alloc));
-        let answers = run_over(alloc, way, &mut report, &mut records, calls);
+        let results = run_over(alloc, way, &mut report, &mut records, calls);
         let stored = (way != Way::Alone).then_some(records.as_bytes());
-        judge(texts, answers, report.as_bytes(), stored)?;
+        judge(texts, results, report.as_bytes(), stored)?;
     }
     Ok(())
 }
@@ -130,10 +130,10 @@ pub fn run_over_buffers(alloc: Global, calls: &[ReportCall<'_>], texts: Texts) -
     for way in WAYS {
         let mut report = buffer(alloc)?;
         let mut records = buffer(alloc)?;
-        let answers = run_over(alloc, way, &mut report, &mut records, calls);
+        let results = run_over(alloc, way, &mut report, &mut records, calls);
         let (report, records) = (device_under(report), device_under(records));
         let stored = (way != Way::Alone).then_some(records.taken());
-        judge(texts, answers, report.taken(), stored)?;
+        judge(texts, results, report.taken(), stored)?;
     }
     Ok(())
 }
@@ -178,12 +178,12 @@ fn run_after(
         false,
     );
     let copied = make_call(alloc, &mut reporter, prefix);
-    let answers = make_calls(alloc, &mut reporter, calls);
+    let results = make_calls(alloc, &mut reporter, calls);
     let _parts = reporter.into_parts();
     let Err(fault) = copied else {
         return judge(
             texts,
-            Ok(answers),
+            Ok(results),
             report.as_bytes(),
             Some(records.as_bytes()),
         );
@@ -192,14 +192,14 @@ fn run_after(
         position: 0,
         fault: WriteEventError::Failed,
     });
-    if answers.outcome != failed || !report.is_empty() || !records.is_empty() {
+    if results.outcome != failed || !report.is_empty() || !records.is_empty() {
         return Err(Fail::from("the report went on without its prefix"));
     }
     let outcome = Err(RunFault { position: 0, fault });
-    let answers = Answers { outcome, ..answers };
+    let results = CallResults { outcome, ..results };
     judge(
         texts,
-        Ok(answers),
+        Ok(results),
         report.as_bytes(),
         Some(records.as_bytes()),
     )

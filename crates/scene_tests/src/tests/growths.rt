@@ -1,5 +1,6 @@
-//! Reports when memory is refused. With enough memory each is complete. `scripts/check-faults` runs these tests once for
-//! each allocation, which it refuses: a test then returns that error, and panics if a text is no prefix of the whole one.
+//! Reports when memory is refused. With enough memory each is complete. `scripts/check-faults` runs these tests once
+//! for each allocation, which it refuses: a test then returns that error, and panics if a text is no prefix of the
+//! whole one.
 
 use super::pieces::large_line;
 use super::{

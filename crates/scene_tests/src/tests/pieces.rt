@@ -34,7 +34,7 @@ fn enclosed(alloc: Global, text: &str, inner: &str) -> Result<String, AllocError
 }
 
 // The report of a scene, or the number and the fault of its wrong line.
-fn told_of(
+fn report_or_fault(
     alloc: Global,
     options: &Options<'static>,
     text: &str,
@@ -82,7 +82,7 @@ fn each_line_is_read_once(rt: HostRuntime) -> Result<(), Fail> {
         text.push_str(lines.as_str())?;
         for (more, is_right) in [("\n", true), ("wrong", false)] {
             text.push_str(more)?;
-            match told_of(alloc, &SHOWING_SKIPS, text.as_str())? {
+            match report_or_fault(alloc, &SHOWING_SKIPS, text.as_str())? {
                 Ok(printed) => {
                     assert!(rt; is_right && printed.as_slice() == report.as_bytes());
                 }
@@ -150,14 +150,14 @@ fn a_large_output_is_read_whole(rt: HostRuntime) -> Result<(), Fail> {
         for (repeated, shown) in TEXTS {
             let line = large_line(alloc, before, repeated, after)?;
             let report = report_of_large(alloc, header, shown)?;
-            match told_of(alloc, &OPTIONS, line.as_str())? {
+            match report_or_fault(alloc, &OPTIONS, line.as_str())? {
                 Ok(printed) => assert!(rt; printed.as_slice() == report.as_bytes()),
                 Err(_) => return Err(Fail::from("a line was refused")),
             }
         }
         for wrong in ["y\\q", "y\\x4"] {
             let line = large_line(alloc, before, wrong, after)?;
-            assert!(rt; told_of(alloc, &OPTIONS, line.as_str())?.is_err());
+            assert!(rt; report_or_fault(alloc, &OPTIONS, line.as_str())?.is_err());
         }
     }
     Ok(())

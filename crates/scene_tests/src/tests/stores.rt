@@ -22,9 +22,9 @@ struct Run {
 }
 
 impl Run {
-    // Reports the scene to two devices, one of which fails at its first call, then at its second, and so on until the report
-    // is complete. Returns how many calls could fail. Each device must have a prefix, and the fault must name the device
-    // that failed.
+    // Reports the scene to two devices, one of which fails at its first call, then at its second, and so on until the
+    // report is complete. Returns how many calls could fail. Each device must have a prefix, and the fault must name
+    // the device that failed.
     fn count(&self, alloc: Global, is_store: bool, failure: Failure) -> Result<usize, Fail> {
         for number in 0..1000 {
             let (calls, store_calls) = if is_store {
@@ -41,14 +41,14 @@ impl Run {
             );
             let (taken, stored) = (device.taken(), store.taken());
             let (whole, records) = (self.whole.as_bytes(), self.records.as_bytes());
-            let is_told = match outcome {
+            let is_right = match outcome {
                 Ok(()) if taken == whole && stored == records => return Ok(number),
                 Ok(()) => return Err(Fail::from("a text is not whole")),
                 Err(Fault::StoreFailed) => is_store,
                 Err(Fault::WriteFailed) => !is_store,
                 Err(_) => false,
             };
-            if !is_told || !whole.starts_with(taken) || !records.starts_with(stored) {
+            if !is_right || !whole.starts_with(taken) || !records.starts_with(stored) {
                 return Err(Fail::from("no beginning of both texts, or another fault"));
             }
         }

@@ -30,9 +30,9 @@ fn deliver<W: Write + Drop>(
     let Ok(mut buffer) = TextBuffer::new(alloc, device) else {
         return Err(Fail::from("memory was refused"));
     };
-    let answer = write_and_flush(&mut buffer, text);
+    let outcome = write_and_flush(&mut buffer, text);
     let (device, pending) = buffer.into_inner();
-    Ok((device, answer, pending.len()))
+    Ok((device, outcome, pending.len()))
 }
 
 fn write_and_flush<W: WriteStr>(w: &mut W, text: &str) -> Result<(), WriteFault> {
@@ -48,12 +48,12 @@ fn is_failed_write(
     failure: Failure,
 ) -> Result<bool, Fail> {
     let device = Device::failing_at(alloc, call, failure).with_kind(kind);
-    let (device, answer, pending) = deliver(alloc, device, TEXT)?;
+    let (device, outcome, pending) = deliver(alloc, device, TEXT)?;
     let taken = device.taken();
     let is_front = TEXT.as_bytes().starts_with(taken)
         && taken.len() == call.saturating_mul(BYTES_AT_ONCE)
         && taken.len().saturating_add(pending) == TEXT.len();
-    Ok(answer == Err(WriteFault::Device) && is_front)
+    Ok(outcome == Err(WriteFault::Device) && is_front)
 }
 
 #[test]
@@ -72,8 +72,8 @@ fn a_write_that_fails_is_a_failure_of_the_device(rt: HostRuntime) -> Result<(), 
 // Whether the error of a failed flush is reported, after the device took the text.
 fn is_failed_flush(alloc: Global, kind: ErrorKind, text: &str) -> Result<bool, Fail> {
     let device = Device::failing_at(alloc, 0, Failure::FlushError).with_kind(kind);
-    let (device, answer, pending) = deliver(alloc, device, text)?;
-    Ok(answer == Err(WriteFault::Device) && device.taken() == text.as_bytes() && pending == 0)
+    let (device, outcome, pending) = deliver(alloc, device, text)?;
+    Ok(outcome == Err(WriteFault::Device) && device.taken() == text.as_bytes() && pending == 0)
 }
 
 #[test]
@@ -105,11 +105,11 @@ fn a_device_that_fails_once_is_written_on(rt: HostRuntime) -> Result<(), Fail> {
 // Whether a text is delivered to a device that interrupts each call this many times.
 fn is_made_again(alloc: Global, times: usize) -> Result<bool, Fail> {
     let device = RetryInterrupted::new(Device::interrupted(alloc, times));
-    let (device, answer, pending) = deliver(alloc, device, TEXT)?;
+    let (device, outcome, pending) = deliver(alloc, device, TEXT)?;
     let mut device = device.into_inner();
     // The flush was repeated until it succeeded, so the next flush is interrupted again.
     let is_flushed = device.flush().is_err() == (times > 0);
-    Ok(answer == Ok(()) && pending == 0 && device.taken() == TEXT.as_bytes() && is_flushed)
+    Ok(outcome == Ok(()) && pending == 0 && device.taken() == TEXT.as_bytes() && is_flushed)
 }
 
 #[test]
@@ -132,7 +132,7 @@ fn is_passed_on(alloc: Global, kind: ErrorKind) -> bool {
 }
 
 #[test]
-fn no_other_answer_of_a_device_is_changed(rt: HostRuntime) -> Result<(), Fail> {
+fn no_other_result_of_a_device_is_changed(rt: HostRuntime) -> Result<(), Fail> {
     let alloc = rt.alloc();
     for (row, kind) in KINDS.iter().enumerate() {
         if *kind != ErrorKind::Interrupted {

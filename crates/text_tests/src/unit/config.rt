@@ -1,4 +1,5 @@
-//! The settings that a reporter ends up with, for every terminal, CI, capture and pair of levels that a user can ask for.
+//! The settings that a reporter ends up with, for every terminal, CI, capture and pair of levels that a user can ask
+//! for.
 
 use run_model::level::{FinalStatusLevel, StatusLevel};
 use unit_report::config::{
