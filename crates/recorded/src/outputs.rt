@@ -75,7 +75,7 @@ pub struct RecordedOutputs<O: ReadAt> {
 }
 
 impl<O: ReadAt + Drop> RecordedOutputs<O> {
-    /// The outputs in this source, of which nothing is read. It asks how many bytes there are, and an error is that of this question.
+    /// The outputs in this source. It requests their length and reads nothing.
     ///
     /// # Errors
     ///
@@ -88,15 +88,15 @@ impl<O: ReadAt + Drop> RecordedOutputs<O> {
         Ok(RecordedOutputs { source, len })
     }
 
-    /// How many bytes of the source were read. It stays at `u64::MAX` where it would pass that.
+    /// How many bytes of the source were read. The count saturates at `u64::MAX`.
     pub fn bytes_read(&self) -> u64
         ensures { result ≡ O.count self.now.source }
     {
         self.source.bytes_read()
     }
 
-    /// Whether all bytes that a reference names are there, of which none is read. Where they end behind the last byte that is known, it
-    /// asks anew how many there are, since a run that is still recorded writes more.
+    /// Whether all bytes of a reference are there. It reads none of them. If they end beyond the known length, it
+    /// requests the length again, since a run that is still being recorded writes more.
     ///
     /// # Errors
     ///
@@ -113,8 +113,6 @@ impl<O: ReadAt + Drop> RecordedOutputs<O> {
     }
 
     /// Reads the bytes that a reference names, and no others, into memory of just their size, and checks their sum.
-    ///
-    /// Where they are not all there no memory is asked for. [`LoadFault`] says what each fault is.
     ///
     /// ```
     /// use scene_fields::reference::read_reference;

@@ -32,8 +32,7 @@ pub trait Source {
         ensures kept { recorded self.new ≡ recorded self.old }
         ensures len { IfOk result (λ n. IfSome (recorded self.old) (λ all. n ≡ length all)) };
 
-    /// Fills the buffer with the bytes from this place on, which is counted in bytes. Where there are fewer of them, that is an error, and
-    /// so is a read that fails. What the buffer holds after an error is not said.
+    /// Fills the buffer with the bytes from this offset on.
     ///
     /// ```
     /// let mut outputs = b"passed failed".as_slice();
@@ -97,9 +96,9 @@ impl Source for File {
     }
 }
 
-/// Bytes that are read at their position, where each read is counted.
+/// Bytes that are read at an offset, with a count of those that were read.
 ///
-/// What a contract says of [`bytes_read`](ReadAt::bytes_read) holds for every read, wherever it is: there is no other way to the bytes.
+/// There is no other way to the bytes, so what a contract says of [`bytes_read`](ReadAt::bytes_read) covers every read.
 pub trait ReadAt {
     // All the bytes, where they are known.
     ghost recorded: { Self → Option (List ℕ) } = { λ _. None };
@@ -121,7 +120,7 @@ pub trait ReadAt {
         ensures len { IfOk result (λ n. IfSome (recorded self.old) (λ all. n ≡ length all)) }
         ensures count { count self.new ≡ count self.old };
 
-    /// Fills the buffer with the bytes from this place on, as [`Source::read_at`] does, and counts them. A read that fails is not counted.
+    /// Fills the buffer like [`Source::read_at`], and counts the bytes.
     ///
     /// # Errors
     ///
@@ -132,7 +131,7 @@ pub trait ReadAt {
         ensures read { OnOk result (IfSome (recorded self.old) (HasRead offset buffer.new)) }
         ensures count { count self.new ≡ (if is_ok result then counted (count self.old) (length buffer.old) else count self.old) };
 
-    /// How many bytes were read. It stays at `u64::MAX` where it would pass that.
+    /// How many bytes were read. The count saturates at `u64::MAX`.
     fn bytes_read(&self) -> u64
         ensures { result ≡ count self.now };
 }

@@ -78,7 +78,7 @@ impl<'a, R: Read + Drop, O: ReadAt + Drop> RecordedRun<'a, R, O> {
         })
     }
 
-    /// How many bytes of outputs were read. It stays at `u64::MAX` where it would pass that.
+    /// How many bytes of outputs were read. The count saturates at `u64::MAX`.
     pub fn bytes_read(&self) -> u64
         ensures { result ≡ O.count self.now.outputs.source }
     {

@@ -51,7 +51,7 @@ pub enum ParsedLine {
 pub struct LinesRead {
     /// Their values, but for the events that were forgotten.
     pub run: ParsedRun,
-    /// Whether an event was forgotten. Behind an event no line configures the run.
+    /// Whether an event was forgotten. After an event no line can configure the run.
     pub is_begun: bool,
     /// The number of the line that follows.
     pub next: u64,
@@ -161,7 +161,7 @@ impl LinesRead {
     /// Reads the next line of a recorded run, whose outputs may be stored: those that are stored are then in `stored`, and not loaded in the
     /// event. The value is not among the lines until `push` adds it. The errors are those of `read_more`, and leave `stored` empty.
     ///
-    /// A field that begins like a reference and is none, or is where none may be, is a bad field.
+    /// A field that begins like a reference is a bad field if it is not one, or if none is allowed there.
     ///
     /// ```
     /// let line = "setupdone\t-\tdb\tinit\t\tpass\t5\t0\tcomb\t\\@7:7:ee2a98c236301c76\t-\t-\t-";

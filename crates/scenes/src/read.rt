@@ -1,4 +1,4 @@
-//! Where the lines of a run come from: a file that is read piece by piece, the way into `report` and `follow`, or another source.
+//! The sources of a run's lines: a file that is read piece by piece, as `report` and `follow` do, or another source.
 
 ghost use Rattle.std.specs.Prelude.{◌≡◌, ℕ, List, [], Ok, true, IfErr, IfOk, OnOk};
 ghost use Rattle.scenes.specs.Names.{IsJudgeFault, AreLeftOf, HasReadLines};
@@ -17,7 +17,7 @@ use std::mem;
 /// How many bytes are read of a file at once.
 const BYTES_AT_ONCE: usize = 16_384;
 
-/// Where the lines of a run come from.
+/// A source of the lines of a run.
 pub trait RunSource {
     // These lines are left after those before, and once they are read, this many bytes of outputs were read in all.
     ghost left: { ℕ → Self → ParsedLines → List RunLine → Type 0 };

@@ -23,7 +23,7 @@ pub struct Scene {
 }
 
 impl Scene {
-    /// The line of the event at this place, from 1; 0 where there is no such event.
+    /// The line of the event with this index, from 1; 0 if there is no such event.
     pub fn line_of(&self, place: usize) -> u64
         ensures { result ≡ get_or self.now.lines.items place 0 }
     {

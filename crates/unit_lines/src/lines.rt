@@ -401,7 +401,7 @@ fn read_output(alloc: Global, fields: &mut Fields<'_>) -> Line<SceneOutput>
     read_spelled_output(alloc, fields)
 }
 
-// The same where outputs may be stored. Not inlined, like `read_more_attempts`.
+// Like `read_spelled_output`, for a line whose outputs may be stored. Not inlined, like `read_more_attempts`.
 #[inline(never)]
 fn read_noted_output(alloc: Global, fields: &mut Fields<'_>) -> Line<SceneOutput>
     ensures { Gives (λ o. o) fields.old result fields.new output_fields }

@@ -65,7 +65,7 @@ fn read_running(text: &str) -> Option<UnitState>
     })
 }
 
-// Reads the parts after `exiting`: the same, and the wait for the process's handles.
+// Reads the parts after `exiting`: those of `running`, and the wait for the process's handles.
 #[tactic(auto, unfolding(crate::specs::Parts::exiting_in))]
 fn read_exiting(text: &str) -> Option<UnitState>
     ensures { result ≡ exiting_in text.now }
