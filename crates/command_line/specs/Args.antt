@@ -27,7 +27,8 @@ pub record Asked : Type 0 where
   pub store : Option AskedStore
   pub file : Argument
 
--- the parsed options with the file of the records and that of the scene; None if outputs are to be stored without a file of records
+-- the parsed options with the file of the records and that of the scene; None if outputs are to be stored without a
+-- file of records
 abbrev pub asked_of : ArgsSoFar → Option Argument → Argument → Option Asked
 asked_of options store file =
     if is_none store && (options.store_success || options.store_failure) then None
@@ -75,8 +76,8 @@ with_level options word =
     if is_some options.level then None
     else option_map (λ level. record options { level = Some level }) (level_of word)
 
--- parses the remaining words, after these options and this file of records: the last word is the file, a level follows `--level`,
--- and the file of the records follows `--store`; None for a wrong command line
+-- parses the remaining words, after these options and this file of records: the last word is the file, a level
+-- follows `--level`, and the file of the records follows `--store`; None for a wrong command line
 unfoldable pub options_after : ArgsSoFar → Option Argument → List Argument → Option Asked
 options_after options store [] = None
 options_after options store (file ∷ []) = asked_of options store file
@@ -90,7 +91,6 @@ abbrev pub options_of : List Argument → Option Asked
 options_of words = options_after no_args None words
 
 -- like options_of, where the file is `-`, standard input, if none is named
---
 abbrev pub options_or_input : List Argument → Option Asked
 options_or_input words = option_or (options_of (words ++ codes "-" ∷ [])) (options_of words)
 

@@ -51,7 +51,6 @@ fault_of_read (read.Line n f) = fault.Line n f
 fault_of_read read.OutOfMemory = fault.OutOfMemory
 
 -- this fault, or OutOfMemory if the I/O error is of that kind
---
 abbrev pub fault_by_kind : ErrorKind → Fault → Fault
 fault_by_kind kind.OutOfMemory given = fault.OutOfMemory
 fault_by_kind _ given = given

@@ -12,7 +12,6 @@ IsNextPiece text true piece rest = (more : List ℕ) × (rest ≡ Some more) × 
 
 -- What take_at_hand took from the buffer, the front of the text, and added to the piece `old`: lines and the line feed
 -- after them, part of a line, or nothing if the buffer was empty. `rest` is what remains of the text.
---
 abbrev pub IsBehind : Chunk → List ℕ → List ℕ → List ℕ → List ℕ → Option (List ℕ) → Type 0
 IsBehind taken.Lines at_hand text old new rest = (more : List ℕ) × (rest ≡ Some more) × (old ++ text ≡ new ++ 10 ∷ more)
 IsBehind taken.Part at_hand text old new rest = (more : List ℕ) × (rest ≡ Some more) × (old ++ text ≡ new ++ more)

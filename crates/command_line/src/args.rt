@@ -68,6 +68,10 @@ pub fn words(words: &[String]) -> Option<Options<'_>>
 /// given.push(String::from_str(alloc, "--color")?)?;
 /// assert_eq!(args_or_input(alloc, &mut given)?.map(|options| options.file), Some("-"));
 /// ```
+///
+/// # Errors
+///
+/// Memory was refused. A wrong command line is no error but `None`.
 pub fn args_or_input<'a>(
     alloc: Global,
     given: &'a mut Vec<String>,
@@ -92,8 +96,8 @@ struct ArgsSoFar {
 }
 
 impl ArgsSoFar {
-    // Parses the remaining words; `store` is the file of the records so far. No option occurs twice, so the recursion is
-    // shallow.
+    // Parses the remaining words; `store` is the file of the records so far. No option occurs twice, so the recursion
+    // is shallow.
     #[tactic(auto, unfolding(crate::specs::Args::options_after))]
     fn followed_by<'a>(self, store: Option<&'a str>, words: &'a [String]) -> Option<Options<'a>>
         ensures { asked result ≡ options_after self (option_map (λ path. path.now) store.entry) (texts words.now) }
@@ -142,8 +146,8 @@ impl ArgsSoFar {
         })
     }
 
-    // The parsed options with the file of the scene and that of the records. None if outputs are to be stored and there is
-    // no file of records.
+    // The parsed options with the file of the scene and that of the records. None if outputs are to be stored and
+    // there is no file of records.
     fn options<'a>(self, store: Option<&'a str>, file: &'a str) -> Option<Options<'a>>
         ensures { asked result ≡ asked_of self (option_map (λ path. path.now) store.entry) file.now }
     {
@@ -183,7 +187,6 @@ fn set_first(flag: &mut bool) -> Option<()>
 }
 
 // The status level with this name.
---
 fn read_level(word: &str) -> Option<StatusLevel>
     ensures { result ≡ level_of word.now }
 {

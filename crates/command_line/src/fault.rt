@@ -86,7 +86,8 @@ impl fmt::Display for Fault<'_> {
 
 impl Error for Fault<'_> {}
 
-/// The line that a program prints on standard error: its name and the fault. For a wrong command line it shows the usage.
+/// The line that a program prints on standard error: its name and the fault. For a wrong command line it shows the
+/// usage.
 ///
 /// ```
 /// let line = FaultLine { program: ReportProgram::Report, fault: Fault::WriteFailed };
@@ -113,7 +114,6 @@ pub enum ReportProgram {
 
 impl ReportProgram {
     // Its name, and what its usage names last: what it reads.
-    --
     fn words(self) -> (&'static str, &'static str)
         ensures { (result.0.now, result.1.now) ≡ program_words self }
     {

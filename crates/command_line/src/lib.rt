@@ -2,7 +2,6 @@
 //!
 //! `args` parses their command lines, `pieces` reads a file some lines at a time, and `fault` has the errors of the
 //! programs, with the message and the exit status of each.
---
 #![tactic(auto)]
 
 pub mod args;

@@ -9,8 +9,12 @@ use memchr::memrchr;
 use run_model::memory::OutOfMemory;
 use std::io::{BufRead, BufReader, ErrorKind, Read};
 
-/// Replaces `piece` by the next lines: all whole lines that the reader has buffered, or one line that is longer than its
-/// buffer. The last line feed is left out. It returns false at the end of the file.
+/// Replaces `piece` by the next lines: all whole lines that the reader has buffered, or one line that is longer than
+/// its buffer. The last line feed is left out. It returns false at the end of the file.
+///
+/// # Errors
+///
+/// `CannotRead` with this file if the reader failed, or `OutOfMemory`.
 pub fn next_piece<'a, R: Read>(
     file: &'a str,
     reader: &mut BufReader<R>,
@@ -48,7 +52,6 @@ enum Chunk {
 }
 
 // Takes the whole lines that the reader has buffered, or else its whole buffer.
---
 fn take_at_hand<R: Read>(
     reader: &mut BufReader<R>,
     piece: &mut Vec<u8>,

@@ -74,7 +74,6 @@ fn follow<'a, R: Read + Drop>(
 ) -> Result<RunOutcome, Fault<'a>> {
     let alloc = rt.alloc();
     // A write that a signal interrupts is repeated.
-    --
     let output = RetryInterrupted::new(io::writer(rt));
     let Some(store) = options.store else {
         return follow_scene(alloc, options, reader, output, io::sink()).0;

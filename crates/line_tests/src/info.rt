@@ -1,3 +1,3 @@
-//! The responses of units that are asked what they do.
+//! The responses of units that are asked for their state.
 
 mod state;

@@ -1,7 +1,7 @@
-//! The tests of lines that no scene reaches: a scene cannot spell them, or the program never asks for them. Lines that a scene
-//! reaches are cases of `cases/printed`, with the bytes that nextest printed. The tests are of the crates `text_parts` and `test_text` (in
-//! `event`), `info_text` (in `info`) and `run_text` (in `run`), a file for each of their modules. They have their own crate because a crate with tests is
-//! proved twice.
+//! Tests of lines that no scene leads to: a scene cannot spell them, or the program never prints them. All other
+//! lines are cases of `cases/printed`, with the bytes that nextest printed. The tests are of the crates `text_parts`
+//! and `test_text` (in `event`), `info_text` (in `info`) and `run_text` (in `run`), one file for each of their
+//! modules. They have their own crate because a crate with tests is proved twice.
 #![tactic(auto)]
 
 #[cfg(test)]

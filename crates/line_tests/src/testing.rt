@@ -1,4 +1,5 @@
-//! What the tests share: what a reporter goes by, and the assertion, which is proved anew wherever it stands.
+//! What the tests share: settings of a reporter, and the assertion, which is proved anew at each place where it is
+//! used.
 
 use run_model::config::{CompiledDefaultFilter, CompiledDefaultFilterSection, NextestRunMode};
 use run_model::level::{FinalStatusLevel, StatusLevel};
@@ -10,7 +11,7 @@ use text_parts::settings::{Settings, overrides_for, styles_for, theme_for};
 use unit_report::config::StatusLevels;
 use unit_report::unit_output::{DisplayerKind, UnitOutputReporter};
 
-/// What a reporter without counters goes by.
+/// The settings of a reporter that shows no counters.
 pub fn settings(alloc: Global, should_colorize: bool) -> Result<Settings, Fail> {
     Ok(Settings {
         mode: NextestRunMode::Test,

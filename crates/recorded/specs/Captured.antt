@@ -53,7 +53,7 @@ abbrev pub counted_output : ℕ → StoredOutput → ℕ
 counted_output count (Split stdout stderr) = counted_stream (counted_stream count stdout) stderr
 counted_output count (Combined reference) = counted count reference.len
 
--- the same before the stream in this field is read
+-- that count before the stream in this field is read
 abbrev pub counted_before : StreamField → ℕ → StoredOutput → ℕ
 counted_before First count output = count
 counted_before Second count (Split stdout stderr) = counted_stream count stdout

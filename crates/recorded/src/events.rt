@@ -38,6 +38,11 @@ pub struct LoadEventFault {
 /// assert!(load_outputs(alloc, &decider, &[], &mut outputs, &mut event).is_ok());
 /// assert_eq!(outputs.bytes_read(), 0); // the event has no output
 /// ```
+///
+/// # Errors
+///
+/// The first stored stream that is not there, cannot be read, has another sum, or finds no memory, with its field. The
+/// event may then have some of its outputs.
 #[tactic(auto, unfolding(crate::specs::Events::event_replayed))]
 pub fn load_outputs<O: ReadAt + Drop>(
     alloc: Global,

@@ -75,7 +75,11 @@ pub struct RecordedOutputs<O: ReadAt> {
 }
 
 impl<O: ReadAt + Drop> RecordedOutputs<O> {
-    /// The outputs in this source, of which nothing is read. It asks how many bytes there are, and an error is that of this question.
+    /// The outputs in this source. It requests their length and reads nothing.
+    ///
+    /// # Errors
+    ///
+    /// The error of the request for the length. The source is dropped.
     pub fn new(mut source: O) -> io::Result<RecordedOutputs<O>>
         ensures recorded { IfOk result (λ outputs. O.recorded outputs.source ≡ O.recorded source) }
         ensures count { IfOk result (λ outputs. O.count outputs.source ≡ O.count source) }
@@ -84,15 +88,19 @@ impl<O: ReadAt + Drop> RecordedOutputs<O> {
         Ok(RecordedOutputs { source, len })
     }
 
-    /// How many bytes of the source were read. It stays at `u64::MAX` where it would pass that.
+    /// How many bytes of the source were read. The count saturates at `u64::MAX`.
     pub fn bytes_read(&self) -> u64
         ensures { result ≡ O.count self.now.source }
     {
         self.source.bytes_read()
     }
 
-    /// Whether all bytes that a reference names are there, of which none is read. Where they end behind the last byte that is known, it
-    /// asks anew how many there are, since a run that is still recorded writes more.
+    /// Whether all bytes of a reference are there. It reads none of them. If they end beyond the known length, it
+    /// requests the length again, since a run that is still being recorded writes more.
+    ///
+    /// # Errors
+    ///
+    /// The error of the request for the length.
     pub fn holds(&mut self, reference: &Reference) -> io::Result<bool>
         ensures holds { IfSome (O.recorded self.old.source) (λ all. IfOk result (λ holds. IsTrue holds ↔ (end_of reference.now ≤ length all))) }
         ensures kept { O.recorded self.new.source ≡ O.recorded self.old.source }
@@ -106,8 +114,6 @@ impl<O: ReadAt + Drop> RecordedOutputs<O> {
 
     /// Reads the bytes that a reference names, and no others, into memory of just their size, and checks their sum.
     ///
-    /// Where they are not all there no memory is asked for. [`LoadFault`] says what each fault is.
-    ///
     /// ```
     /// use scene_fields::reference::read_reference;
     /// let reference = read_reference("\\@7:7:ee2a98c236301c76").ok_or("no reference")?;
@@ -116,6 +122,10 @@ impl<O: ReadAt + Drop> RecordedOutputs<O> {
     /// assert_eq!(stream.as_slice(), b"failed\n".as_slice());
     /// assert_eq!(outputs.bytes_read(), 7);
     /// ```
+    ///
+    /// # Errors
+    ///
+    /// Why the bytes were not loaded; see [`LoadFault`]. If they are not all there, no memory is requested.
     #[tactic(auto, using(crate::proofs::lemmas::Streams::not_there, crate::proofs::lemmas::Streams::same_read, crate::proofs::lemmas::Streams::other_read))]
     pub fn load(&mut self, alloc: Global, reference: &Reference) -> Result<Bytes, LoadFault>
         ensures loaded { IfSome (O.recorded self.old.source) (λ all. IsLoaded all reference.now result) }
@@ -158,6 +168,10 @@ impl<O: ReadAt + Drop> RecordedOutputs<O> {
     /// assert!(outputs.load_output(alloc, &stored)?.is_loaded());
     /// assert_eq!(outputs.bytes_read(), 7);
     /// ```
+    ///
+    /// # Errors
+    ///
+    /// The first stream that was not loaded, and why. Standard output comes first.
     pub fn load_output(
         &mut self,
         alloc: Global,

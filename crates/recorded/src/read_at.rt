@@ -23,13 +23,16 @@ pub trait Source {
     ghost read_once: { ℕ → ℕ → Self → Self → Type 0 } = { λ _ _ _ _. ⊤ };
 
     /// How many bytes there are now. A file may grow between two calls.
+    ///
+    /// # Errors
+    ///
+    /// The length cannot be found.
     fn len(&mut self) -> io::Result<u64>
         ensures once { asked self.old self.new }
         ensures kept { recorded self.new ≡ recorded self.old }
         ensures len { IfOk result (λ n. IfSome (recorded self.old) (λ all. n ≡ length all)) };
 
-    /// Fills the buffer with the bytes from this place on, which is counted in bytes. Where there are fewer of them, that is an error, and
-    /// so is a read that fails. What the buffer holds after an error is not said.
+    /// Fills the buffer with the bytes from this offset on.
     ///
     /// ```
     /// let mut outputs = b"passed failed".as_slice();
@@ -38,6 +41,10 @@ pub trait Source {
     /// assert_eq!(&buffer, b"failed");
     /// assert!(outputs.read_at(8, &mut buffer).is_err());
     /// ```
+    ///
+    /// # Errors
+    ///
+    /// There are fewer bytes, or a read failed. The contents of the buffer are then unspecified.
     fn read_at(&mut self, offset: u64, buffer: &mut [u8]) -> io::Result<()>
         ensures once { read_once offset (length buffer.old) self.old self.new }
         ensures kept { recorded self.new ≡ recorded self.old }
@@ -69,7 +76,7 @@ impl<T: AsBytes> Source for Cursor<T> {
     fn read_at(&mut self, offset: u64, buffer: &mut [u8]) -> io::Result<()> {
         self.seek(SeekFrom::Start(offset))?;
         let len = buffer.len();
-        // All the bytes are in memory, so one read gives what there is.
+        // All the bytes are in memory, so one read returns as many as there are.
         if self.read(buffer)? < len {
             return Err(ErrorKind::UnexpectedEof.into());
         }
@@ -77,7 +84,7 @@ impl<T: AsBytes> Source for Cursor<T> {
     }
 }
 
-/// The bytes of a file, wherever it is. No call moves it.
+/// The bytes of a file, from any offset. Calls do not use or move its position.
 impl Source for File {
     fn len(&mut self) -> io::Result<u64> {
         // A seek to the end of a folder would return a number that no file has.
@@ -89,9 +96,9 @@ impl Source for File {
     }
 }
 
-/// Bytes that are read at their position, where each read is counted.
+/// Bytes that are read at an offset, with a count of those that were read.
 ///
-/// What a contract says of [`bytes_read`](ReadAt::bytes_read) holds for every read, wherever it is: there is no other way to the bytes.
+/// There is no other way to the bytes, so what a contract says of [`bytes_read`](ReadAt::bytes_read) covers every read.
 pub trait ReadAt {
     // All the bytes, where they are known.
     ghost recorded: { Self → Option (List ℕ) } = { λ _. None };
@@ -103,20 +110,28 @@ pub trait ReadAt {
     ghost read_once: { ℕ → ℕ → Self → Self → Type 0 } = { λ _ _ _ _. ⊤ };
 
     /// How many bytes there are now, as [`Source::len`] returns it. None is read.
+    ///
+    /// # Errors
+    ///
+    /// The errors of [`Source::len`].
     fn len(&mut self) -> io::Result<u64>
         ensures once { asked self.old self.new }
         ensures kept { recorded self.new ≡ recorded self.old }
         ensures len { IfOk result (λ n. IfSome (recorded self.old) (λ all. n ≡ length all)) }
         ensures count { count self.new ≡ count self.old };
 
-    /// Fills the buffer with the bytes from this place on, as [`Source::read_at`] does, and counts them. A read that fails is not counted.
+    /// Fills the buffer like [`Source::read_at`], and counts the bytes.
+    ///
+    /// # Errors
+    ///
+    /// The errors of [`Source::read_at`]. Nothing is counted.
     fn read_at(&mut self, offset: u64, buffer: &mut [u8]) -> io::Result<()>
         ensures once { read_once offset (length buffer.old) self.old self.new }
         ensures kept { recorded self.new ≡ recorded self.old }
         ensures read { OnOk result (IfSome (recorded self.old) (HasRead offset buffer.new)) }
         ensures count { count self.new ≡ (if is_ok result then counted (count self.old) (length buffer.old) else count self.old) };
 
-    /// How many bytes were read. It stays at `u64::MAX` where it would pass that.
+    /// How many bytes were read. The count saturates at `u64::MAX`.
     fn bytes_read(&self) -> u64
         ensures { result ≡ count self.now };
 }

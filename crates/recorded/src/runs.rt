@@ -50,6 +50,10 @@ pub struct RecordedRun<'a, R, O: ReadAt> {
 impl<'a, R: Read + Drop, O: ReadAt + Drop> RecordedRun<'a, R, O> {
     /// The run whose lines this reader has, and whose outputs these are. It is reported as nextest shows a recorded run, whether or not the
     /// options say so.
+    ///
+    /// # Errors
+    ///
+    /// Memory was refused. The reader and the outputs are dropped.
     pub fn new(
         alloc: Global,
         options: Options<'a>,
@@ -75,7 +79,7 @@ impl<'a, R: Read + Drop, O: ReadAt + Drop> RecordedRun<'a, R, O> {
         })
     }
 
-    /// How many bytes of outputs were read. It stays at `u64::MAX` where it would pass that.
+    /// How many bytes of outputs were read. The count saturates at `u64::MAX`.
     pub fn bytes_read(&self) -> u64
         ensures { result ≡ O.count self.now.outputs.source }
     {
@@ -89,6 +93,11 @@ impl<'a, R: Read + Drop, O: ReadAt + Drop> RecordedRun<'a, R, O> {
     /// position (`spelled`), or of the events with every output put in (`ok`); and the outputs that the report does not show were not read
     /// (`reads`, which is about the count of the outputs' source). The error is that of the first line that is wrong; the report of the lines
     /// before it remains.
+    ///
+    /// # Errors
+    ///
+    /// The fault of the first line that is wrong or of the file of the lines, after which the report of the lines
+    /// before it is complete; or a failed device, or refused memory, after which each device has a prefix.
     pub fn replay<W: Write, S: Write>(
         &mut self,
         alloc: Global,

@@ -1,4 +1,4 @@
-//! Lines of a recorded run, the outputs that are stored of them, and their loading.
+//! Lines of a recorded run, their stored outputs, and how these are loaded.
 
 use crate::testing::{expect_bytes, expect_count, expect_row, expect_text};
 use recorded::{LoadFault, Metered, RecordedOutputs, StreamFault};
@@ -11,12 +11,12 @@ use std::test::Fail;
 // Two streams.
 const OUTPUTS: &[u8] = b"passed\nfailed\n";
 
-// In a line below, PASSED is a reference to the first of them, and FAILED one to the second.
+// In the lines below, PASSED stands for a reference to the first stream, and FAILED for one to the second.
 const PASSED: &str = "\\@0:7:62cd0a585dc2fe91";
 
 const FAILED: &str = "\\@7:7:ee2a98c236301c76";
 
-// Lines, and the place and the first stream's field of each stored output.
+// Lines, and for each stored output the index of its attempt and the field of its first stream.
 const STORED: [(&str, &[(usize, usize)]); 7] = [
     (
         "done\t-\ta\tt\tnever\tfinal\tpass\t-\t1\tfail:1\t5\t0\tsplit\tPASSED\tFAILED\t-\t-",
@@ -43,7 +43,7 @@ const STORED: [(&str, &[(usize, usize)]); 7] = [
         "answer-script\t0\t2\t-\tdb\tinit\t\trunning:4:5:-\t-\tsplit\tFAILED\t\t-\t-",
         &[(0, 11)],
     ),
-    // A text may have escapes of its own.
+    // Other texts of the line may have escapes.
     (
         "retry\t-\ta\t\\x2d\t1\t2\t5\tfinal\tfail:1\t5\t0\tsplit\tPASSED\t\tc\\td\t-",
         &[(0, 13)],
@@ -96,21 +96,21 @@ fn reads_other_lines_as_those_of_a_scene(rt: HostRuntime) -> Result<(), Fail> {
             .replace(alloc, "FAILED", FAILED)?;
         let line = line.as_str().as_bytes();
         let (mut recorded, mut plain) = (LinesRead::new(alloc), LinesRead::new(alloc));
-        let told = match recorded.read_recorded(alloc, line) {
+        let outcome = match recorded.read_recorded(alloc, line) {
             Ok(value) => {
                 recorded.push(value)?;
                 Ok(())
             }
             Err(fault) => Err(fault),
         };
-        expect_row(&rt, told == plain.read_more(alloc, line), short);
+        expect_row(&rt, outcome == plain.read_more(alloc, line), short);
         let is_same = recorded.run.events.len() == plain.run.events.len();
         expect_row(&rt, recorded.stored.is_empty() && is_same, short);
     }
     Ok(())
 }
 
-// A stream that was captured with these bytes, or was not.
+// A captured stream with these bytes; None if it was not captured.
 fn assert_stream(rt: &impl Abort, stream: &Option<ChildSingleOutput>, want: Option<&[u8]>) {
     assert_eq!(rt; stream.as_ref().map(|it| it.as_bytes()), want);
 }
@@ -147,7 +147,7 @@ fn loads_outputs(rt: HostRuntime) -> Result<(), Fail> {
 }
 
 #[test]
-fn tells_which_stream_is_damaged(rt: HostRuntime) -> Result<(), Fail> {
+fn reports_which_stream_is_damaged(rt: HostRuntime) -> Result<(), Fail> {
     let past = "\\@8:7:ee2a98c236301c76";
     let other = "\\@0:7:ee2a98c236301c76";
     let rows = [
@@ -222,8 +222,8 @@ fn a_fault_of_a_stream_has_the_words_of_its_fault(rt: HostRuntime) -> Result<(),
     ];
     for (fault, words) in faults {
         for stream in [StreamField::First, StreamField::Second] {
-            let told = StreamFault { stream, fault };
-            expect_text(&rt, told.to_string(rt.alloc())?.as_str(), words);
+            let fault = StreamFault { stream, fault };
+            expect_text(&rt, fault.to_string(rt.alloc())?.as_str(), words);
         }
     }
     Ok(())

@@ -1,4 +1,5 @@
-//! What the tests assert. An assertion is expanded and proved anew wherever it stands, so each kind stands here once.
+//! The assertions of the tests, one function each: an assertion is expanded and proved anew at each place where it is
+//! used.
 
 use std::process::Abort;
 

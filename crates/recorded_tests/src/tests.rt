@@ -17,7 +17,7 @@ use std::{env, fs, io, process};
 // Two streams.
 const OUTPUTS: &[u8] = b"passed\nfailed\n";
 
-// References to these: to the first, the second, both, and to no byte in front and behind.
+// References to these: to the first, to the second, to both, and to no byte, at the start and at the end.
 const STREAMS: [(&str, &[u8]); 5] = [
     ("\\@0:7:62cd0a585dc2fe91", b"passed\n"),
     ("\\@7:7:ee2a98c236301c76", b"failed\n"),
@@ -26,7 +26,7 @@ const STREAMS: [(&str, &[u8]); 5] = [
     ("\\@14:0:d1fba762150c532c", b""),
 ];
 
-// References whose bytes are not all there, however many are asked for.
+// References that end beyond the outputs.
 const PAST_END: [&str; 5] = [
     "\\@8:7:ee2a98c236301c76",
     "\\@15:0:d1fba762150c532c",
@@ -43,7 +43,7 @@ const WRONG_SUM: [&str; 4] = [
     "\\@0:0:62cd0a585dc2fe91",
 ];
 
-// The reference that a field writes.
+// The reference in a field.
 fn reference(field: &str) -> Result<Reference, Fail> {
     Ok(read_reference(field).ok_or("a reference")?)
 }
@@ -107,7 +107,7 @@ fn refuses_what_is_no_reference(rt: HostRuntime) {
     }
 }
 
-// A reference that is loaded from the outputs, and that the reads are counted.
+// Checks a reference that can be loaded, and that its read bytes are counted.
 fn expect_stream<O: ReadAt + Drop>(
     rt: &impl Abort,
     alloc: Global,
@@ -125,7 +125,7 @@ fn expect_stream<O: ReadAt + Drop>(
     Ok(())
 }
 
-// One that is not: nothing is read past the end, and all of what has another sum.
+// Checks a reference that cannot be loaded: of one beyond the end nothing is read, and of one with another sum all.
 fn expect_no_stream<O: ReadAt + Drop>(
     rt: &impl Abort,
     alloc: Global,
@@ -195,14 +195,14 @@ fn loads_from_a_file(rt: HostRuntime) -> Result<(), Fail> {
     let path = env::temp_dir(&rt)?.join(alloc, name.as_str())?;
     let mut written = File::create(&rt, path.as_path())?;
     let file = File::open(&rt, path.as_path())?;
-    // Both stay open, and nothing is left of it in the folder.
+    // Both handles stay open while the file is removed from its folder.
     fs::remove_file(&rt, path.as_path())?;
     written.write_all(&OUTPUTS[..7])?;
     let mut outputs = RecordedOutputs::new(Metered::new(file))?;
     assert!(rt; !outputs.holds(&reference(STREAMS[1].0)?)?);
     written.write_all(&OUTPUTS[7..])?;
     check_loads(&rt, alloc, &mut outputs)?;
-    // What was cut off is missed by the read: the length is asked for no more.
+    // The file was cut, which only the read notices: the length is not requested again.
     written.set_len(9)?;
     let cut = fault_of(alloc, &mut outputs, &reference(STREAMS[1].0)?);
     let is_missed = cut == Some(LoadFault::CannotRead(ErrorKind::UnexpectedEof));
@@ -212,7 +212,7 @@ fn loads_from_a_file(rt: HostRuntime) -> Result<(), Fail> {
 
 #[test]
 fn a_file_that_gives_little_at_once_is_read_on(rt: HostRuntime) -> Result<(), Fail> {
-    // Linux gives a page of this file at most, however much is asked for.
+    // Linux returns at most a page of this file per read.
     let mut file = File::open(&rt, Path::new("/proc/self/smaps"))?;
     let mut buffer = [0; 6_000];
     file.read_at(0, &mut buffer)?;
@@ -240,7 +240,7 @@ fn asks_anew_how_many_bytes_there_are(rt: HostRuntime) -> Result<(), Fail> {
     let mut outputs = RecordedOutputs::new(Metered::new(Growing::new(OUTPUTS, &[0, 7, 13, 14])))?;
     let [first, second] = [reference(STREAMS[0].0)?, reference(STREAMS[1].0)?];
     assert!(rt; outputs.holds(&first)?);
-    // It knows by now that the first is there, and asks for the second alone.
+    // The first is known to be there by now, so the length is requested for the second alone.
     assert!(rt; outputs.holds(&first)? && !outputs.holds(&second)?);
     let (field, stream) = STREAMS[1];
     expect_bytes(
@@ -253,7 +253,7 @@ fn asks_anew_how_many_bytes_there_are(rt: HostRuntime) -> Result<(), Fail> {
     Ok(())
 }
 
-// What becomes of outputs of which a call fails: made, asked for a stream that is not there, and one loaded twice.
+// Makes outputs over a source that fails, and loads from them a stream that is not there, and one stream twice.
 fn use_failing(
     alloc: Global,
     source: Failing<'_>,
@@ -268,14 +268,14 @@ fn use_failing(
 }
 
 #[test]
-fn tells_of_each_call_that_fails(rt: HostRuntime) -> Result<(), Fail> {
+fn reports_each_call_that_fails(rt: HostRuntime) -> Result<(), Fail> {
     let [first, past] = [reference(STREAMS[0].0)?, reference(PAST_END[0])?];
     for (kind, row) in [
         (ErrorKind::Other, "other"),
         (ErrorKind::OutOfMemory, "out of memory"),
         (ErrorKind::Interrupted, "interrupted"),
     ] {
-        // There are four calls: two questions and two reads.
+        // There are four calls: two requests for the length and two reads.
         for calls in 0..4 {
             let source = Failing::new(OUTPUTS, calls, kind);
             let used = use_failing(rt.alloc(), source, &first, &past);
@@ -305,7 +305,7 @@ fn a_call_that_fails_leaves_the_outputs_as_they_were(rt: HostRuntime) -> Result<
 }
 
 #[test]
-fn bytes_that_are_told_and_missing_are_an_error(rt: HostRuntime) -> Result<(), Fail> {
+fn bytes_that_are_counted_and_missing_are_an_error(rt: HostRuntime) -> Result<(), Fail> {
     let (field, missing) = (
         STREAMS[0].0,
         LoadFault::CannotRead(ErrorKind::UnexpectedEof),

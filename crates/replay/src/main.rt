@@ -1,8 +1,8 @@
 //! The program `replay`: it prints nextest's console report of a recorded run. It reads only the output that the report
 //! shows.
 //!
-//! Its exit status is that of the run, as with `follow`: 0 for a success, 100 for a failure, 4 if no test ran, and 3 for
-//! a run that did not end. An error is one line on standard error and a status.
+//! Its exit status is that of the run, as with `follow`: 0 for a success, 100 for a failure, 4 if no test ran, and 3
+//! for a run that did not end. An error is one line on standard error and a status.
 #![tactic(auto)]
 
 use recorded::{Metered, RecordedOutputs, RecordedRun};
@@ -97,7 +97,6 @@ fn replay<'a>(
     } = files;
     let mut run = RecordedRun::new(alloc, options, lines, outputs)?;
     // A write that a signal interrupts is repeated.
-    --
     let output = RetryInterrupted::new(io::writer(rt));
     let Some(store) = options.store else {
         return run.replay(alloc, output, io::sink()).0;

@@ -1,4 +1,4 @@
-//! The tests of recorded runs that are replayed. They are beside `recorded_tests`, and not in it, so that both are proved at a time.
+//! The tests of replayed runs. They are not in `recorded_tests`, so that the two crates can be proved in parallel.
 #![tactic(auto)]
 
 #[cfg(test)]

@@ -1,4 +1,4 @@
-//! Recorded runs that are replayed, with what is read of their outputs.
+//! Replayed runs, and how many bytes of their outputs are read.
 
 use crate::testing::{expect_bytes, expect_row, expect_text};
 use recorded::{Metered, RecordedOutputs, RecordedRun, Source};
@@ -15,7 +15,7 @@ use store_text::config::StoreConfig;
 // Two streams.
 const OUTPUTS: &[u8] = b"passed\nfailed\n";
 
-// In a line below, PASSED is a reference to the first of them, and FAILED one to the second.
+// In the lines below, PASSED stands for a reference to the first stream, and FAILED for one to the second.
 const PASSED: &str = "\\@0:7:62cd0a585dc2fe91";
 
 const FAILED: &str = "\\@7:7:ee2a98c236301c76";
@@ -52,7 +52,7 @@ const fn storing(store_success_output: bool, store_failure_output: bool) -> Opti
     }
 }
 
-// What a replay came to, what it printed and stored, and how many bytes of outputs it read.
+// The outcome of a replay, what it printed and stored, and how many bytes of outputs it read.
 #[derive(Drop)]
 struct Replayed<'a> {
     outcome: Result<RunOutcome, Fault<'a>>,
@@ -78,7 +78,7 @@ fn replay<'a, O: Source + Drop>(
     })
 }
 
-// The run with these in place of its references.
+// The run with these texts in place of PASSED and FAILED.
 fn lines_with(alloc: Global, passed: &str, failed: &str) -> Result<String, AllocError> {
     RUN.replace(alloc, "PASSED", passed)?
         .replace(alloc, "FAILED", failed)
@@ -128,7 +128,7 @@ fn reads_what_is_shown_or_stored(rt: HostRuntime) -> Result<(), Fail> {
 }
 
 #[test]
-fn tells_damaged_outputs_by_line_and_field(rt: HostRuntime) -> Result<(), Fail> {
+fn reports_damaged_outputs_by_line_and_field(rt: HostRuntime) -> Result<(), Fail> {
     let alloc = rt.alloc();
     let past = "\\@8:7:ee2a98c236301c76";
     let other = "\\@0:7:ee2a98c236301c76";
@@ -136,7 +136,7 @@ fn tells_damaged_outputs_by_line_and_field(rt: HostRuntime) -> Result<(), Fail> 
     let rows = [
         (PASSED, FAILED, None),
         (empty, empty, None),
-        // The sum of an output that is skipped is not looked at, but its bytes must be there.
+        // The sum of an output that is not shown is not checked, but its bytes must be there.
         (other, FAILED, None),
         (past, FAILED, Some((3, 14))),
         (PASSED, other, Some((4, 15))),
@@ -191,7 +191,7 @@ fn takes_a_line_that_was_cut_for_none(rt: HostRuntime) -> Result<(), Fail> {
     Ok(())
 }
 
-// Outputs of a known length, of which no read gives a byte.
+// Outputs of a known length of which no byte can be read.
 #[derive(Drop)]
 struct Unreadable {
     kind: ErrorKind,
@@ -208,7 +208,7 @@ impl Source for Unreadable {
 }
 
 #[test]
-fn tells_that_outputs_cannot_be_read(rt: HostRuntime) -> Result<(), Fail> {
+fn reports_that_outputs_cannot_be_read(rt: HostRuntime) -> Result<(), Fail> {
     let alloc = rt.alloc();
     let lines = lines_with(alloc, PASSED, FAILED)?;
     let report = replay(alloc, &OPTIONS, lines.as_str(), OUTPUTS)?.printed;
@@ -235,8 +235,8 @@ fn tells_that_outputs_cannot_be_read(rt: HostRuntime) -> Result<(), Fail> {
     Ok(())
 }
 
-// A line with backslashes and no reference, and one of 89 fields: of its ten attempts the first, the fifth and the last are stored, and
-// streams of no byte are among them. Of the first one a stream has another sum, which is not looked at.
+// A line with backslashes and no reference, and a line of 89 fields. Of its ten attempts the first, the fifth and the
+// last have stored outputs, some of them empty. A stream of the first has another sum, which is not checked.
 const MUCH: &str = "config\tfinal\tfail\n\
 setup\t-\t0\t1\tdb\t./start\\\\db\t\\x2d\n\
 done\t-\talpha\tt1\tnever\timmediate-final\tpass\tinitial=1 finished=1 failed=1\t10\

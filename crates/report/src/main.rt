@@ -1,7 +1,8 @@
 //! The program `report`: it reads a scene, which is a run written as text, and prints nextest's console report of it.
 //!
-//! With `--store PATH` it writes a record of each finished test to that file. An error is one line on standard error and
-//! an exit status. Standard output stays empty unless the whole scene was accepted and PATH was created or emptied.
+//! With `--store PATH` it writes a record of each finished test to that file. An error is one line on standard error
+//! and an exit status. Standard output stays empty unless the whole scene was accepted and PATH was created or
+//! emptied.
 #![tactic(auto)]
 
 use scenes::args::{Options, words};
@@ -53,7 +54,6 @@ fn run<'a>(rt: &HostRuntime, args: &'a [String]) -> Result<(), Fault<'a>> {
         return report_accepted(alloc, &judged, output, io::sink()).0;
     };
     // The scene has been read to its end, so the file of the records may even be the scene's own file.
-    --
     let records = match create_store(rt, store.file, &[]) {
         Ok(records) => records,
         Err(fault) => return Err(fault),

@@ -63,7 +63,6 @@ read_fault_of (fault.Line n f) = read.Line n f
 read_fault_of _ = read.OutOfMemory
 
 -- There is no report: the program reports a fault of this line, or memory was refused.
---
 abbrev pub IsUnreported : Options → List ℕ → ReadFault → Type 0
 IsUnreported options text (read.Line n f) = IsJudged options (Err (fault.Line n f)) text
 IsUnreported options text read.OutOfMemory = ⊤

@@ -22,8 +22,8 @@ pub struct NorigullyOptions {
     pub show_counter: bool,
     /// Whether the report is one of a recorded run that is replayed.
     pub is_replay: bool,
-    /// The status level from which on the lines of tests are shown: 0 none, 1 fail, 2 retry, 3 slow, 4 leak, 5 pass, 6 skip,
-    /// 7 all.
+    /// The status level from which on the lines of tests are shown: 0 none, 1 fail, 2 retry, 3 slow, 4 leak, 5 pass,
+    /// 6 skip, 7 all.
     pub status_level: u32,
 }
 
@@ -35,8 +35,8 @@ pub struct NorigullyOutcome {
     pub length: usize,
     /// The number of the wrong line, from 1, if the status is 2, and otherwise 0.
     pub line: u64,
-    /// 0 if the report is in the buffer. Otherwise 1 if the report is longer than the buffer, 2 if a line of the scene is
-    /// wrong, 3 if memory was refused, and 4 if there is no such status level.
+    /// 0 if the report is in the buffer. Otherwise 1 if the report is longer than the buffer, 2 if a line of the
+    /// scene is wrong, 3 if memory was refused, and 4 if there is no such status level.
     pub status: u32,
 }
 
@@ -53,8 +53,8 @@ const UNKNOWN_LEVEL: u32 = 4;
 /// Writes the report of a scene to the front of a buffer. The whole scene is checked before a byte is written. If the
 /// status is not 0, the buffer is unchanged.
 ///
-/// The length of a scene does not bound that of its report. A caller starts with a buffer of some size. If the status is
-/// 1, it calls again with a buffer of `length` bytes.
+/// The length of a scene does not bound that of its report. A caller starts with a buffer of some size. If the status
+/// is 1, it calls again with a buffer of `length` bytes.
 ///
 /// ```
 /// let options = NorigullyOptions { should_colorize: false, show_counter: false, is_replay: false, status_level: 5 };
@@ -104,7 +104,6 @@ pub extern "C" fn norigully_report(
 }
 
 // An outcome without a report.
---
 fn failed(status: u32, line: u64) -> NorigullyOutcome
     ensures status { result.status ≡ status }
     ensures line { result.line ≡ line }

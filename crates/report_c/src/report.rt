@@ -51,6 +51,10 @@ fn read_level(number: u32) -> Option<StatusLevel>
 }
 
 /// The report of the run that a text spells.
+///
+/// # Errors
+///
+/// The first line that is wrong or whose event is refused, or `OutOfMemory`.
 pub fn report_of(alloc: Global, options: &Options<'_>, text: &[u8]) -> Result<Vec<u8>, ReadFault>
     ensures report { IfOk result (λ report. OfText text.now (Prints device device options.now (Some [], None) (Some report.items, None))) }
     ensures fault { IfErr result (IsUnreported options.now text.now) }
@@ -69,7 +73,6 @@ pub fn report_of(alloc: Global, options: &Options<'_>, text: &[u8]) -> Result<Ve
 }
 
 // The error as a wrong line, or else as refused memory: a report to memory has no other error.
---
 fn read_fault_of(fault: &Fault<'_>) -> ReadFault
     ensures { result ≡ read_fault_of fault.now }
 {

@@ -1,4 +1,4 @@
-//! Events one by one: one that is refused, and one whose text a device has no room for.
+//! Single events: one that is refused, and one whose text a device has no room for.
 
 use crate::runs::{TWO_TESTS, run_started};
 use crate::testing::{line_builder, retried_success, write_event};
@@ -25,15 +25,15 @@ fn start_after_refused(alloc: Global, refused: &TestEvent<'_>) -> Result<(), Fai
     tried
 }
 
-// Tests have no lines, so that no text comes before the refusal.
+// The level shows no lines of tests, so there is no text before the refusal.
 fn write_both(alloc: Global, refused: &TestEvent<'_>, next: &TestEvent<'_>) -> Result<(), Fail> {
     let builder = line_builder(alloc, StatusLevel::None)?;
     let mut report = String::new(alloc);
     let mut reporter = builder.build_for(alloc, &mut report, Surroundings::default());
-    let answer = write_event(&mut reporter, refused);
-    let next_answer = write_event(&mut reporter, next);
+    let outcome = write_event(&mut reporter, refused);
+    let next_outcome = write_event(&mut reporter, next);
     let _parts = reporter.into_parts();
-    if answer != Err(WriteEventError::RetriedSuccess) || next_answer != Ok(()) {
+    if outcome != Err(WriteEventError::RetriedSuccess) || next_outcome != Ok(()) {
         return Err(Fail::from("the event was not refused, or the next one was"));
     }
     if TWO_TESTS.report.first().copied() != Some(report.as_str()) {
@@ -54,10 +54,10 @@ fn write_without_room(alloc: Global, event: &TestEvent<'_>) -> Result<(), Fail> 
     let builder = line_builder(alloc, StatusLevel::Pass)?;
     let mut report = TextBuffer::new(alloc, Device::with_room(alloc, 10)?)?;
     let mut reporter = builder.build_for(alloc, &mut report, Surroundings::default());
-    let answer = write_event(&mut reporter, event);
+    let outcome = write_event(&mut reporter, event);
     let later = [write_event(&mut reporter, event), reporter.finish()];
     let _parts = reporter.into_parts();
-    if answer != Err(WriteEventError::Io) || later != [Err(WriteEventError::Failed); 2] {
+    if outcome != Err(WriteEventError::Io) || later != [Err(WriteEventError::Failed); 2] {
         return Err(Fail::from("the device did not fail, or the report went on"));
     }
     let (device, _) = report.into_inner();

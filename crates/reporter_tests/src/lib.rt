@@ -1,6 +1,7 @@
-//! The tests of the crate `console_reporter` that no scene reaches: devices that fail under a reporter, memory that is refused, a refused
-//! event between others, the recorded forms of events, and what the decider returns for these. What a reporter prints are cases of
-//! `cases/printed`, `cases/program` and `cases/fields`. The tests have their own crate because a crate with tests is proved twice.
+//! Tests of the crate `console_reporter` for what no scene leads to: devices that fail, memory that is refused, a
+//! refused event between others, the recorded forms of events, and what the decider returns for these. What a
+//! reporter prints is covered by `cases/printed`, `cases/program` and `cases/fields`. The tests have their own crate
+//! because a crate with tests is proved twice.
 #![tactic(auto)]
 
 #[cfg(test)]

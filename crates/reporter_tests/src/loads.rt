@@ -23,7 +23,7 @@ const FAILURES: StoreConfig = StoreConfig {
     store_failure_output: true,
 };
 
-// What a test came to.
+// The result of a test.
 #[derive(Clone, Copy)]
 enum Outcome {
     Passed,
@@ -62,15 +62,15 @@ fn leaky_script<'a>(alloc: Global, leak: LeakTimeoutResult) -> Result<TestEvent<
     script_finished(alloc, outcome, output)
 }
 
-// The decision for an event's recorded form, and why a reporter refuses the event, as it is and without its output.
-type Answer = (LoadOutput, [Option<WriteEventError>; 2]);
+// The decision for an event's recorded form, and the error of a reporter for the event with its output and without.
+type Decision = (LoadOutput, [Option<WriteEventError>; 2]);
 
-// None of events that have no output.
-fn answer_of(
+// None for an event that has no output.
+fn decision_of(
     alloc: Global,
     decider: &OutputLoadDecider,
     event: TestEvent<'_>,
-) -> Result<Option<Answer>, OutOfMemory> {
+) -> Result<Option<Decision>, OutOfMemory> {
     let recorded = event.recorded(alloc);
     let as_it_is = decider.refusal_of(&event);
     let mut event = event;
@@ -80,21 +80,21 @@ fn answer_of(
     let Some(kind) = recorded? else {
         return Ok(None);
     };
-    let answer = decider.should_load_output(&kind);
+    let decision = decider.should_load_output(&kind);
     mem::forget(kind);
-    Ok(Some((answer, [as_it_is, unread])))
+    Ok(Some((decision, [as_it_is, unread])))
 }
 
-// The same decision for a live event: if its output is loaded, it is refused without.
-fn both(answer: LoadOutput) -> Option<Answer> {
-    match answer {
+// The same decision for a live event. If its output has to be loaded, the event is refused without it.
+fn both(decision: LoadOutput) -> Option<Decision> {
+    match decision {
         LoadOutput::Load => Some((LOAD, [None, Some(WriteEventError::OutputNotLoaded)])),
         LoadOutput::Skip => Some((SKIP, [None, None])),
     }
 }
 
-// Whether a reporter of this level and store decides so.
-fn is_answered(
+// Whether a reporter with this level and store makes this decision.
+fn decides(
     alloc: Global,
     status_level: StatusLevel,
     store: Option<StoreConfig>,
@@ -103,7 +103,7 @@ fn is_answered(
 ) -> Result<bool, OutOfMemory> {
     let builder = line_builder(alloc, status_level)?;
     let decider = builder.output_load_decider(Surroundings::default(), store);
-    Ok(answer_of(alloc, &decider, event)? == both(want))
+    Ok(decision_of(alloc, &decider, event)? == both(want))
 }
 
 #[test]
@@ -123,7 +123,7 @@ fn tests_that_finished(rt: HostRuntime) -> Result<(), Fail> {
         (beside_store, Outcome::ExecFailed, [NEVER, NEVER], LOAD),
     ] {
         let event = finished(test.as_ref(), displays, outcome.statuses(rt.alloc())?);
-        assert!(rt; is_answered(rt.alloc(), StatusLevel::Pass, store, event, want)?);
+        assert!(rt; decides(rt.alloc(), StatusLevel::Pass, store, event, want)?);
     }
     Ok(())
 }
@@ -134,7 +134,7 @@ fn attempts_that_are_retried(rt: HostRuntime) -> Result<(), Fail> {
     for (status_level, want) in [(StatusLevel::Fail, SKIP), (StatusLevel::Retry, LOAD)] {
         let failed = ExecuteStatus::failed(1, Nanos::from_secs(1));
         let event = retried(test.as_ref(), failed);
-        assert!(rt; is_answered(rt.alloc(), status_level, None, event, want)?);
+        assert!(rt; decides(rt.alloc(), status_level, None, event, want)?);
     }
     Ok(())
 }
@@ -146,12 +146,12 @@ fn setup_scripts(rt: HostRuntime) -> Result<(), Fail> {
         (LeakTimeoutResult::Fail, LOAD),
     ] {
         let event = leaky_script(rt.alloc(), leak)?;
-        assert!(rt; is_answered(rt.alloc(), StatusLevel::Pass, None, event, want)?);
+        assert!(rt; decides(rt.alloc(), StatusLevel::Pass, None, event, want)?);
     }
     Ok(())
 }
 
-// A test that failed, the same with its output left unread, and an attempt that succeeded and is said to be retried.
+// A test that failed, that test without its output, and an attempt that succeeded and is retried.
 fn calls_to_refuse<'a>(
     alloc: Global,
     test: TestInstanceId<'a>,

@@ -1,5 +1,5 @@
-//! Copies of events in their recorded form. They hold texts, whose memory may be refused: `scripts/check-faults` runs these tests once
-//! for each growth, which is refused then.
+//! Copies of events in their recorded form. They allocate: `scripts/check-faults` runs these tests once for each
+//! allocation, which it refuses.
 
 use crate::runs::run_started;
 use crate::testing::{finished, retried, script_finished};

@@ -1,6 +1,6 @@
-//! Three runs, and what each of their calls adds to the report and the store: two tests from their start to their summary, a run that is
-//! cancelled twice, and a test that responds. The tests run them over devices that fail and over memory that is refused.
-//! A function here holds little over a `?`, and lends the rest: what is held there makes its proof long.
+//! Three runs, with what each of their calls adds to the report and the records: two tests from their start to their
+//! summary, a run that is cancelled twice, and a test that responds. The tests run them with devices that fail and with
+//! memory that is refused. The functions here own little across a `?`, which keeps their proofs short.
 
 #[cfg(test)]
 mod faults;
@@ -19,11 +19,11 @@ use std::test::Fail;
 /// What is tried with each run.
 #[derive(Clone, Copy)]
 pub enum Trial {
-    /// Each call of a device fails.
+    /// Each call of a device fails once.
     Faults,
     /// The report and the records grow.
     Strings,
-    /// They are gathered for devices.
+    /// The report and the records are buffered for devices.
     Buffers,
     /// The prefix of the run's id comes first.
     Prefix,
@@ -44,7 +44,7 @@ pub struct Texts {
     pub records: &'static [&'static str],
 }
 
-/// Those of the run of two tests.
+/// The texts of `two_tests`.
 pub const TWO_TESTS: Texts = Texts {
     report: &[
         "------------
@@ -66,7 +66,7 @@ pub const TWO_TESTS: Texts = Texts {
     ],
 };
 
-// Those of `cancelled`.
+// The texts of `cancelled`.
 const CANCELLED: Texts = Texts {
     report: &[
         "  Cancelling due to interrupt\n",
@@ -80,8 +80,8 @@ warning: 1/2 tests were not run due to signal
     records: &["", "", "1:a,2:t1,4:FAIL,5:boom\n,\n", ""],
 };
 
-// Those of `answer`.
-const ANSWER: Texts = Texts {
+// The texts of `response`.
+const RESPONSE: Texts = Texts {
     report: &[
         "
 * 1/1:    a t1
@@ -130,7 +130,7 @@ fn try_both<'a>(
 
 fn try_one_test(alloc: Global, trial: Trial, test: TestInstanceId<'_>) -> Result<(), Fail> {
     try_cancelled(alloc, trial, test)?;
-    try_answer(alloc, trial, test)
+    try_response(alloc, trial, test)
 }
 
 fn try_cancelled(alloc: Global, trial: Trial, test: TestInstanceId<'_>) -> Result<(), Fail> {
@@ -141,15 +141,15 @@ fn try_cancelled(alloc: Global, trial: Trial, test: TestInstanceId<'_>) -> Resul
     tried
 }
 
-fn try_answer(alloc: Global, trial: Trial, test: TestInstanceId<'_>) -> Result<(), Fail> {
+fn try_response(alloc: Global, trial: Trial, test: TestInstanceId<'_>) -> Result<(), Fail> {
     let output = Boxed::new(alloc, written_so_far(alloc)?)?;
-    let calls = [answer(alloc, test, output)?];
-    let tried = try_run(alloc, trial, test, &calls, ANSWER);
+    let calls = [response(alloc, test, output)?];
+    let tried = try_run(alloc, trial, test, &calls, RESPONSE);
     mem::forget(calls);
     tried
 }
 
-// Tries a run, of which this is a test.
+// Tries a run; `test` is one of its tests.
 fn try_run(
     alloc: Global,
     trial: Trial,
@@ -189,7 +189,7 @@ fn two_tests<'a>(
     ]
 }
 
-// A run that is cancelled by an interrupt and by a signal, after which a test fails that wrote this.
+// A run that is cancelled by an interrupt and then by a signal. Then a test with this output fails.
 fn cancelled<'a>(
     alloc: Global,
     test: TestInstanceId<'a>,
@@ -211,7 +211,7 @@ fn cancelled<'a>(
 }
 
 // The response of a test with this output when it is asked for its state.
-fn answer<'a>(
+fn response<'a>(
     alloc: Global,
     test: TestInstanceId<'a>,
     output: Boxed<ChildExecutionOutputDescription<LiveSpec>>,
@@ -284,7 +284,7 @@ fn written_so_far(alloc: Global) -> Result<ChildExecutionOutputDescription<LiveS
     })
 }
 
-/// Makes calls on a reporter without a store. It has no clause, as those of `testing`.
+/// Makes calls on a reporter without a store. It has no contract, like the functions of `testing`.
 pub fn run_alone<W: WriteStr>(
     alloc: Global,
     report: &mut W,
@@ -316,7 +316,7 @@ pub fn front_len(texts: &[&str], number: usize) -> usize {
     len
 }
 
-/// Whether these bytes are a beginning of these texts, one after another.
+/// Whether these bytes are a prefix of these texts, joined.
 pub fn begin(bytes: &[u8], texts: &[&str]) -> bool {
     let mut rest = bytes;
     for text in texts {

@@ -1,6 +1,6 @@
-//! What the tests share: events, and calls of a reporter that have no clause: the proof of a test that makes several calls would hold the
-//! reporter's clauses for each. What drops an event or a reporter is proved in each crate that does so: the tests give reporters back as
-//! their writers, and let events go undropped.
+//! What the tests share: events, and calls of a reporter without contracts, so that the proof of a test with several
+//! calls does not have to carry the reporter's contract for each. The tests drop neither events nor reporters, whose
+//! drop would be proved once more here: they turn reporters into their writers, and forget events.
 
 use console_reporter::prelude::*;
 use run_model::name::{ProgramName, ScriptId};
@@ -23,7 +23,7 @@ pub fn line_builder(
     Ok(builder)
 }
 
-/// The end of a test of one attempt, whose output is shown so.
+/// The end of a test of one attempt; `display` says when its output is shown.
 pub fn ended<'a>(
     alloc: Global,
     test_instance: TestInstanceId<'a>,
@@ -37,7 +37,7 @@ pub fn ended<'a>(
     )
 }
 
-/// The end of a test, with how its output is shown where it succeeded and where it failed.
+/// The end of a test, with when its output is shown if it succeeded and if it failed.
 pub fn finished<'a>(
     test_instance: TestInstanceId<'a>,
     displays: [TestOutputDisplay; 2],
@@ -74,7 +74,7 @@ pub fn retried<'a>(
     }
 }
 
-/// An attempt that succeeded, after which another one is said to follow: a reporter refuses it.
+/// An attempt that succeeded and is retried, which a reporter refuses.
 pub fn retried_success<'a>(test_instance: TestInstanceId<'a>) -> TestEvent<'a> {
     retried(test_instance, ExecuteStatus::passed(Nanos::from_secs(1)))
 }
@@ -102,7 +102,7 @@ pub fn script_finished<'a>(
     })
 }
 
-/// Hands an event to a reporter.
+/// Reports an event.
 pub fn write_event<W: WriteStr, S: WriteStr>(
     reporter: &mut DisplayReporter<'_, W, S>,
     event: &TestEvent<'_>,
@@ -124,31 +124,31 @@ pub fn make_call<W: WriteStr, S: WriteStr>(
 
 /// The results of a reporter's calls.
 #[derive(Clone, Copy)]
-pub struct Answers {
-    /// Where the first of them failed, if one did.
+pub struct CallResults {
+    /// The index of the first call that failed, if one did.
     pub outcome: Result<(), RunFault>,
     /// Whether all after that one returned that the report has failed.
     pub are_silent: bool,
 }
 
-impl Answers {
+impl CallResults {
     /// The result of a run, which stops at the first fault.
-    pub fn to_run(outcome: Result<(), RunFault>) -> Answers {
-        Answers {
+    pub fn to_run(outcome: Result<(), RunFault>) -> CallResults {
+        CallResults {
             outcome,
             are_silent: true,
         }
     }
 
     // With the result of the call at this index.
-    fn and(self, position: usize, answer: Result<(), WriteEventError>) -> Answers {
-        match (self.outcome, answer) {
-            (Ok(()), Err(fault)) => Answers {
+    fn and(self, position: usize, returned: Result<(), WriteEventError>) -> CallResults {
+        match (self.outcome, returned) {
+            (Ok(()), Err(fault)) => CallResults {
                 outcome: Err(RunFault { position, fault }),
                 ..self
             },
-            (Err(_), answer) => Answers {
-                are_silent: self.are_silent && answer == Err(WriteEventError::Failed),
+            (Err(_), returned) => CallResults {
+                are_silent: self.are_silent && returned == Err(WriteEventError::Failed),
                 ..self
             },
             (Ok(()), Ok(())) => self,
@@ -156,15 +156,15 @@ impl Answers {
     }
 }
 
-/// Makes these calls, also those after one that failed, and ends the report.
+/// Makes all these calls, even after one that failed, and ends the report.
 pub fn make_calls<W: WriteStr, S: WriteStr>(
     alloc: Global,
     reporter: &mut DisplayReporter<'_, W, S>,
     calls: &[ReportCall<'_>],
-) -> Answers {
-    let mut answers = Answers::to_run(Ok(()));
+) -> CallResults {
+    let mut results = CallResults::to_run(Ok(()));
     for (position, call) in calls.iter().enumerate() {
-        answers = answers.and(position, make_call(alloc, reporter, call));
+        results = results.and(position, make_call(alloc, reporter, call));
     }
-    answers.and(calls.len(), reporter.finish())
+    results.and(calls.len(), reporter.finish())
 }

@@ -36,6 +36,10 @@ use std::alloc::Global;
 type Line<T> = Result<T, LineError>;
 
 /// Reads a `config` line: a key and its value. The last line of a key counts.
+///
+/// # Errors
+///
+/// The first fault of the line.
 #[tactic(auto, unfolding(crate::specs::Lines::config_line_fields))]
 pub fn read_config(fields: &mut Fields<'_>, config: SceneConfig) -> Result<SceneConfig, LineFault>
     ensures { config_line_fields config fields.old ≡ answered result fields.new }
@@ -57,6 +61,10 @@ pub fn read_config(fields: &mut Fields<'_>, config: SceneConfig) -> Result<Scene
 }
 
 /// Reads a `run` line: run id, profile, how many tests and binaries, and what is skipped.
+///
+/// # Errors
+///
+/// The first fault of the line, or refused memory.
 pub fn read_run(alloc: Global, fields: &mut Fields<'_>) -> Line<SceneEvent>
     ensures { Gives (λ e. e) fields.old result fields.new run_line_fields }
 {
@@ -73,6 +81,10 @@ pub fn read_run(alloc: Global, fields: &mut Fields<'_>) -> Line<SceneEvent>
 }
 
 /// Reads an `end` line: how long the run took, its statistics, and the tests that were not seen.
+///
+/// # Errors
+///
+/// The first fault of the line, or refused memory.
 pub fn read_end(alloc: Global, fields: &mut Fields<'_>) -> Line<SceneEvent>
     ensures { Gives (λ e. e) fields.old result fields.new end_line_fields }
 {
@@ -86,6 +98,10 @@ pub fn read_end(alloc: Global, fields: &mut Fields<'_>) -> Line<SceneEvent>
 
 /// Reads an `endstress` line: how long the run took, how many iterations have finished, succeeded and failed, the
 /// statistics of the last one, and the tests that were not seen.
+///
+/// # Errors
+///
+/// The first fault of the line, or refused memory.
 pub fn read_end_stress(alloc: Global, fields: &mut Fields<'_>) -> Line<SceneEvent>
     ensures { Gives (λ e. e) fields.old result fields.new end_stress_line_fields }
 {
@@ -118,6 +134,10 @@ fn read_not_seen(alloc: Global, fields: &mut Fields<'_>) -> Line<Option<NotSeen>
 }
 
 /// Reads a `prefix` line: the part of the run's id that no other run has, and the rest.
+///
+/// # Errors
+///
+/// The first fault of the line, or refused memory.
 pub fn read_prefix(alloc: Global, fields: &mut Fields<'_>) -> Line<SceneEvent>
     ensures { Gives (λ e. e) fields.old result fields.new prefix_line_fields }
 {
@@ -128,6 +148,10 @@ pub fn read_prefix(alloc: Global, fields: &mut Fields<'_>) -> Line<SceneEvent>
 }
 
 /// Reads a `header` line: the run's id, its prefix and the rest, when it started, and how it ended.
+///
+/// # Errors
+///
+/// The first fault of the line, or refused memory.
 pub fn read_header(alloc: Global, fields: &mut Fields<'_>) -> Line<SceneEvent>
     ensures { Gives (λ e. e) fields.old result fields.new header_line_fields }
 {
@@ -175,6 +199,10 @@ fn read_description(alloc: Global, field: &str) -> Result<Option<DescriptionText
 }
 
 /// Reads a `cancel` or `kill` line: how many setup scripts and tests run, and the reason.
+///
+/// # Errors
+///
+/// The first fault of the line, or refused memory.
 pub fn read_cancel(alloc: Global, fields: &mut Fields<'_>) -> Line<Boxed<RunCancel>>
     ensures { Gives (λ c. c) fields.old result fields.new cancel_line_fields }
 {
@@ -187,6 +215,10 @@ pub fn read_cancel(alloc: Global, fields: &mut Fields<'_>) -> Line<Boxed<RunCanc
 }
 
 /// Reads a `pause` or `continue` line: how many setup scripts and tests run.
+///
+/// # Errors
+///
+/// The first fault of the line, or refused memory.
 pub fn read_pause(alloc: Global, fields: &mut Fields<'_>) -> Line<Boxed<RunPause>>
     ensures { Gives (λ p. p) fields.old result fields.new pause_line_fields }
 {
@@ -198,6 +230,10 @@ pub fn read_pause(alloc: Global, fields: &mut Fields<'_>) -> Line<Boxed<RunPause
 }
 
 /// Reads an `info` line: how long the run has taken, how many units were asked, and its statistics.
+///
+/// # Errors
+///
+/// The first fault of the line, or refused memory.
 pub fn read_info(alloc: Global, fields: &mut Fields<'_>) -> Line<SceneEvent>
     ensures { Gives (λ e. e) fields.old result fields.new info_line_fields }
 {
@@ -210,6 +246,10 @@ pub fn read_info(alloc: Global, fields: &mut Fields<'_>) -> Line<SceneEvent>
 }
 
 /// Reads an `input` line: how long the run has taken, its statistics, and how many units run.
+///
+/// # Errors
+///
+/// The first fault of the line, or refused memory.
 pub fn read_input(alloc: Global, fields: &mut Fields<'_>) -> Line<SceneEvent>
     ensures { Gives (λ e. e) fields.old result fields.new input_line_fields }
 {
@@ -222,6 +262,10 @@ pub fn read_input(alloc: Global, fields: &mut Fields<'_>) -> Line<SceneEvent>
 }
 
 /// Reads a `subend` line: how far the stress run has come, how long the iteration took, and its statistics.
+///
+/// # Errors
+///
+/// The first fault of the line, or refused memory.
 pub fn read_sub_end(alloc: Global, fields: &mut Fields<'_>) -> Line<SceneEvent>
     ensures { Gives (λ e. e) fields.old result fields.new sub_end_line_fields }
 {

@@ -3,33 +3,33 @@ use Rattle.{std.specs.List.list_any, std.specs.Option.option_and_then, std.specs
 use Rattle.std.proofs.Common.{refl, ◌≡◌, ◌==◌, ◌+◌, ℕ, List, [], ◌∷◌, Bool, true, false, if◌then◌else◌, get_or, slice_set, Option, None, Some, codes, bytes_eq, replicate}
 use Rattle.scene_fields.specs.{Split.cut, Split.split_on, Numbers.number_in, Values.reason_in}
 
--- a key, and the value of its text, if it is a good one
+-- a key, and what its value makes of the counts; None for a bad value
 abbrev pub Row : Type 0 → Type 0
 Row C = List ℕ × (List ℕ → Option C)
 
--- counts with a number
+-- the counts with a number that the text spells
 abbrev pub with_number : {C : Type 0} → (ℕ → C) → List ℕ → Option C
 with_number counts t = option_map counts (number_in 64 t)
 
--- the row of a key, from an index on, and the value of its text
+-- the index of the row with this key, counted from `place`, and the counts with this value
 abbrev pub row_in : {C : Type 0} → ℕ → List (Row C) → List ℕ → List ℕ → Option (ℕ × C)
 row_in place [] word value = None
 row_in place (row ∷ rows) word value = if bytes_eq word row.0 then option_map (λ counts. (place, counts)) (row.1 value) else row_in (place + 1) rows word value
 
--- counts from the pairs so far, and the rows whose keys occurred
+-- the counts so far, and which rows' keys have occurred
 abbrev pub CountedRows : Type 0 → Type 0
 CountedRows C = C × List Bool
 
--- a key that no pair before had, and its value
+-- the counts after a pair whose key must not have occurred before
 abbrev pub new_pair : {C : Type 0} → List Bool → Option (ℕ × C) → Option (CountedRows C)
 new_pair has_key None = None
 new_pair has_key (Some x) = if get_or has_key x.0 false then None else Some (x.1, slice_set has_key x.0 true)
 
--- one pair more
+-- the counts after one more pair
 abbrev pub pair_in : {C : Type 0} → (C → List (Row C)) → CountedRows C → List ℕ → List ℕ → Option (CountedRows C)
 pair_in rows before word value = new_pair before.1 (row_in 0 (rows before.0) word value)
 
--- each pair in sequence, from its key and its value, which the first `=` separates
+-- all pairs in sequence; the first `=` of each separates its key from its value
 unfoldable pub in_turn : {S : Type 0} → (S → List ℕ → List ℕ → Option S) → S → List (List ℕ) → Option S
 in_turn pair_in before [] = Some before
 in_turn pair_in before (t ∷ ts) = option_and_then (λ after. in_turn pair_in after ts) (option_and_then (λ x. pair_in before x.0 x.1) (cut 61 t))
@@ -38,14 +38,14 @@ in_turn pair_in before (t ∷ ts) = option_and_then (λ after. in_turn pair_in a
 abbrev pub pairs_of : List ℕ → List (List ℕ)
 pairs_of t = if bytes_eq t (codes "-") then [] else split_on 32 t
 
--- what they say after counts without any
+-- the counts that a field spells, beginning with `none`
 abbrev pub counts_in : {C : Type 0} → (C → List (Row C)) → C → List ℕ → Option C
 counts_in rows none t = option_map (λ read. read.0) (in_turn (pair_in rows) (none, replicate 15 false) (pairs_of t))
 
 abbrev pub has_space : List ℕ → Bool
 has_space t = list_any (λ c. c == 32) t
 
--- the statistics with what a pair says, by its keys
+-- the keys of statistics, and what a value of each makes of them
 abbrev pub stats_rows : RunStats → List (Row RunStats)
 stats_rows before =
     (codes "initial", with_number (λ n. record before { initial_run_count = n }))
@@ -67,7 +67,7 @@ stats_rows before =
 pub stats_no_space : (before : RunStats) → list_any (λ row. has_space row.0) (stats_rows before) ≡ false
 stats_no_space before = refl
 
--- what is skipped with what a pair says, by its keys
+-- the keys of what a run skips, and what a value of each makes of them
 abbrev pub skips_rows : SkipCounts → List (Row SkipCounts)
 skips_rows before =
     (codes "rerun", with_number (λ n. record before { skipped_tests_rerun = n }))
@@ -90,7 +90,7 @@ no_skips = record {
   skipped_binaries_default_filter = 0;
 }
 
--- the statistics of pairs, and what they say that a run skips: a count without a pair is 0
+-- the statistics, and what a run skips, that a field spells; a count without a pair is 0
 unfoldable pub stats_in : List ℕ → Option RunStats
 stats_in t = counts_in stats_rows (planned_stats 0) t
 

@@ -9,11 +9,11 @@ pub record Noted : Type 0 where
   pub outputs : ℕ
   pub stored : List PlacedOutput
 
--- none of them
+-- no output was read
 abbrev pub none_noted : Noted
 none_noted = record { outputs = 0; stored = [] }
 
--- how many fields were taken, those that are left, and the outputs among them, where some may be stored
+-- how many fields were taken, those that are left, and, if outputs of the line may be stored, those read so far
 pub record Place : Type 0 where
   pub number : ℕ
   pub left : List (List ℕ)
@@ -61,7 +61,7 @@ exactly n line p = if length p.left == n then line p else Err WrongNumberOfField
 abbrev pub with_attempts : {X : Type 0} → Line X → Line X
 with_attempts line p = if nat_le 16 (length p.left) && (length p.left % 8 == 0) then line p else Err WrongNumberOfFields
 
--- what a function that does not allocate returned, and where it left the fields
+-- the result of a function that does not allocate, as that of a Line
 abbrev pub answered : {X : Type 0} → Result X LineFault → Place → Result (X × Place) LineFault
 answered (Ok x) place = Ok (x, place)
 answered (Err f) place = Err f
@@ -71,7 +71,7 @@ abbrev pub taken_text : Result (Bor (List ℕ)) LineFault → Result (List ℕ) 
 taken_text (Ok t) = Ok t.now
 taken_text (Err f) = Err f
 
--- the number of fields that are left is allowed, and else there is the fault of a wrong number
+-- Ok if the number of the fields that are left is right, and otherwise WrongNumberOfFields
 abbrev pub IsRightNumber : {X : Type 0} → Bool → Result X LineFault → Type 0
 IsRightNumber right (Ok x) = right ≡ true
 IsRightNumber right (Err f) = (right ≡ false) × (f ≡ WrongNumberOfFields)
@@ -81,7 +81,7 @@ abbrev pub stored_first : List (List ℕ) → Option StoredOutput
 stored_first (form ∷ first ∷ second ∷ fields) = stored_output_in form first second
 stored_first fields = None
 
--- for the next fields, if an output may be stored
+-- like stored_first, if outputs of the line may be stored
 abbrev pub stored_among : List (List ℕ) → Option Noted → Option StoredOutput
 stored_among fields None = None
 stored_among fields (Some noted) = stored_first fields
@@ -89,7 +89,7 @@ stored_among fields (Some noted) = stored_first fields
 abbrev pub next_stored : Place → Option StoredOutput
 next_stored p = stored_among p.left p.noted
 
--- the outputs with one more, whose first stream is the field of this number
+-- the outputs with one more, whose first stream is the field with this number
 abbrev pub with_noted : Option StoredOutput → ℕ → Option Noted → Option Noted
 with_noted output field None = None
 with_noted output field (Some noted) = Some (record { outputs = noted.outputs + 1; stored = noted.stored ++ placed noted.outputs field output })
@@ -108,21 +108,21 @@ abbrev pub Fails : {Y : Type 0} → LineError → Result Y LineFault → Type 0
 Fails error.OutOfMemory read = ⊤
 Fails (error.Fault f) read = read ≡ Err f
 
--- what a function returned is what was to be read, as the view shows it, unless memory was refused
+-- the result of a function, seen through the view, is what was to be read, unless memory was refused
 abbrev pub Reads : {X Y : Type 0} → (X → Y) → Result X LineError → Result Y LineFault → Type 0
 Reads view (Ok x) read = read ≡ Ok (view x)
 Reads view (Err e) read = Fails e read
 
--- the value of the fields from old on, and where they were left
+-- the result is the value of the fields from old on, and new is where they were left
 abbrev pub Gives : {X Y : Type 0} → (X → Y) → Place → Result X LineError → Place → Line Y → Type 0
 Gives view old result new line = Reads (λ x. (view x, new)) result (line old)
 
--- the next field was read by a call with this result
+-- the next field was read by a function with this relation of argument and value
 abbrev pub ReadsBy : {X : Type 0} → (Bor (List ℕ) → Option X → Type 0) → Place → Result X LineFault → Place → Type 0
 ReadsBy answers old (Ok x) new = (t : Bor (List ℕ)) × answers t (Some x) × (next old ≡ Ok (t.now, new))
 ReadsBy answers old (Err f) new = (next old ≡ Err f) ⊎ ((t : Bor (List ℕ)) × answers t None × (next old ≡ Ok (t.now, new)) × (f ≡ BadField new.number))
 
--- and by a call that allocates
+-- like ReadsBy, for a function that allocates
 abbrev pub TriesBy : {X : Type 0} → (Bor (List ℕ) → Option X → Type 0) → Place → Result X LineError → Place → Type 0
 TriesBy answers old (Ok x) new = ReadsBy answers old (Ok x) new
 TriesBy answers old (Err error.OutOfMemory) new = ⊤

@@ -19,7 +19,7 @@ abbrev pub starts_with_digit : List ℕ → Bool
 starts_with_digit [] = false
 starts_with_digit (c ∷ t) = nat_lt (digit_value c) 10
 
--- a text begins with digits that write a number, at most nineteen and else all of them, and this follows them
+-- the text begins with the digits of n, all that there are or nineteen, and rest follows them
 pub record IsLeadingNumber (t : List ℕ) (n : ℕ) (rest : List ℕ) : Type 0 where
   pub digits : List ℕ
   pub parts : t ≡ digits ++ rest
@@ -28,7 +28,7 @@ pub record IsLeadingNumber (t : List ℕ) (n : ℕ) (rest : List ℕ) : Type 0 w
   pub short : length digits ≤ 19
   pub longest : starts_with_digit rest ≡ true → length digits ≡ 19
 
--- and this follows a key at the front
+-- the text begins with the key, and after it with the digits of n; rest follows them
 pub record IsNumberAfter (key t : List ℕ) (n : ℕ) (rest : List ℕ) : Type 0 where
   pub behind : List ℕ
   pub front : t ≡ key ++ behind
@@ -50,11 +50,11 @@ nanos_in t = option_map (λ n. record { 0 = n }) (number_in 128 t)
 abbrev pub IsSigned : List ℕ → Type 0
 IsSigned t = IsNumeral 10 (cond (starts_with_minus t) (drop 1 t) t) × FitsSigned w32 (signed_digits_value 10 t)
 
--- the number has 32 bits
+-- the number fits 32 bits
 abbrev pub fits_code : ℤ → Bool
 fits_code (pos n) = nat_lt n (2 ^ 31)
 fits_code (negsuc n) = nat_lt n (2 ^ 31)
 
--- a number of 32 bits, perhaps with a minus in front
+-- a signed number of 32 bits
 unfoldable pub code_in : List ℕ → Option ℤ
 code_in t = if is_numeral (cond (starts_with_minus t) (drop 1 t) t) && fits_code (signed_digits_value 10 t) then Some (signed_digits_value 10 t) else None

@@ -20,7 +20,7 @@ after_mark t = if starts_with nat_eq t mark then Some (drop 2 t) else None
 unfoldable pub sum_of : List ℕ → List ℕ
 sum_of bytes = to_be_bytes w64 (sip.finish (sip.write sip.initial bytes))
 
--- 8 bytes as 16 hexadecimal digits, without upper case
+-- 8 bytes, written as 16 lower-case hexadecimal digits
 unfoldable pub sum_in : List ℕ → Option (List ℕ)
 sum_in t = if list_any is_ascii_uppercase t then None else result_ok (decode_sized t 8)
 
@@ -29,16 +29,16 @@ abbrev pub with_parts : Option ℕ → Option ℕ → Option (List ℕ) → Opti
 with_parts (Some offset) (Some len) (Some sum) = Some (record { offset = offset; len = len; sum = sum })
 with_parts offset len sum = None
 
--- the length and the sum, beside the offset
+-- the reference of this offset and of a length and a sum
 abbrev pub with_rest : List ℕ → Option (List ℕ × List ℕ) → Option Reference
 with_rest offset None = None
 with_rest offset (Some x) = with_parts (number_in 64 offset) (number_in 64 x.0) (sum_in x.1)
 
--- the offset and what follows it
+-- the reference of an offset and of what follows it
 abbrev pub reference_cut : Option (List ℕ × List ℕ) → Option Reference
 reference_cut None = None
 reference_cut (Some x) = with_rest x.0 (cut 58 x.1)
 
--- a reference: the mark, and then the offset, the length and the sum, which colons part
+-- a reference: the mark, and then the offset, the length and the sum, separated by colons
 unfoldable pub reference_in : List ℕ → Option Reference
 reference_in t = reference_cut (option_and_then (λ place. cut 58 place) (after_mark t))

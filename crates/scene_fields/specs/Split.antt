@@ -11,12 +11,12 @@ Lacks b (c ∷ t) = ((c == b) ≡ false) × Lacks b t
 unfoldable pub split_on : ℕ → List ℕ → List (List ℕ)
 split_on b t = slice_split (λ c. c == b) t
 
--- the pieces of a text, where there is one
+-- the pieces of a text that is left, or none
 abbrev pub pieces_left : ℕ → Option (Bor (List ℕ)) → List (List ℕ)
 pieces_left b None = []
 pieces_left b (Some t) = split_on b t.now
 
--- more than the pieces of a text
+-- an upper bound on the number of pieces left
 abbrev pub size_left : Option (Bor (List ℕ)) → ℕ
 size_left None = 0
 size_left (Some t) = length t.now + 1

@@ -1,29 +1,29 @@
--- What a recorded run stores of an output, as the fields of a line say it.
+-- The stored outputs of a recorded run, as the fields of a line spell them.
 use Rattle.std.specs.Prelude.{ℕ, ◌+◌, ◌-◌, ◌^◌, min, List, [], ◌∷◌, Bool, true, false, ◌||◌, ◌&&◌, codes, bytes_eq, if◌then◌else◌, Option, None, Some}
 use Rattle.scene_fields.specs.declared.stored.StoredStream.TheVariants.{NotCaptured, Empty, At}
 use Rattle.{std.specs.Option.option_map, scene_fields.specs.References.reference_in}
 use Rattle.scene_fields.specs.declared.stored.{PlacedOutput.PlacedOutput, StoredStream.StoredStream, StreamField.StreamField, StreamField.TheVariants.First, StreamField.TheVariants.Second, StoredOutput.StoredOutput, StoredOutput.TheVariants.Split, StoredOutput.TheVariants.Combined}
 
--- a stream that is empty, was not captured, or is a reference; any other text is none of them
+-- a stream: empty, `-` for not captured, or a reference; None for any other text
 abbrev pub stored_stream_in : List ℕ → Option StoredStream
 stored_stream_in t =
     if bytes_eq t (codes "") then Some Empty
     else if bytes_eq t (codes "-") then Some NotCaptured
     else option_map (λ reference. At reference) (reference_in t)
 
--- its bytes are among the outputs of the run
+-- its bytes are in the file of outputs
 abbrev pub is_reference : StoredStream → Bool
 is_reference NotCaptured = false
 is_reference Empty = false
 is_reference (At reference) = true
 
--- two streams, of which one or both are stored
+-- two streams of which at least one is stored
 abbrev pub stored_split : Option StoredStream → Option StoredStream → Option StoredOutput
 stored_split None stderr = None
 stored_split (Some stdout) None = None
 stored_split (Some stdout) (Some stderr) = if is_reference stdout || is_reference stderr then Some (Split stdout stderr) else None
 
--- what is stored of an output with this form and these two fields after it: of split streams one or both, of combined ones their bytes
+-- the stored output with this form and these two fields; None if nothing of it is stored
 abbrev pub stored_output_in : List ℕ → List ℕ → List ℕ → Option StoredOutput
 stored_output_in form first second =
     if bytes_eq form (codes "split") then stored_split (stored_stream_in first) (stored_stream_in second)
@@ -42,7 +42,7 @@ abbrev pub field_of : PlacedOutput → StreamField → ℕ
 field_of output First = output.field
 field_of output Second = min (output.field + 1) (2 ^ 64 - 1)
 
--- an output with its index, if it is stored
+-- a list of this output with its position, if it is stored
 abbrev pub placed : ℕ → ℕ → Option StoredOutput → List PlacedOutput
 placed place field None = []
 placed place field (Some output) = record { place = place; field = field; output = output } ∷ []

@@ -3,7 +3,7 @@ use Rattle.std.specs.Prelude.{◌≡◌, ℕ, zero, suc, ◌+◌, ◌*◌, ◌�
 use Rattle.std.specs.{Option.option_and_then, Option.option_map, Borrow.Bor, Char.digit_value, declared.alloc.Global.Global, declared.borrow.CowStr.CowStr, declared.borrow.CowStr.TheVariants.Borrowed, declared.borrow.CowStr.TheVariants.Owned}
 use Rattle.scene_fields.specs.Split.{Lacks}
 
--- the text that is borrowed or owned
+-- the text, whether borrowed or owned
 abbrev pub cow_text : CowStr Global → List ℕ
 cow_text (Borrowed t) = t.now
 cow_text (Owned t) = string_bytes t
@@ -41,8 +41,8 @@ abbrev pub escape_len : List ℕ → ℕ
 escape_len [] = 0
 escape_len (c ∷ t) = if c == 120 then 3 else 1
 
--- what a text spells after n bytes. That is `end` at the end of the text; else a plain byte comes before what the
--- rest spells, and an escape defines what it does with that
+-- What a text spells after its first `skip` bytes. `end` is the value at the end of the text. `front` puts a plain byte
+-- before the value of the rest, and `escape` gives what an escape does to that value, or None for a bad escape.
 unfoldable pub unescaped_after : {R : Type 0} → (List ℕ → R → R) → (List ℕ → Option (R → R)) → R → ℕ → List ℕ → Option R
 unescaped_after front escape end skip [] = Some end
 unescaped_after front escape end zero (c ∷ t) =
@@ -58,21 +58,21 @@ byte_in_front most escape = option_map (λ b t. b ∷ t) (escape_byte most escap
 abbrev pub unescaped : ℕ → List ℕ → Option (List ℕ)
 unescaped most t = unescaped_after (λ plain u. plain ++ u) (byte_in_front most) [] 0 t
 
--- a text, and the bytes of a stream
+-- what a text spells, and below what the bytes of a stream spell
 abbrev pub text_in : List ℕ → Option (List ℕ)
 text_in t = unescaped 127 t
 
 abbrev pub bytes_in : List ℕ → Option (List ℕ)
 bytes_in t = unescaped 255 t
 
--- a text grew by plain text and by what the escape after it gives, and this follows the escape
+-- a text grew by plain text and by the byte of the escape after it; `after` follows the escape
 pub record AddsStretch (old plain escape new : List ℕ) (after : Bor (List ℕ)) : Type 0 where
   pub byte : ℕ
   pub gives : escape_byte 127 escape ≡ Some byte
   pub grown : new ≡ (old ++ plain) ++ (byte ∷ [])
   pub follows : after.now ≡ drop (escape_len escape) escape
 
--- n bytes from an index on, in which no escape begins, were moved down to another index, and what follows them did not change
+-- `count` bytes without an escape were moved from an index down to another, and what follows them did not change
 pub record MovesPlain (old new : List ℕ) (from to count : ℕ) : Type 0 where
   pub within : from + count ≤ length old
   pub long : length new ≡ length old

@@ -14,12 +14,12 @@ use super::values::read_reason;
 use run_model::event::SkipCounts;
 use run_model::stats::RunStats;
 
-// How many keys some counts have at most.
+// The greatest number of keys of any counts.
 const KEYS: usize = 15;
 
-// What pairs may count.
+// Counts that are read from pairs.
 trait Counts: Copy {
-    // What the key of each row says after these counts.
+    // The keys, and what a value of each makes of these counts.
     ghost rows: { Self → List (Row Self) };
 
     // Sets the count of `word` and returns the index of its row; None for an unknown key or a bad value.
@@ -31,8 +31,8 @@ trait Counts: Copy {
     ghost no_space: { (before : Self) → list_any (λ row. has_space row.0) (rows before) ≡ false };
 }
 
-// Reads pairs after counts without any. A space is searched only after an `=`: if one comes before it, that pair has no `=`, and the word
-// before the `=` is no key, since it has a space.
+// Reads pairs, beginning with `none`, the counts without any. A space is searched only after an `=`. If there is one
+// before it, the word before the `=` has a space and so is no key.
 #[inline(always)]
 fn read_pairs<C: Counts>(none: C, field: &str) -> Option<C>
     ensures { result ≡ counts_in C.rows none field.now }
@@ -49,7 +49,7 @@ fn read_pairs<C: Counts>(none: C, field: &str) -> Option<C>
     Some(counts)
 }
 
-// Reads one pair more, whose key must be a new one. Inlined, so that no call is made for a pair.
+// Reads a pair whose key must not have occurred before. Inlined to save a call for each pair.
 #[inline(always)]
 fn read_pair<C: Counts>(
     counts: &mut C,

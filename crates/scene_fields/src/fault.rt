@@ -9,20 +9,20 @@ use std::error::Error;
 use std::fmt;
 use std::fmt::Formatter;
 
-/// What is wrong with a line of a scene. Of several faults the first of these is reported.
+/// What is wrong with a line of a scene. If there are several faults, the first of this list is reported.
 #[derive(Clone, Copy, Debug, PartialEq, Eq)]
 pub enum LineFault {
     /// Its bytes are not UTF-8.
     NotUtf8,
     /// Its first field names no event.
     UnknownEvent,
-    /// It configures the run after an event.
+    /// It is a `config` line after an event.
     ConfigAfterEvent,
     /// It has too few fields or too many.
     WrongNumberOfFields,
-    /// It says that another attempt follows one that succeeded.
+    /// It retries an attempt that succeeded.
     RetriedSuccess,
-    /// The report needs output that it says was left unread.
+    /// The report needs the output of this line, which is not loaded.
     OutputNotLoaded,
     /// This field, counted from 1 for the event's name, is not valid for its event. It is the first such field.
     BadField(usize),
@@ -56,7 +56,7 @@ impl Error for LineFault {}
 pub enum ReadFault {
     /// A line of the scene is wrong.
     Line {
-        /// Which one, from 1.
+        /// Its number, from 1.
         line: u64,
         /// What is wrong with it.
         fault: LineFault,

@@ -14,10 +14,14 @@ use std::alloc::Global;
 use std::marker::Model;
 use std::mem;
 
-/// A line or an output of at least this many bytes keeps the memory that it was read into; a shorter one is copied.
+/// A line or an output of at least this many bytes keeps the memory that it was read into. A shorter one is copied.
 pub const LARGE: usize = 65_536;
 
-/// Splits a line into its fields, which tabs separate. They replace the contents of the list.
+/// Splits a line at its tabs. The fields replace the contents of the list.
+///
+/// # Errors
+///
+/// Memory was refused. The list then has some of the fields.
 #[tactic(auto, using(crate::proofs::lemmas::Marks::all_left, crate::proofs::lemmas::Marks::none_left))]
 pub fn split_fields<'a>(line: &'a str, fields: &mut Vec<&'a str>) -> Result<(), OutOfMemory>
     ensures { OnOk result (field_texts fields.new.items ≡ split_on 9 line.now) }
@@ -43,7 +47,7 @@ pub fn split_fields<'a>(line: &'a str, fields: &mut Vec<&'a str>) -> Result<(), 
     Ok(())
 }
 
-// How many outputs of a line were read, and those of them that are stored.
+// How many outputs of a line were read, and which of them are stored.
 #[derive(Drop)]
 struct NotedOutputs {
     outputs: usize,
@@ -57,7 +61,7 @@ impl Model for NotedOutputs {
 }
 
 impl NotedOutputs {
-    // Counts one more, whose first stream is the field of this number, and notes it if it is stored.
+    // Counts an output whose first stream is the field with this number, and notes it if it is stored.
     fn add(&mut self, field: usize, output: Option<StoredOutput>) -> Result<(), OutOfMemory>
         ensures { OnOk result (Some self.new ≡ with_noted output field (Some self.old)) }
     {
@@ -74,7 +78,7 @@ impl NotedOutputs {
         Ok(())
     }
 
-    // Those that are stored.
+    // The stored outputs.
     fn into_stored(self) -> Vec<PlacedOutput>
         ensures { result.items ≡ self.stored }
     {
@@ -82,8 +86,8 @@ impl NotedOutputs {
     }
 }
 
-/// The fields of a line, which are taken one after the other. Contracts see how many were taken, those that are left, and which outputs
-/// among them are stored.
+/// The fields of a line, which are taken one after the other. Contracts see how many were taken, which are left, and
+/// which outputs are stored.
 #[derive(Drop)]
 pub struct Fields<'a> {
     left: &'a [&'a str],
@@ -91,7 +95,7 @@ pub struct Fields<'a> {
     owned: &'a mut [OwnedText],
     // How many fields the line has.
     total: usize,
-    // Where outputs may be stored. No field of such a line has its own memory.
+    // Set for a line whose outputs may be stored. No field of such a line has its own memory.
     noted: Option<NotedOutputs>,
     ghost counted: { length left.now + length owned.now ≤ total × total ≤ 2 ^ 63 },
     ghost borrowed: { ForSome noted (λ _. owned.now ≡ []) },
@@ -108,7 +112,7 @@ impl<'a> Model for Fields<'a> {
 }
 
 impl<'a> Fields<'a> {
-    /// The fields of a line, none of them taken.
+    /// The fields of a line, before any is taken.
     pub fn new(fields: &'a [&'a str]) -> Fields<'a>
         ensures { result ≡ record { number = 0; left = field_texts fields.now; noted = None } }
     {
@@ -120,8 +124,8 @@ impl<'a> Fields<'a> {
         }
     }
 
-    /// The fields of a line of a recorded run, none of them taken, whose outputs may be stored. Those are noted in this list, which replaces
-    /// its contents.
+    /// The fields of a line of a recorded run, before any is taken. Its stored outputs are noted in this list, which is
+    /// cleared first.
     pub fn recorded(fields: &'a [&'a str], stored: Vec<PlacedOutput>) -> Fields<'a>
         ensures { result ≡ record { number = 0; left = field_texts fields.now; noted = Some none_noted } }
     {
@@ -135,7 +139,7 @@ impl<'a> Fields<'a> {
         }
     }
 
-    /// The fields of a large line, none of them taken.
+    /// The fields of a large line, before any is taken.
     pub fn of_large_line(fields: &'a mut [OwnedText]) -> Fields<'a>
         ensures { result ≡ record { number = 0; left = fields.old; noted = None } }
     {
@@ -148,6 +152,10 @@ impl<'a> Fields<'a> {
     }
 
     /// Checks that this many fields are left.
+    ///
+    /// # Errors
+    ///
+    /// `WrongNumberOfFields` if another number of fields is left.
     pub fn exactly(&self, count: usize) -> Result<(), LineFault>
         ensures { IsRightNumber (length self.now.left == count) result }
     {
@@ -157,7 +165,11 @@ impl<'a> Fields<'a> {
         Ok(())
     }
 
-    /// Checks that eight fields are left to take with one attempt or more: each has eight.
+    /// Checks that the fields left are eight and those of one or more attempts, which have eight each.
+    ///
+    /// # Errors
+    ///
+    /// `WrongNumberOfFields` if another number of fields is left.
     pub fn with_attempts(&self) -> Result<(), LineFault>
         ensures { IsRightNumber (nat_le 16 (length self.now.left) && (length self.now.left % 8 == 0)) result }
     {
@@ -176,7 +188,7 @@ impl<'a> Fields<'a> {
         self.noted.is_some()
     }
 
-    /// The output whose form and streams come next, if it is stored and outputs of this line may be.
+    /// The output in the next three fields, its form and two streams, if it is stored and outputs of this line may be.
     ///
     /// ```
     /// let fields = ["comb", "\\@7:7:ee2a98c236301c76", "-"];
@@ -195,7 +207,11 @@ impl<'a> Fields<'a> {
         }
     }
 
-    /// Counts the output that comes next, and notes it if it is stored, where outputs may be.
+    /// Counts the output that comes next, and notes it if it is stored, provided that outputs of this line may be.
+    ///
+    /// # Errors
+    ///
+    /// Memory was refused.
     #[inline(always)]
     pub fn note(&mut self, output: Option<StoredOutput>) -> Result<(), OutOfMemory>
         ensures { OnOk result (self.new ≡ noting output self.old) }
@@ -206,7 +222,7 @@ impl<'a> Fields<'a> {
         }
     }
 
-    /// The stored ones of the outputs that were noted, in order.
+    /// The stored outputs that were noted, in order.
     pub fn into_stored(self, alloc: Global) -> Vec<PlacedOutput>
         ensures { result.items ≡ noted_outputs self.entry.noted }
     {
@@ -217,14 +233,14 @@ impl<'a> Fields<'a> {
         }
     }
 
-    /// How many fields are left to take.
+    /// How many fields are left.
     pub fn len(&self) -> usize
         ensures { result ≡ length self.now.left }
     {
         self.left.len() + self.owned.len()
     }
 
-    /// The fields that are left to take, up to those that have memory of their own.
+    /// The fields that are left, up to those that have memory of their own.
     pub fn borrowed(&self) -> &'a [&'a str]
         ensures { self.now.left ≡ field_texts result.now ++ drop (length result.now) self.now.left }
     {
@@ -245,6 +261,10 @@ impl<'a> Fields<'a> {
     }
 
     /// Takes a field.
+    ///
+    /// # Errors
+    ///
+    /// `WrongNumberOfFields` if no field is left.
     #[inline(always)]
     pub fn take(&mut self) -> Result<&'a str, LineFault>
         ensures { next self.old ≡ answered (taken_text result) self.new }
@@ -258,7 +278,7 @@ impl<'a> Fields<'a> {
         Ok(field)
     }
 
-    /// Takes the memory of the next field, if that is a large one of a large line.
+    /// Takes the memory of the next field, if it is a large field of a large line.
     pub fn take_memory(&mut self, alloc: Global) -> Option<BytesMut>
         ensures { MatchOption result (self.new ≡ self.old) (λ memory. (next self.old ≡ Ok (memory.items, self.new)) × (2 ≤ length memory.items)) }
     {
@@ -276,14 +296,18 @@ impl<'a> Fields<'a> {
         Some(field.take_memory(alloc))
     }
 
-    /// The fault of the field that was taken last.
+    /// The fault for the field that was taken last.
     pub fn bad_field(&self) -> LineFault
         ensures { result ≡ LineFault.BadField self.now.number }
     {
         LineFault::BadField(self.total - self.len())
     }
 
-    /// Takes a field, and reads it with a function that returns None for a bad field.
+    /// Takes a field and reads it with a function that returns None for a bad field.
+    ///
+    /// # Errors
+    ///
+    /// `WrongNumberOfFields` if no field is left, or `BadField` with the number of the field.
     #[inline(always)]
     pub fn read<T: Drop, F: FnOnce(&'a str) -> Option<T>>(
         &mut self,
@@ -299,7 +323,11 @@ impl<'a> Fields<'a> {
         }
     }
 
-    /// Takes a field, and reads it as `read` does, by a function that allocates.
+    /// Like [`Fields::read`], with a function that allocates.
+    ///
+    /// # Errors
+    ///
+    /// `WrongNumberOfFields` if no field is left, `BadField` with the number of the field, or refused memory.
     #[inline(always)]
     pub fn try_read<T: Drop, F: FnOnce(&'a str) -> Result<Option<T>, OutOfMemory>>(
         &mut self,

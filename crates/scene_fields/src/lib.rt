@@ -1,10 +1,14 @@
-//! What one field of a scene's line spells, and what can be wrong with it.
+//! The fields of a scene's lines: how a line is taken apart, what each kind of field spells, and what can be wrong.
+//! Which fields the line of an event has is defined in the crates above.
 //!
-//! `fields` takes a line apart from left to right, and `owned_text` is a text that has its own memory, like the fields of a large line.
-//! A field is read by `values`, `numbers`, `names`, `counts` (of several), `results` (how an attempt ended), `lists` (of words) or
-//! `texts`; `stored` is an output of a recorded run, whose bytes each `reference` locates. `marks` finds a byte,
-//! `split` cuts a text at a byte, `usual_stats` reads the counts of most lines, `unescape` decodes a text in its own memory, and `fault` is what can
-//! be wrong. Which fields the line of an event has is not known here.
+//! - `fields` takes a line apart from left to right; `owned_text` is a text in memory of its own, as the fields of a
+//!   large line are.
+//! - `values`, `numbers`, `names`, `counts`, `results` (how an attempt ended), `lists` (of words) and `texts` read the
+//!   fields of these kinds.
+//! - `stored` is an output of a recorded run, and `reference` is where its bytes are.
+//! - `marks` finds a byte, `split` cuts a text at a byte, `usual_stats` reads the counts of most lines, and `unescape`
+//!   decodes a text in place.
+//! - `fault` is what can be wrong with a line.
 #![tactic(auto)]
 
 pub mod counts;

@@ -23,6 +23,10 @@ use std::mem;
 /// let command = read_command_line(alloc, r"cargo\,nextest")?;
 /// assert_eq!(command.map(|command| command.words().len()), Some(2));
 /// ```
+///
+/// # Errors
+///
+/// Memory was refused. A bad field is no error but `None`.
 pub fn read_command_line(alloc: Global, field: &str) -> Result<Option<CommandLine>, OutOfMemory>
     ensures { IfOk result (λ command. command ≡ words_of field.now) }
 {
@@ -32,12 +36,16 @@ pub fn read_command_line(alloc: Global, field: &str) -> Result<Option<CommandLin
     }
 }
 
-/// Reads an error and its causes, which are the words of a list. `None` means a bad field, which a list of no words is, too.
+/// Reads an error and its causes, which are the words of a list. `None` means a bad field, as a list without words is.
 ///
 /// ```
 /// let chain = read_chain(alloc, r"cannot spawn\,no file")?;
 /// assert_eq!(chain.map(|chain| chain.causes().len()), Some(1));
 /// ```
+///
+/// # Errors
+///
+/// Memory was refused. A bad field is no error but `None`.
 pub fn read_chain(alloc: Global, field: &str) -> Result<Option<ErrorChain>, OutOfMemory>
     ensures { IfOk result (λ chain. chain ≡ chain_in field.now) }
 {
@@ -57,12 +65,17 @@ pub fn read_chain(alloc: Global, field: &str) -> Result<Option<ErrorChain>, OutO
     Ok(Some(ErrorChain::new(alloc, message, causes)?))
 }
 
-/// Reads the tests whose binaries' ids and whose names are the words of a list, in turn. `None` means a bad field.
+/// Reads a list of tests: the id of the first test's binary, its name, the id of the next test's binary, and so on.
+/// `None` means a bad field.
 ///
 /// ```
 /// let tests = read_instances(alloc, r"alpha\,t1\,beta\,t2")?;
 /// assert_eq!(tests.map(|tests| tests.as_slice().len()), Some(2));
 /// ```
+///
+/// # Errors
+///
+/// Memory was refused. A bad field is no error but `None`.
 pub fn read_instances(alloc: Global, field: &str) -> Result<Option<TestInstanceList>, OutOfMemory>
     ensures { IfOk result (λ list. list ≡ instances_in field.now) }
 {
@@ -83,7 +96,7 @@ pub fn read_instances(alloc: Global, field: &str) -> Result<Option<TestInstanceL
     Ok(Some(TestInstanceList::new(alloc, instances)?))
 }
 
-// Reads the words of a list, where `-` is the list of no word. None is a bad word.
+// Reads the words of a list; `-` is the empty list. None means a bad word.
 fn read_words(alloc: Global, field: &str) -> Result<Option<Vec<String>>, OutOfMemory>
     ensures { IfOk result (λ words. option_map (λ v. map string_bytes v.items) words ≡ words_of field.now) }
 {

@@ -1,14 +1,13 @@
 //! The positions of a byte in a text, found 32 bytes at a time.
 //!
-//! Tabs are close together in a line, and escapes in an output, so a call of memchr for each of them would mostly be its start and
-//! its end.
+//! Tabs in a line and escapes in an output are close together, so calls of memchr would mostly be overhead.
 
 ghost use Rattle.std.specs.Prelude.{◌≡◌, ◌≢◌, ◌++◌, ◌+◌, ◌-◌, ◌/◌, ◌^◌, ◌<◌, ◌≤◌, drop, length, min, replicate, take};
 ghost use Rattle.{std.specs.Int.trailing_zeros, std.specs.Int.w64, memchr.specs.Find.IsFirstByte, memchr.specs.Find.is_byte, scene_fields.specs.Marks.marks, scene_fields.specs.Marks.marks_between};
 
 use std::simd::prelude::*;
 
-/// The positions of a byte among the next 32 bytes, or among those that are left, each as a bit.
+/// The positions of a byte among the next 32 bytes, or fewer at the end, each as a bit of the mask.
 #[inline(always)]
 pub fn marks_from(byte: u8, bytes: &[u8], from: usize) -> u64
     requires within { from ≤ length bytes.now }
@@ -19,12 +18,12 @@ pub fn marks_from(byte: u8, bytes: &[u8], from: usize) -> u64
     if left >= 32 || bytes.len() < 32 {
         return match_mask(byte, load_block(bytes, from));
     }
-    // The last bytes of the text, without those before the place: no byte is copied for them.
+    // The last 32 bytes of the text, with the bits of those before `from` shifted out. This saves a copy.
     let last = u8x32::from_slice(&bytes[bytes.len() - 32..]);
     match_mask(byte, last) >> (32 - left)
 }
 
-/// The next 32 bytes, or those that are left followed by zeros.
+/// The next 32 bytes. At the end of the text, zeros fill the block.
 #[inline(always)]
 pub fn load_block(bytes: &[u8], from: usize) -> u8x32
     requires { from ≤ length bytes.now }
@@ -39,8 +38,8 @@ pub fn load_block(bytes: &[u8], from: usize) -> u8x32
     u8x32::from_array(block)
 }
 
-/// The first position of the byte, from 0. It is for names, of which most have no such byte, and for the front of a text: it
-/// searches 32 bytes at once, and a call of memchr costs more than that.
+/// The first position of the byte. It is for short texts, which are searched 32 bytes at a time: a call of memchr costs
+/// more than that.
 #[inline(always)]
 #[tactic(auto, using(crate::proofs::lemmas::Marks::all_left, crate::proofs::lemmas::Marks::none_left))]
 pub fn find_byte(byte: u8, bytes: &[u8]) -> Option<usize>
@@ -76,7 +75,7 @@ pub fn first_place(mask: u64) -> usize
     mask.trailing_zeros() as usize
 }
 
-/// The mask shifted so that bit 0 is `place + count`.
+/// The mask shifted so that its bit `place + count` becomes bit 0.
 #[inline(always)]
 pub fn shift_past(mask: u64, place: usize, count: usize) -> u64
     requires some { mask ≢ 0 }

@@ -9,6 +9,10 @@ use run_model::name::{ProfileName, ProgramName, RustBinaryId, ScriptId, TestCase
 use std::alloc::Global;
 
 /// Reads the name of a profile.
+///
+/// # Errors
+///
+/// Memory was refused. A bad field is no error but `None`.
 pub fn read_profile_name(alloc: Global, field: &str) -> Result<Option<ProfileName>, OutOfMemory>
     ensures { IfOk result (λ name. name ≡ text_in field.now) }
 {
@@ -19,6 +23,10 @@ pub fn read_profile_name(alloc: Global, field: &str) -> Result<Option<ProfileNam
 }
 
 /// Reads the id of a test's binary.
+///
+/// # Errors
+///
+/// Memory was refused. A bad field is no error but `None`.
 pub fn read_binary_id(alloc: Global, field: &str) -> Result<Option<RustBinaryId>, OutOfMemory>
     ensures { IfOk result (λ id. id ≡ text_in field.now) }
 {
@@ -29,6 +37,10 @@ pub fn read_binary_id(alloc: Global, field: &str) -> Result<Option<RustBinaryId>
 }
 
 /// Reads the name of a test.
+///
+/// # Errors
+///
+/// Memory was refused. A bad field is no error but `None`.
 pub fn read_test_name(alloc: Global, field: &str) -> Result<Option<TestCaseName>, OutOfMemory>
     ensures { IfOk result (λ name. name ≡ text_in field.now) }
 {
@@ -39,6 +51,10 @@ pub fn read_test_name(alloc: Global, field: &str) -> Result<Option<TestCaseName>
 }
 
 /// Reads the id of a setup script.
+///
+/// # Errors
+///
+/// Memory was refused. A bad field is no error but `None`.
 pub fn read_script_id(alloc: Global, field: &str) -> Result<Option<ScriptId>, OutOfMemory>
     ensures { IfOk result (λ id. id ≡ text_in field.now) }
 {
@@ -49,6 +65,10 @@ pub fn read_script_id(alloc: Global, field: &str) -> Result<Option<ScriptId>, Ou
 }
 
 /// Reads the program of a setup script.
+///
+/// # Errors
+///
+/// Memory was refused. A bad field is no error but `None`.
 pub fn read_program_name(alloc: Global, field: &str) -> Result<Option<ProgramName>, OutOfMemory>
     ensures { IfOk result (λ name. name ≡ text_in field.now) }
 {

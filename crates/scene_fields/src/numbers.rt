@@ -11,7 +11,7 @@ use run_model::time::Nanos;
 // This many digits fit 64 bits whatever they are.
 const MOST_DIGITS: usize = 19;
 
-/// Reads a count, which is anything that a `usize` holds.
+/// Reads a count: any number that fits a `usize`.
 ///
 /// ```
 /// assert_eq!(read_count("007"), Some(7));
@@ -47,8 +47,8 @@ fn short_number(text: &[u8]) -> Option<u64>
     if rest.is_empty() { Some(number) } else { None }
 }
 
-// The number that digits at the front write, nineteen at most, and what follows them. It fits 64 bits whatever they are, so that no digit
-// needs a test of overflow.
+// The number of the digits at the front, at most nineteen of them, and what follows. Nineteen digits always fit 64
+// bits, so no digit needs an overflow check.
 #[inline(always)]
 pub(crate) fn leading_number(text: &[u8]) -> Option<(u64, &[u8])>
     ensures { MatchOption result (starts_with_digit text.now ≡ false) (λ x. IsLeadingNumber text.now x.0 x.1.now) }
@@ -69,7 +69,7 @@ pub(crate) fn leading_number(text: &[u8]) -> Option<(u64, &[u8])>
     Some((number, &text[len..]))
 }
 
-/// Reads a number of attempts or the like, which is anything that a `u32` holds.
+/// Reads a number of attempts or the like: any number that fits a `u32`.
 #[tactic(auto, using(crate::proofs::lemmas::Numbers::number_by))]
 pub fn read_small_count(text: &str) -> Option<u32>
     ensures { result ≡ number_in 32 text.now }
@@ -77,7 +77,7 @@ pub fn read_small_count(text: &str) -> Option<u32>
     parse_small_count(text)
 }
 
-// For 32 bits.
+// Like `read_count`, for 32 bits.
 fn parse_small_count(text: &str) -> Option<u32>
     ensures { SomeIff result (IsNumeral 10 text.now × (digits_value 10 text.now < 2 ^ 32)) (digits_value 10 text.now) }
 {
@@ -104,7 +104,7 @@ fn read_wide_count(text: &str) -> Option<u128>
     parse_wide_count(text)
 }
 
-// The number of 128 bits that digits without a plus write.
+// Reads digits without a plus as a number of 128 bits.
 fn parse_wide_count(text: &str) -> Option<u128>
     ensures { SomeIff result (IsNumeral 10 text.now × (digits_value 10 text.now < 2 ^ 128)) (digits_value 10 text.now) }
 {
@@ -117,7 +117,7 @@ fn parse_wide_count(text: &str) -> Option<u128>
     text.parse().ok()
 }
 
-/// Reads an exit code or the like, which may have a minus in front.
+/// Reads an exit code or the like, which may be negative.
 ///
 /// ```
 /// assert_eq!(read_code("-0"), Some(0));
@@ -129,7 +129,7 @@ pub fn read_code(text: &str) -> Option<i32>
     parse_code(text)
 }
 
-// The number that digits write, perhaps after a minus.
+// Reads digits, perhaps after a minus.
 fn parse_code(text: &str) -> Option<i32>
     ensures { SomeIff result (IsSigned text.now) (signed_digits_value 10 text.now) }
 {

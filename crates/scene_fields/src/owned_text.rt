@@ -1,7 +1,7 @@
 //! A text in memory of its own.
 //!
-//! The fields of a large line are cut out of its memory without a copy, and the largest output in it keeps that memory: a scene with one
-//! large output takes hardly more memory than its file has bytes.
+//! The fields of a large line are cut out of its memory without a copy, and its outputs keep that memory. So a scene
+//! with one large output takes hardly more memory than its file has bytes.
 
 ghost use Rattle.std.specs.Prelude.{◌≡◌, ◌<◌, ◌+◌, true, false, IfOk, MatchOption, drop, length, slice_index, take};
 ghost use Rattle.{std.specs.Str.is_utf8, scene_fields.specs.Split.split_on};
@@ -29,7 +29,7 @@ impl Model for OwnedText {
 }
 
 impl OwnedText {
-    /// The text that these bytes are, if they are valid UTF-8. It copies nothing.
+    /// These bytes as a text, if they are valid UTF-8. It copies nothing.
     #[tactic(auto, using(crate::proofs::lemmas::Utf8::utf8_passes, crate::proofs::lemmas::Utf8::utf8_fails))]
     pub fn new(bytes: Vec<u8>) -> Option<OwnedText>
         ensures { MatchOption result (is_utf8 bytes.items ≡ false) (λ text. (text ≡ bytes.items) × (is_utf8 bytes.items ≡ true)) }
@@ -57,14 +57,18 @@ impl OwnedText {
         }
     }
 
-    /// Takes its memory, and leaves no text, for which nothing is allocated.
+    /// Takes its memory and leaves an empty text. It does not allocate.
     pub fn take_memory(&mut self, alloc: Global) -> BytesMut
         ensures { result.items ≡ self.old }
     {
         mem::replace(&mut self.memory, BytesMut::new(alloc))
     }
 
-    /// Splits a line into its fields, which tabs separate. It copies nothing.
+    /// Splits a line at its tabs. It copies nothing.
+    ///
+    /// # Errors
+    ///
+    /// Memory was refused. The line is dropped.
     pub fn split_fields(self, alloc: Global) -> Result<Vec<OwnedText>, OutOfMemory>
         ensures { IfOk result (λ fields. fields.items ≡ split_on 9 self) }
     {

@@ -16,12 +16,13 @@ pub struct Reference {
     pub offset: u64,
     /// How many bytes it has.
     pub len: usize,
-    /// The sum of its bytes: their SipHash-1-3 with the key 0, its highest byte first. It finds what was damaged, and guards against nobody.
+    /// The checksum of its bytes: their SipHash-1-3 with the key 0, highest byte first. It detects damage, not
+    /// tampering.
     pub sum: [u8; 8],
 }
 
 impl Reference {
-    /// Whether a file of this length holds all that this names. A stream of no bytes ends where it begins.
+    /// Whether a file of this length has all bytes of this reference. A stream of no bytes ends where it begins.
     pub fn ends_within(&self, file_len: u64) -> bool
         ensures { IsTrue result ↔ (end_of self.now ≤ file_len) }
     {
@@ -31,7 +32,7 @@ impl Reference {
         }
     }
 
-    /// Whether these bytes have the sum of what this names.
+    /// Whether these bytes have the sum of this reference.
     pub fn has_sum_of(&self, bytes: &[u8]) -> bool
         ensures { IsTrue result ↔ (sum_of bytes.now ≡ self.now.sum) }
     {
@@ -49,7 +50,7 @@ fn sum_of(bytes: &[u8]) -> [u8; 8]
     hasher.finish().to_be_bytes()
 }
 
-/// Reads a reference, `\@OFFSET:LENGTH:SUM`. `None` means that the field is none.
+/// Reads a reference, `\@OFFSET:LENGTH:SUM`. `None` means that the field is not one.
 ///
 /// ```
 /// let reference = read_reference("\\@70:0:d1fba762150c532c");
@@ -69,7 +70,7 @@ pub fn read_reference(field: &str) -> Option<Reference>
     })
 }
 
-// What follows the mark of a reference, where a field begins with it.
+// The text after the mark `\@`, if a field begins with it.
 #[tactic(auto, using(crate::proofs::lemmas::ReferenceMarks::after_mark_by))]
 fn after_mark(field: &str) -> Option<&str>
     ensures { option_map (λ t. t.now) result ≡ after_mark field.now }

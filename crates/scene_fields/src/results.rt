@@ -18,7 +18,7 @@ use run_model::status::{
 };
 use std::alloc::Global;
 
-/// What is read of a result: `None` means a bad field.
+/// A result that was read: `None` means a bad field.
 pub type ReadResult = Result<Option<ExecutionResultDescription>, OutOfMemory>;
 
 /// Reads how an attempt ended. `None` means a bad field.
@@ -27,6 +27,10 @@ pub type ReadResult = Result<Option<ExecutionResultDescription>, OutOfMemory>;
 /// let outcome = read_result(alloc, "sig:11:SEGV")?;
 /// assert!(matches!(outcome, Some(ExecutionResultDescription::Fail { leaked: false, .. })));
 /// ```
+///
+/// # Errors
+///
+/// Memory was refused. A bad field is no error but `None`.
 #[inline(always)]
 #[tactic(auto, unfolding(crate::specs::Results::result_in))]
 pub fn read_result(alloc: Global, field: &str) -> ReadResult
@@ -116,7 +120,7 @@ fn read_nameless_signal(alloc: Global, number: &str, leaked: bool) -> ReadResult
     aborted(alloc, abort, leaked)
 }
 
-// Reads a status of Windows by its number, and what the system says of it.
+// Reads a Windows status: its number, and the system's message for it.
 fn read_status(alloc: Global, text: &str) -> ReadResult
     ensures { IfOk result (λ outcome. outcome ≡ status_cut (cut 58 text.now)) }
 {
@@ -137,7 +141,7 @@ fn read_status(alloc: Global, text: &str) -> ReadResult
     )
 }
 
-// A failure from outside.
+// A failure by an abort.
 fn aborted(alloc: Global, abort: AbortDescription, leaked: bool) -> ReadResult
     ensures { IfOk result (λ outcome. outcome ≡ Some (aborted leaked abort)) }
 {

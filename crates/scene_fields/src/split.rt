@@ -1,7 +1,7 @@
 //! A text cut at a byte.
 //!
-//! It does what `str::split_once` does, and finds the byte in a long text by memchr, since outputs are searched for backslashes from one
-//! end to the other.
+//! Like `str::split_once`, but it searches a long text with memchr, since outputs are searched for backslashes from end
+//! to end.
 
 ghost use Rattle.std.specs.Prelude.{◌≡◌, ◌<◌, ◌≤◌, ◌+◌, [], ◌∷◌, ◌++◌, length, IfSome, MatchOption};
 ghost use Rattle.scene_fields.specs.Split.{Lacks, cut, cut_texts, split_on, pieces_left, size_left};
@@ -10,7 +10,7 @@ ghost use Rattle.{memchr.specs.Find.IsFirstByte, memchr.specs.Find.is_byte};
 use super::marks::find_byte;
 use memchr::memchr;
 
-/// How many bytes at the front of a text are searched at once: most separators are there.
+/// How many bytes at the front of a text are searched before memchr is called: most separators are there.
 const NEAR: usize = 16;
 
 // The first position of the byte.
@@ -30,7 +30,7 @@ fn first_place(byte: u8, text: &[u8]) -> Option<usize>
     first_far_place(byte, text)
 }
 
-// With memchr, whose code is too long to be inlined in each caller.
+// The search with memchr, whose code is too long to be inlined in each caller.
 #[inline(never)]
 fn first_far_place(byte: u8, text: &[u8]) -> Option<usize>
     ensures { IsFirstByte (is_byte byte) text.now result }
@@ -70,7 +70,7 @@ pub(crate) fn first_piece(text: &str, byte: u8) -> (&str, Option<&str>)
     }
 }
 
-/// The first line of a text, and the lines that follow it, where some do.
+/// The first line of a text, and the text after its line feed, if it has one.
 pub fn first_line(text: &[u8]) -> (&[u8], Option<&[u8]>)
     ensures lines { split_on 10 text.now ≡ result.0.now ∷ pieces_left 10 result.1 }
     ensures shorter { size_left result.1 ≤ length text.now }

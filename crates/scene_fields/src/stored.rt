@@ -1,22 +1,22 @@
-//! What a recorded run stores of an output, from the fields of a line, and its position in that line.
+//! The stored outputs of a recorded run, as the fields of a line spell them, and their positions in that line.
 
 ghost use Rattle.std.specs.Prelude.{◌≡◌};
 ghost use Rattle.scene_fields.specs.Stored.{field_of, is_reference, stored_output_in, stored_stream_in, stream_in_field};
 
 use super::reference::{Reference, read_reference};
 
-/// What a recorded run stores of a stream.
+/// A stream of an output in a recorded run.
 #[derive(Clone, Copy, Debug, PartialEq, Eq)]
 pub enum StoredStream {
     /// It was not captured.
     NotCaptured,
-    /// It was captured, and holds nothing.
+    /// It was captured and is empty.
     Empty,
-    /// Its bytes are among the outputs of the run.
+    /// Its bytes are in the file of outputs.
     At(Reference),
 }
 
-/// What a recorded run stores of an output.
+/// An output of a recorded run of which a stream is in the file of outputs.
 #[derive(Clone, Copy, Debug, PartialEq, Eq)]
 pub enum StoredOutput {
     /// Each stream by itself.
@@ -33,7 +33,7 @@ pub enum StoredOutput {
     },
 }
 
-/// The one of an output's two fields of streams that is meant.
+/// One of the two fields of an output that hold its streams.
 #[derive(Clone, Copy, Debug, PartialEq, Eq)]
 pub enum StreamField {
     /// Standard output, or both streams together.
@@ -65,7 +65,7 @@ impl StoredStream {
         }
     }
 
-    // Whether its bytes are among the outputs of the run.
+    // Whether its bytes are in the file of outputs.
     fn is_reference(&self) -> bool
         ensures { result ≡ is_reference self.now }
     {
@@ -74,7 +74,7 @@ impl StoredStream {
 }
 
 impl StoredOutput {
-    /// Reads what is stored of an output from the fields of its form and of its streams. `None` means that nothing of it is stored.
+    /// Reads an output from the fields of its form and of its streams. `None` means that none of it is stored.
     ///
     /// ```
     /// assert_eq!(StoredOutput::read("split", "it failed", ""), None);

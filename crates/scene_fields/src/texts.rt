@@ -23,6 +23,10 @@ const ASCII: u8 = 0x7f;
 /// let text = read_text(alloc, r"a\tb")?;
 /// assert_eq!(text.map(|text| text.as_str() == "a\tb"), Some(true));
 /// ```
+///
+/// # Errors
+///
+/// Memory was refused. A bad field is no error but `None`.
 #[inline(always)]
 pub fn read_text(alloc: Global, field: &str) -> Result<Option<CowStr<'_, Global>>, OutOfMemory>
     ensures { IfOk result (λ text. option_map cow_text text ≡ text_in field.now) }
@@ -58,7 +62,12 @@ pub(crate) fn push_stretch<'a>(
     Ok(Some(&escape[len..]))
 }
 
-/// Reads the bytes that a test wrote. They are decoded in the memory of their copy. `None` means a bad field.
+/// Reads the bytes that a test wrote: the field is copied, and decoded in the memory of the copy. `None` means a bad
+/// field.
+///
+/// # Errors
+///
+/// Memory was refused. A bad field is no error but `None`.
 pub fn read_bytes(alloc: Global, field: &str) -> Result<Option<Vec<u8>>, OutOfMemory>
     ensures { IfOk result (λ bytes. option_map (λ v. v.items) bytes ≡ bytes_in field.now) }
 {
@@ -70,8 +79,8 @@ pub fn read_bytes(alloc: Global, field: &str) -> Result<Option<Vec<u8>>, OutOfMe
     Ok(Some(bytes))
 }
 
-/// The byte that an escape gives, and how many bytes the escape has after its backslash, which `escape` does not include. The digits of
-/// an `x` write at most `most`. None for a text that begins with no escape.
+/// The byte that an escape gives, and how many bytes the escape has after its backslash; `escape` begins after that. An
+/// `x` escape gives at most `most`. None if the escape is not valid.
 #[inline(always)]
 pub(crate) fn escape_at(escape: &[u8], most: u8) -> Option<(u8, usize)>
     ensures byte { option_map (λ x. x.0) result ≡ escape_byte most escape.now }

@@ -1,7 +1,7 @@
 //! A text decoded in its own memory.
 //!
-//! What a text spells is never longer than the text, so a large output is read without a second memory of its size. It is
-//! moved by blocks: most of an output is between escapes.
+//! What a text spells is never longer than the text, so a large output is decoded in place, without a second buffer of
+//! its size. It is moved in blocks, since most of an output is between escapes.
 
 ghost use Rattle.std.specs.Prelude.{◌≡◌, ◌≢◌, ◌<◌, ◌≤◌, ◌-◌, IfSome, length, slice_index, take};
 ghost use Rattle.std.specs.Option.{option_map};
@@ -14,8 +14,8 @@ use std::simd::prelude::*;
 /// How many bytes a block has.
 const BLOCK: usize = 32;
 
-/// Replaces a text by the bytes that it spells. It returns how many they are: the first ones of the memory. `None`
-/// means a bad escape.
+/// Overwrites the front of a text with the bytes that it spells, and returns how many these are. `None` means a bad
+/// escape.
 pub fn unescape_in_place(bytes: &mut [u8]) -> Option<usize>
     ensures { option_map (λ len. take len bytes.new) result ≡ bytes_in bytes.old }
 {
@@ -41,8 +41,8 @@ pub fn unescape_in_place(bytes: &mut [u8]) -> Option<usize>
     Some(to)
 }
 
-// The byte that an escape of an output gives, and how many bytes it has after its backslash. Most begin a colour or end a line, so these two
-// are tested first: a twentieth of the work of a large coloured output.
+// The byte that an escape of an output gives, and how many bytes the escape has after its backslash. Most escapes begin
+// a colour or end a line, so these two are tested first. That saves a twentieth of the work on a large coloured output.
 #[inline(always)]
 fn output_escape_at(escape: &[u8]) -> Option<(u8, usize)>
     ensures byte { option_map (λ x. x.0) result ≡ escape_byte 255 escape.now }
@@ -55,7 +55,7 @@ fn output_escape_at(escape: &[u8]) -> Option<(u8, usize)>
     }
 }
 
-// Moves bytes before the next escape down to a place, and returns how many: all of them, or as many as a block holds.
+// Moves the bytes before the next escape down to `to`, at most a block of them, and returns how many it moved.
 #[inline(always)]
 fn move_plain(bytes: &mut [u8], from: usize, to: usize) -> usize
     requires low { to ≤ from }
@@ -67,7 +67,7 @@ fn move_plain(bytes: &mut [u8], from: usize, to: usize) -> usize
     let block = load_block(bytes, from);
     let count = plain_len(block, bytes.len() - from);
     if from + count - to >= BLOCK {
-        // The whole block is written, since what is left to read begins at its end, or after it.
+        // The whole block may be written: what is left to read begins at its end, or after it.
         block.copy_to_slice(&mut bytes[to..]);
         return count;
     }
@@ -75,7 +75,7 @@ fn move_plain(bytes: &mut [u8], from: usize, to: usize) -> usize
     count
 }
 
-// How many of the first bytes of a block come before an escape.
+// How many bytes of a block come before its first escape.
 #[inline(always)]
 fn plain_len(block: u8x32, most: usize) -> usize
     ensures block { result ≤ 32 }

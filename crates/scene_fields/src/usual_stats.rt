@@ -1,7 +1,8 @@
 //! Statistics as most lines have them: some of the keys, in their usual order.
 //!
-//! Nearly every line of a run has them, and they are the longest field of most. Here each byte is read once: a key is compared as a
-//! whole and its digits are read in place, while `counts` searches the `=` and the space of each pair and then its key.
+//! Nearly every line has them, and they are the longest field of most lines. Here each byte is read once: a key is
+//! compared as a whole and its digits are read in place, while `counts` searches the `=` and the space of each pair and
+//! then its key.
 
 ghost use Rattle.std.specs.Prelude.{◌≡◌, Some, IfSome, MatchOption};
 ghost use Rattle.scene_fields.specs.{Numbers.HasNoNumberAfter, Numbers.IsNumberAfter, Numbers.IsNumberOrZero, Counts.stats_in};
@@ -9,8 +10,8 @@ ghost use Rattle.scene_fields.specs.{Numbers.HasNoNumberAfter, Numbers.IsNumberA
 use super::numbers::leading_number;
 use run_model::stats::RunStats;
 
-// Reads how many tests were to run and have finished, and then how many passed, failed and were skipped, where that is said. None is any
-// other field, which may be a good one.
+// Reads statistics that have `initial` and `finished`, and after them perhaps `passed`, `failed` and `skipped`, in this
+// order. It returns None for any other field, even a valid one.
 #[inline(always)]
 pub(crate) fn read_usual_stats(field: &str) -> Option<RunStats>
     ensures { IfSome result (λ stats. stats_in field.now ≡ Some stats) }
@@ -32,8 +33,8 @@ pub(crate) fn read_usual_stats(field: &str) -> Option<RunStats>
     })
 }
 
-// The number after a key at the front, and the text after the number. The key is an array, so that its length is known where it is
-// compared: that takes a test or two.
+// The number after a key at the front, and the text after the number. The key is an array, so that its length is known
+// and it is compared in one or two instructions.
 #[inline(always)]
 fn number_after<'a, const N: usize>(key: &[u8; N], text: &'a [u8]) -> Option<(usize, &'a [u8])>
     ensures { MatchOption result (HasNoNumberAfter key.now text.now) (λ x. IsNumberAfter key.now text.now x.0 x.1.now) }
@@ -46,7 +47,7 @@ fn number_after<'a, const N: usize>(key: &[u8; N], text: &'a [u8]) -> Option<(us
     Some((number as usize, rest))
 }
 
-// The same, or 0 and the whole text.
+// Like `number_after`, but 0 and the whole text if there is no such number.
 #[inline(always)]
 fn number_after_or_zero<'a, const N: usize>(key: &[u8; N], text: &'a [u8]) -> (usize, &'a [u8])
     ensures { IsNumberOrZero key.now text.now result.0 result.1.now }

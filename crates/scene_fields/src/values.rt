@@ -1,4 +1,4 @@
-//! What the fields of a scene may hold. Each function returns None for a bad field.
+//! The values of single fields of a scene. Each function returns None for a bad field.
 
 ghost use Rattle.std.specs.Prelude.{◌≡◌};
 ghost use Rattle.{scene_fields.specs.Numbers.number_in, uuid.specs.Text.parsed};
@@ -18,17 +18,17 @@ use uuid::Uuid;
 pub enum ConfigKey {
     /// The level from which on the summary lists a test.
     Final,
-    /// How many tests the run has, which decides the width of a counter that is not known.
+    /// How many tests the run has. The width of a counter whose number is not known depends on it.
     Runs,
     /// Whether the run runs benchmarks.
     Bench,
-    /// When the output of tests that succeed is shown, whatever their events say.
+    /// When the output of tests that succeed is shown, in place of what their events say.
     Success,
-    /// When the output of tests that fail is shown, whatever their events say.
+    /// When the output of tests that fail is shown, in place of what their events say.
     Failure,
     /// Whether tests write to the terminal themselves.
     NoCapture,
-    /// Whether a test that starts is shown by its command.
+    /// Whether the line of a test that starts shows its command.
     Verbose,
     /// Whether output has no margin.
     NoIndent,
@@ -118,7 +118,7 @@ pub fn read_display(field: &str) -> Option<TestOutputDisplay>
     ensures { result ≡ display_in field.now }
 {
     match field {
-        // What most events have comes first.
+        // The values of most events come first.
         "never" => Some(TestOutputDisplay::Never),
         "immediate" => Some(TestOutputDisplay::Immediate),
         "immediate-final" => Some(TestOutputDisplay::ImmediateFinal),

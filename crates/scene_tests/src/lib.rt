@@ -1,5 +1,5 @@
-//! The tests of the crates `scene_text` and `scenes`: the program over scenes and writers in memory. They have their
-//! own crate because a crate with tests is proved twice, and the program is built as it is run.
+//! The tests of the crates `scene_text` and `scenes`: what the programs do, over scenes and writers in memory. They
+//! have their own crate because a crate with tests is proved twice.
 #![tactic(auto)]
 
 #[cfg(test)]

@@ -1,4 +1,4 @@
-//! The program over scenes and writers in memory.
+//! What the programs do, over scenes and writers in memory.
 
 use self::pieces::push_often;
 use crate::testing::{expect_row, expect_text};
@@ -62,7 +62,7 @@ done\t-\talpha\tmod::t2\tnever\tnever\tpass\tinitial=2 finished=2 passed=1 faile
 fail:1\t1500000000\t0\tsplit\t\t\t-\t-\n\
 end\t1520000000\tinitial=2 finished=2 passed=1 failed=1\t0\t-\n";
 
-// The report of that.
+// The report of `TWO_TESTS`.
 const OF_TWO_TESTS: &str = "------------
  Nextest run ID 00000000-0000-4000-8000-000000000001 with nextest profile: default
     Starting 2 tests across 1 binary
@@ -73,7 +73,7 @@ const OF_TWO_TESTS: &str = "------------
         FAIL [   1.500s] alpha mod::t2
 ";
 
-/// What is stored of it.
+/// The records of `TWO_TESTS`.
 const STORED_OF_TWO_TESTS: &str = "5:alpha,2:t1,4:PASS,0:,\n5:alpha,7:mod::t2,4:FAIL,0:,\n";
 
 /// A run that is cancelled twice.
@@ -83,7 +83,7 @@ done\t-\ta\tt1\tnever\timmediate\tpass\tinitial=2 finished=1 failed=1\t1\t\
 fail:1\t1000000000\t0\tsplit\tboom\\n\t\t-\t-\n\
 end\t2000000000\tinitial=2 finished=1 failed=1 cancel=signal\t0\t-\n";
 
-/// The report of it.
+/// The report of `CANCELLED`.
 const OF_CANCELLED: &str = "  Cancelling due to interrupt
   Cancelling due to signal
         FAIL [   1.000s] a t1
@@ -92,11 +92,11 @@ const OF_CANCELLED: &str = "  Cancelling due to interrupt
 warning: 1/2 tests were not run due to signal
 ";
 
-/// A test that is asked what it does.
+/// A test that is asked for its state.
 const ASKED: &str =
     "answer-test\t0\t1\t-\ta\tt1\t1\t1\trunning:42:1500000000:-\t-\tsplit\thi\\n\t\t-\t-\n";
 
-/// The report of that.
+/// The report of `ASKED`.
 const OF_ASKED: &str = "
 * 1/1:    a t1
   status: test running for 1.500s as PID 42
@@ -115,8 +115,8 @@ fn words_of(alloc: Global, texts: &[&str]) -> Result<Vec<String>, Fail> {
     Ok(args)
 }
 
-// Reports a scene, and stores its records if the options ask for them. It has no clause: the proof of a test would hold the program's
-// clauses for each call.
+// Reports a scene, and stores its records if the options ask for them. It has no contract, so that the proof of a test
+// does not have to carry that of `report_scene` for each call.
 fn report_and_store<R: Read + Drop, W: Write, S: Write>(
     alloc: Global,
     options: &Options<'static>,
@@ -127,8 +127,8 @@ fn report_and_store<R: Read + Drop, W: Write, S: Write>(
     report_scene(alloc, options, reader, writer, store_writer)
 }
 
-// The result of writing a scene's report and its records to these devices, once it is read and judged: the scene is not dropped, since
-// what drops one is proved in each crate that does.
+// Reads and checks a scene, and writes its report and its records to these devices. The scene is not dropped: its drop
+// would be proved once more here.
 fn judge_and_write(
     alloc: Global,
     options: &Options<'static>,
@@ -153,7 +153,7 @@ fn fault_of_judging<R: Read + Drop>(alloc: Global, reader: R) -> Option<Fault<'s
     }
 }
 
-// The status of a fault, and the line that reports it.
+// The fault has this status and this line.
 fn expect_fault(
     rt: &impl Abort,
     alloc: Global,
@@ -169,7 +169,7 @@ fn expect_fault(
 #[test]
 fn writes_the_report_and_stops_where_the_device_fails(rt: HostRuntime) -> Result<(), Fail> {
     let alloc = rt.alloc();
-    // Of the bytes that a device holds which is lent, no clause of `write_report` speaks.
+    // The devices are lent, which the contract of `write_report` does not cover.
     let (mut roomy, mut store) = (
         Device::with_room(alloc, 600)?,
         Device::with_room(alloc, 600)?,
@@ -186,7 +186,7 @@ fn writes_the_report_and_stops_where_the_device_fails(rt: HostRuntime) -> Result
     Ok(())
 }
 
-// A reader that gives at most seven bytes a read, and fails at one of them.
+// A reader that gives at most seven bytes a read, and fails after some reads.
 #[derive(Drop)]
 struct Failing<'a> {
     text: &'a [u8],
@@ -229,7 +229,7 @@ impl Read for Interrupted<'_> {
     }
 }
 
-// Follows a scene. It has no clause, as `report_and_store`.
+// Follows a scene. Like `report_and_store`, it has no contract.
 fn follow<R: Read + Drop, W: Write>(
     alloc: Global,
     reader: R,
@@ -239,10 +239,11 @@ fn follow<R: Read + Drop, W: Write>(
     (outcome, writer)
 }
 
-// The turns of a loop: more than 16 bits count.
+// How often a loop turns: more often than 16 bits can count.
 const MANY: usize = 70_000;
 
-// Two tests, after a line of this many bytes, and with this many lines before the first event and after it. No report shows these.
+// `TWO_TESTS`, with a comment of MANY bytes, a skipped test, and MANY empty lines before and after that. The report
+// shows none of these.
 fn behind_many_lines(alloc: Global) -> Result<String, AllocError> {
     let (config, run) = TWO_TESTS.split_at("config\tfinal\tfail\n".len());
     let mut text = String::from_str(alloc, config)?;
@@ -278,7 +279,7 @@ fn reads_on_after_an_interrupt(rt: HostRuntime) -> Result<(), Fail> {
 }
 
 #[test]
-fn tells_why_a_file_is_not_read(rt: HostRuntime) -> Result<(), Fail> {
+fn reports_why_a_file_is_not_read(rt: HostRuntime) -> Result<(), Fail> {
     let alloc = rt.alloc();
     let text = END.as_bytes();
     let kinds = [
@@ -302,7 +303,7 @@ fn tells_why_a_file_is_not_read(rt: HostRuntime) -> Result<(), Fail> {
                 texts.1,
             );
             let judged = fault_of_judging(alloc, reader());
-            // It says once behind the last byte, and once more, that nothing is left.
+            // After the last byte there are two more reads, which return 0.
             let is_read = reads_before > text.len().div_ceil(7) + 1;
             expect_row(
                 &rt,
@@ -422,7 +423,7 @@ fn takes_options_in_any_order(rt: HostRuntime) -> Result<(), Fail> {
 }
 
 #[test]
-fn tells_each_fault(rt: HostRuntime) -> Result<(), Fail> {
+fn reports_each_fault(rt: HostRuntime) -> Result<(), Fail> {
     let faults = [
         (
             Fault::Usage,
@@ -465,7 +466,7 @@ fn tells_each_fault(rt: HostRuntime) -> Result<(), Fail> {
 }
 
 #[test]
-fn tells_what_is_wrong_with_a_line(rt: HostRuntime) -> Result<(), Fail> {
+fn reports_what_is_wrong_with_a_line(rt: HostRuntime) -> Result<(), Fail> {
     let faults = [
         (LineFault::NotUtf8, "line 3: not UTF-8"),
         (LineFault::UnknownEvent, "line 3: unknown event"),

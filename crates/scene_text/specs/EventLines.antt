@@ -51,6 +51,6 @@ event_rows =
     ∷ (codes "skip", exactly 3 (made event.TestSkipped test_fields))
     ∷ other_event_rows
 
--- the event of the fields behind a word
+-- the event of a line with this word, from the fields after it
 abbrev pub event_line_fields : List ℕ → Line SceneEvent
 event_line_fields word = by_row unknown event_rows word

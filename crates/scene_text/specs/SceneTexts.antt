@@ -45,7 +45,7 @@ event_line read = result_map_both EventLine (λ f. f) read
 abbrev pub config_words : LinesBefore → Line ParsedLine
 config_words before p = if before.is_begun then Err ConfigAfterEvent else made ConfigLine (exactly 2 (config_line_fields before.config)) p
 
--- the fields behind the first one
+-- the fields after the first one
 abbrev pub words_behind : LinesBefore → List ℕ → Line ParsedLine
 words_behind before word p = if bytes_eq word (codes "config") then config_words before p else made EventLine (event_line_fields word) p
 
@@ -60,17 +60,17 @@ abbrev pub is_passed_over : List ℕ → Bool
 is_passed_over [] = true
 is_passed_over (c ∷ t) = c == 35
 
--- a line's fields, of which none is taken
+-- a line's fields, before any is taken
 abbrev pub line_place : Option Noted → List ℕ → Place
 line_place noted t = record { number = 0; left = split_on 9 t; noted = noted }
 
--- what a line says behind others, and where its fields were left; or its fault
+-- the value of a line that follows others, and where its fields were left; or its fault
 unfoldable pub line_from : Option Noted → LinesBefore → List ℕ → Result (ParsedLine × Place) LineFault
 line_from noted before t =
     if is_passed_over t then says NoEvent (line_place noted t)
     else (if is_utf8 t then line_words before (line_place noted t) else Err NotUtf8)
 
--- the value of a line behind others, or its fault
+-- the value of a line that follows others, or its fault
 abbrev pub parsed_line : LinesBefore → List ℕ → Result ParsedLine LineFault
 parsed_line before t = value_of (line_from None before t)
 
@@ -106,7 +106,7 @@ with_made make (Ok (ConfigLine config, stored)) = Ok (ConfigLine config)
 with_made make (Ok (EventLine e, stored)) = event_line (make stored e)
 with_made make (Err f) = Err f
 
--- the value of a run's line behind others, or its fault
+-- the value of a run's line that follows others, or its fault
 abbrev pub line_value : LinesBefore → RunLine → Result ParsedLine LineFault
 line_value before (PlainLine t) = parsed_line before t
 line_value before (RecordedLine t make) = with_made (make before) (recorded_line before t)
@@ -123,7 +123,7 @@ is_begun_behind begun es = begun || is_begun es
 abbrev pub before_next : LinesRead → LinesBefore
 before_next read = record { config = read.run.config; is_begun = is_begun_behind read.is_begun read.run.events.items }
 
--- the lines behind these events
+-- the lines after these events
 abbrev pub lines_after : List SceneEvent → ParsedLines → ParsedLines
 lines_after base before = record { config = before.config; events = base ++ before.events }
 
@@ -131,7 +131,7 @@ abbrev pub lines_read_after : (ParsedLines → Result ParsedLines (ℕ × LineFa
 lines_read_after others n (Ok after) = others after
 lines_read_after others n (Err f) = Err (n, f)
 
--- the lines with these behind them, of which the first has this number; or the number and the fault of the first that has one
+-- the lines with more after them, numbered from `number`; or the number and the fault of the first wrong one
 unfoldable pub lines_read : ℕ → ParsedLines → List RunLine → Result ParsedLines (ℕ × LineFault)
 lines_read n before [] = Ok before
 lines_read n before (t ∷ ts) = lines_read_after (λ after. lines_read (n + 1) after ts) n (line_read before t)

@@ -51,7 +51,7 @@ pub enum ParsedLine {
 pub struct LinesRead {
     /// Their values, but for the events that were forgotten.
     pub run: ParsedRun,
-    /// Whether an event was forgotten. Behind an event no line configures the run.
+    /// Whether an event was forgotten. After an event no line can configure the run.
     pub is_begun: bool,
     /// The number of the line that follows.
     pub next: u64,
@@ -99,6 +99,11 @@ impl LinesRead {
 
     /// Reads the lines of a text that follow these. A text that ends in a line feed ends in an empty line: what follows it is another
     /// line. The error is that of the first line that is wrong; the lines before it are read then, and `next` is its number.
+    ///
+    /// # Errors
+    ///
+    /// The first line that is wrong, or refused memory. The lines before that one are then read, and `next` is its
+    /// number.
     pub fn read_more(&mut self, alloc: Global, text: &[u8]) -> Result<(), ReadFault>
         ensures read { OnOk result (ReadsLines self.old self.new (text_lines text.now)) }
         ensures left { IfErr result (LeavesLines self.old self.new (text_lines text.now)) }
@@ -130,6 +135,10 @@ impl LinesRead {
     /// read.read_owned(alloc, Vec::from_slice(alloc, b"config\tfinal\tall")?)?;
     /// assert_eq!(read.run.config.final_status_level, FinalStatusLevel::All);
     /// ```
+    ///
+    /// # Errors
+    ///
+    /// The errors of [`LinesRead::read_more`].
     pub fn read_owned(&mut self, alloc: Global, text: Vec<u8>) -> Result<(), ReadFault>
         ensures read { OnOk result (ReadsLines self.old self.new (text_lines text.items)) }
         ensures left { IfErr result (LeavesLines self.old self.new (text_lines text.items)) }
@@ -152,7 +161,7 @@ impl LinesRead {
     /// Reads the next line of a recorded run, whose outputs may be stored: those that are stored are then in `stored`, and not loaded in the
     /// event. The value is not among the lines until `push` adds it. The errors are those of `read_more`, and leave `stored` empty.
     ///
-    /// A field that begins like a reference and is none, or is where none may be, is a bad field.
+    /// A field that begins like a reference is a bad field if it is not one, or if none is allowed there.
     ///
     /// ```
     /// let line = "setupdone\t-\tdb\tinit\t\tpass\t5\t0\tcomb\t\\@7:7:ee2a98c236301c76\t-\t-\t-";
@@ -162,6 +171,10 @@ impl LinesRead {
     /// read.push(value)?;
     /// assert_eq!(read.run.events.len(), 1);
     /// ```
+    ///
+    /// # Errors
+    ///
+    /// The fault of this line, or refused memory. `stored` is then empty, and the lines read before are unchanged.
     pub fn read_recorded(&mut self, alloc: Global, line: &[u8]) -> Result<ParsedLine, ReadFault>
         ensures value { IfOk result (λ value. recorded_line (before_next self.old) line.now ≡ Ok (value, self.new.stored.items)) }
         ensures fault { IfErr result (IsFaultOfNext self.old (recorded_line (before_next self.old) line.now)) }
@@ -176,6 +189,10 @@ impl LinesRead {
     }
 
     /// Adds the value of the next line. If memory is refused, nothing is added.
+    ///
+    /// # Errors
+    ///
+    /// Memory was refused. Nothing is added.
     pub fn push(&mut self, value: ParsedLine) -> Result<(), OutOfMemory>
         ensures pushed { OnOk result ((line : RunLine) → line_value (before_next self.old) line ≡ Ok value → ReadsLines self.old self.new (line ∷ [])) }
         ensures left { OnErr result (KeepsLines self.old self.new) }

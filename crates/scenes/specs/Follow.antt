@@ -1,4 +1,4 @@
--- A report that keeps up with its lines: what stops one, and what the run came to.
+-- A report that is written line by line: what stops it, and the outcome of the run.
 use Rattle.std.specs.Prelude.{◌≡◌, ◌⊎◌, ℕ, List, ◌∷◌, ◌++◌, Bool, true, Result, Ok, Err, IfErr, IfOk, OnOk}
 use Rattle.{styled_text.specs.Names.Bor, styled_text.specs.Names.Meaning, console_reporter.specs.OptionalStore.store_meaning}
 use Rattle.scene_text.specs.Names.{ParsedLines, RunLine, is_begun, line_value, lines_before, SceneEvent, LineFault}

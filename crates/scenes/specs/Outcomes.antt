@@ -9,7 +9,7 @@ use Rattle.run_model.specs.declared.stats.RunFinishedStats.TheVariants as finish
 use Rattle.run_model.specs.declared.stats.StressFinalRunStats.TheVariants as stress
 use Rattle.scenes.specs.declared.outcome.RunOutcome.TheVariants as outcome
 
--- what a run came to by its statistics: one that was cancelled has failed
+-- the outcome of a run by its statistics: one that was cancelled has failed
 abbrev pub outcome_of_single : FinalRunStats → RunOutcome
 outcome_of_single final.Success = outcome.Success
 outcome_of_single final.NoTestsRun = outcome.NoTestsRun

@@ -48,8 +48,9 @@ pub record HasAtLeast {S : Type 0} (m : Meaning S) (old : S) (text : Text) (new 
 abbrev pub HasAtMost : {S : Type 0} → Meaning S → S → Text → S → Type 0
 HasAtMost m old text new = HasFront m old text new ⊎ ((e : WriteFault) × m.stops old text e new)
 
--- At a fault both writers have come to the same one of these calls, or past the last. Each has the texts, or the records, of the calls before it
--- whole, and no more than those of it too. Of its record there is no byte before its whole text was delivered.
+-- At a fault both writers are at the same call, or after the last. Each has the complete texts, or records, of the
+-- calls before it, and of this call at most its own. There is no byte of its record before its whole text was
+-- delivered.
 pub record StandAtOneCall {W T : Type 0} (m : Meaning W) (k : Meaning T) (texts records : List ReportCall → Text) (calls : List ReportCall) (old new : W × T) : Type 0 where
   pub before : List ReportCall
   pub here : List ReportCall

@@ -7,11 +7,11 @@ use Rattle.scene_text.specs.Names.{ReadFault, AllRead, IsNextFault, ParsedLines,
 abbrev pub AreLeft : List RunLine → List ℕ → Type 0
 AreLeft lines text = (lines ≡ text_lines text) ⊎ ((lines ≡ []) × (text ≡ []))
 
--- the same where what remains of the text may be unknown
+-- like AreLeft, where what remains of the text may be unknown
 abbrev pub AreLeftOf : Option (List ℕ) → List RunLine → Type 0
 AreLeftOf remaining lines = (rest : List ℕ) × (remaining ≡ Some rest) × AreLeft lines rest
 
--- the first of all lines are this run, and these lines follow, of which the first has this number
+-- the lines before `lines` are this run, and the first of `lines` has this number
 pub record AtLine (all : List RunLine) (run : ParsedLines) (lines : List RunLine) (number : ℕ) : Type 0 where
   pub front : List RunLine
   pub whole : all ≡ front ++ lines
@@ -25,8 +25,8 @@ IsMore file (Ok true) run left number Has = Has run left
 IsMore file (Ok false) run left number Has = AreLeft left [] × Has run []
 IsMore file (Err fault) run left number Has = IsUnread file fault ⊎ ((f : ReadFault) × (fault ≡ fault_of_read f) × IsNextFault number run left f)
 
--- Behind the first of all lines, whose events are forgotten, further lines were read: their values and the numbers of their events are at
--- hand. Then comes what is left, which the source may have.
+-- After the lines `front`, whose events are forgotten, further lines were read. `read` has their values and the numbers
+-- of their events. The source may still have the lines that are left.
 pub record HasReadLines (file : List ℕ) (all front : List RunLine) (before : ParsedLines) (read : LinesRead) (more : Result Bool Fault) (Has : ParsedLines → List RunLine → Type 0) : Type 0 where
   pub lines : List RunLine
   pub left : List RunLine

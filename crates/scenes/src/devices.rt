@@ -1,4 +1,5 @@
-//! The devices of a run, each behind a buffer: that of its report, and that of its records where these are asked for.
+//! The devices of a report, each behind a buffer: one for the text, and one for the records if the options ask for
+//! them.
 
 ghost use Rattle.std.specs.Prelude.{◌≡◌, [], IfErr, IfOk};
 ghost use Rattle.scenes.specs.Devices.{IsRecordDevice};

@@ -28,6 +28,11 @@ use std::io::{Read, Write};
 /// On `Ok` the device has what `report_scene` prints of the same bytes, and the result is the outcome of the run. The error is that of the first line
 /// that has a fault, or whose event is refused: the report of the lines before it is whole. So it is if the reader fails; if a
 /// device fails or memory is refused, a prefix of it is there.
+///
+/// # Errors
+///
+/// The fault of the first line that is wrong or whose event is refused, or a failed reader: the report of the lines
+/// before it is complete. Or a failed device, or refused memory: each device then has a prefix.
 pub fn follow_scene<'a, R: Read + Drop, W: Write, S: Write>(
     alloc: Global,
     options: &Options<'a>,
@@ -49,6 +54,10 @@ pub fn follow_scene<'a, R: Read + Drop, W: Write, S: Write>(
 }
 
 /// Follows the lines of a source as [`follow_scene`] does those of a reader. On `Ok` the source has none left.
+///
+/// # Errors
+///
+/// The errors of [`follow_scene`].
 pub fn follow_source<'a, L: RunSource, W: Write, S: Write>(
     alloc: Global,
     options: &Options<'a>,

@@ -1,7 +1,7 @@
 //! Laws of the specs: functions that do nothing.
 //!
-//! Such a function has no arguments and no body. Its clause says something about definitions alone, and the prover proved
-//! it. So a law tells a reader what the clauses of other functions imply.
+//! Such a function has no arguments and no body. Its clause says something about definitions alone, and the prover
+//! proved it. So a law shows what the clauses of other functions imply.
 
 ghost use Rattle.std.specs.Prelude.{◌≡◌, ◌⊎◌, ℕ, List, [], Some, ⊤};
 ghost use Rattle.scene_text.specs.Names.{LineFault, ParsedLines, RunLine};
@@ -22,9 +22,9 @@ pub fn records_come_after_texts()
         → StandAtOneCall device device texts records calls (Some [], Some []) (Some [], Some stored) → stored ≡ [] }
 {}
 
-/// The clause `err` of `report_scene` is not empty: of a text that is a valid scene, and of which no call is refused, the
-/// fault is that the file cannot be read, that a device failed, or that memory was refused. It does not say when a
-/// device fails: by the kit's `Write` any call may.
+/// The clause `err` of `report_scene` is not empty: of a text that is a valid scene, and of which no call is refused,
+/// the fault is that the file cannot be read, that a device failed, or that memory was refused. It does not say when
+/// a device fails: by the kit's `Write` any call may.
 pub fn scenes_end_well<W: Write, S: Write>()
     ensures { (options : Options) (text : List ℕ) (old new : W × S) (fault : Fault)
         → IsRejected options text fault old new

@@ -1,5 +1,5 @@
-//! What each program does with its process: the words that it was called with, its descriptors and the file of its records, and the line and
-//! the status of a fault.
+//! What the programs do with their process: the command line, the standard descriptors, the file of the records, and
+//! the line and the exit status of a fault.
 
 ghost use Rattle.{std.specs.Fd.file_raw_fd, scenes.specs.Names.status_of, scenes.specs.Names.Fault};
 ghost use Rattle.std.specs.Prelude.{◌≡◌, ◌⊎◌, ◌↔◌, ◌≤ℤ◌, ◌<ℤ◌, pos, IfErr, IfOk, IsTrue};
@@ -16,8 +16,12 @@ use writers::write_str::RetryInterrupted;
 // The last of the descriptors that every process is given: input, output and error.
 const STANDARD_ERROR: i32 = 2;
 
-/// The words that follow the program's name. The kit's `env::args` has no contract, so this has none; the stored runs test it. The error is
-/// `Usage` where a word is no text, or that memory is refused.
+/// The words that follow the program's name. The kit's `env::args` has no contract, so no clause says which they are;
+/// the stored runs test it.
+///
+/// # Errors
+///
+/// `Usage` if a word is not UTF-8, or `OutOfMemory`.
 pub fn arguments(rt: &HostRuntime) -> Result<Vec<String>, Fault<'static>>
     ensures err { IfErr result (λ fault. (fault ≡ Fault.Usage) ⊎ (fault ≡ Fault.OutOfMemory)) }
 {
@@ -33,8 +37,9 @@ pub fn arguments(rt: &HostRuntime) -> Result<Vec<String>, Fault<'static>>
 
 /// Opens the folder `/` in the place of each standard descriptor that is closed, and leaves it open.
 ///
-/// What is opened gets the lowest free number. So without this, where standard output is closed, the file of the records would be standard
-/// output, and hold the report. No byte is written to a folder or read from one, and this one is there also without `/dev`.
+/// A file that is opened gets the lowest free number. Without this, if standard output is closed, the file of the
+/// records would become standard output and get the report. No byte can be written to a folder or read from one, and
+/// this folder exists even without `/dev`.
 pub fn fill_standard_descriptors(rt: &HostRuntime) {
     for _descriptor in 0..=STANDARD_ERROR {
         match File::open(rt, "/") {
@@ -51,8 +56,13 @@ fn is_standard(file: &File) -> bool
     file.as_raw_fd() <= STANDARD_ERROR
 }
 
-/// Makes or empties the file of the records. It is refused where that is one of the files that are read, since it would be empty then, and
-/// where it would be a standard descriptor, since it would get what is printed.
+/// Creates or empties the file of the records. It is refused if it is one of the files that are read, which would then
+/// be empty, and if it would be a standard descriptor, which gets what is printed.
+///
+/// # Errors
+///
+/// `CannotWrite` with this path if the file cannot be created or is refused, or `OutOfMemory`. Files that are read stay
+/// as they were.
 pub fn create_store<'a>(
     rt: &HostRuntime,
     path: &'a str,
@@ -66,7 +76,7 @@ pub fn create_store<'a>(
         Ok(there) if inputs.iter().any(|input| is_same_file(&there, input)) => return Err(fault),
         Ok(_) => {}
         Err(error) if error.kind() == ErrorKind::NotFound => {}
-        // What cannot be looked at is not emptied.
+        // A file whose metadata cannot be read is not emptied.
         Err(error) => return Err(fault.by_kind(error.kind())),
     }
     match File::create(rt, path) {
@@ -76,7 +86,7 @@ pub fn create_store<'a>(
     }
 }
 
-// Whether both are the same file, by whatever path. Of a pipe or a device nothing is emptied.
+// Whether both are the same regular file, by whatever path. A pipe or a device has nothing to empty.
 fn is_same_file(one: &Metadata, other: &Metadata) -> bool {
     one.is_file() && one.dev() == other.dev() && one.ino() == other.ino()
 }
@@ -89,8 +99,9 @@ pub fn report_fault(rt: &HostRuntime, program: ReportProgram, fault: Fault<'_>) 
     fault.status()
 }
 
-/// Prints a line on standard error. It takes no memory, since there may be none left, and no interrupt loses it.
+/// Prints a line on standard error. It does not allocate, since there may be no memory left, and repeats a write that
+/// is interrupted.
 pub fn print_error<D: Display + Drop>(rt: &HostRuntime, line: D) {
-    // If it cannot be printed, the status still says it.
+    // If it cannot be printed, the exit status still shows the fault.
     let _ = writeln!(RetryInterrupted::new(rt.stderr()), "{line}");
 }

@@ -1,4 +1,4 @@
-//! Where the lines of a run come from: a file that is read piece by piece, the way into `report` and `follow`, or another source.
+//! The sources of a run's lines: a file that is read piece by piece, as `report` and `follow` do, or another source.
 
 ghost use Rattle.std.specs.Prelude.{◌≡◌, ℕ, List, [], Ok, true, IfErr, IfOk, OnOk};
 ghost use Rattle.scenes.specs.Names.{IsJudgeFault, AreLeftOf, HasReadLines};
@@ -17,12 +17,17 @@ use std::mem;
 /// How many bytes are read of a file at once.
 const BYTES_AT_ONCE: usize = 16_384;
 
-/// Where the lines of a run come from.
+/// A source of the lines of a run.
 pub trait RunSource {
     // These lines are left after those before, and once they are read, this many bytes of outputs were read in all.
     ghost left: { ℕ → Self → ParsedLines → List RunLine → Type 0 };
 
     /// Reads further lines of this file. It returns whether there may be more. If a line has a fault, the lines before it are read.
+    ///
+    /// # Errors
+    ///
+    /// The fault of the first line that is wrong, `CannotRead` with this file, or `OutOfMemory`. The lines before are
+    /// read.
     fn read_next<'a>(
         &mut self,
         alloc: Global,
@@ -46,6 +51,10 @@ pub struct SceneSource<R> {
 
 impl<R: Read + Drop> SceneSource<R> {
     /// The scene that this reader has. It allocates what is read at once.
+    ///
+    /// # Errors
+    ///
+    /// Memory was refused. The reader is dropped.
     pub fn new(alloc: Global, reader: R) -> Result<SceneSource<R>, OutOfMemory>
         ensures { IfOk result (λ source. reader_remaining R.remaining source.reader ≡ R.remaining reader) }
     {

@@ -47,6 +47,11 @@ impl<'a> Model for AcceptedScene<'a> {
 /// Reads a scene to its end, and judges it whole: each line by itself, and then whether its reporter would refuse an event.
 /// It returns the fault of the first line that has one, the line of the first event that is refused, that the file cannot be
 /// read, or that memory is refused.
+///
+/// # Errors
+///
+/// The fault of the first line that is wrong, that of the line of the first event that is refused, `CannotRead`, or
+/// `OutOfMemory`.
 pub fn judge<'a, R: Read + Drop>(
     alloc: Global,
     options: &Options<'a>,
@@ -69,6 +74,10 @@ pub fn judge<'a, R: Read + Drop>(
 }
 
 /// Reads a scene to its end, and judges each line by itself.
+///
+/// # Errors
+///
+/// The fault of the first line that is wrong, `CannotRead` with the file of the options, or `OutOfMemory`.
 pub fn read_whole<'a, R: Read + Drop>(
     alloc: Global,
     options: &Options<'a>,
@@ -96,6 +105,10 @@ pub fn read_whole<'a, R: Read + Drop>(
 }
 
 /// Checks that the reporter refuses no event of a scene. Only what was checked can be reported.
+///
+/// # Errors
+///
+/// The fault of the line of the first event that is refused, or `OutOfMemory`.
 pub fn accept_scene<'a>(
     alloc: Global,
     options: &'a Options<'_>,
@@ -158,6 +171,11 @@ fn check_refusal<'a>(
 /// Reads a scene to its end, judges it, and writes its report to a device and its records to a second one, if the options ask for
 /// them. It gives both devices back: the whole way from a file's bytes to those of both texts. A scene that has a fault leaves the
 /// devices as they were. The text is delivered as by [`report_accepted`].
+///
+/// # Errors
+///
+/// A fault of the scene, a failed reader, or refused memory, after which both devices are unchanged; or a failed
+/// device, or refused memory, after which each has a prefix.
 pub fn report_scene<'a, R: Read + Drop, W: Write, S: Write>(
     alloc: Global,
     options: &Options<'a>,
@@ -184,6 +202,10 @@ pub fn report_scene<'a, R: Read + Drop, W: Write, S: Write>(
 
 /// Writes the report of a scene to a device, and its records to a second one, if the options ask for them: the plain way, by the calls of
 /// the scene. It keeps both devices. [`report_by_calls`] does the same and gives them back, so that its clauses can speak of them.
+///
+/// # Errors
+///
+/// The fault of the line of the first event that is refused, a failed device, or refused memory.
 pub fn write_report<W: Write + Drop, S: Write + Drop>(
     alloc: Global,
     options: &Options<'_>,
@@ -208,6 +230,11 @@ pub fn write_report<W: Write + Drop, S: Write + Drop>(
 /// Writes the report of a scene to a device, and its records to a second one, if the options ask for them, and gives both devices back.
 /// All calls of the scene are made, and the first that is refused is asked for. A scene that has one leaves the devices as they were; else
 /// `run_report` writes their report. [`report_accepted`] promises the same, and holds one call at a time.
+///
+/// # Errors
+///
+/// The fault of the line of the first event that is refused, after which both devices are unchanged; or a failed
+/// device, or refused memory, after which each has a prefix.
 pub fn report_by_calls<W: Write, S: Write>(
     alloc: Global,
     options: &Options<'_>,
@@ -250,6 +277,10 @@ pub fn report_by_calls<W: Write, S: Write>(
 /// Writes the report of an accepted scene to a device, and its records to a second one where the options ask for them, and gives
 /// both devices back. Without records the text goes to its device when 8,192 bytes are gathered and at the end; with records it goes
 /// there at each call, before the records of that call.
+///
+/// # Errors
+///
+/// A failed device, or refused memory. Each device has a prefix.
 pub fn report_accepted<W: Write, S: Write>(
     alloc: Global,
     judged: &AcceptedScene<'_>,

@@ -14,6 +14,10 @@ use run_model::config::CompiledDefaultFilter;
 use std::alloc::Global;
 
 /// What decides which output the scene's reporter needs and which events it refuses.
+///
+/// # Errors
+///
+/// `OutOfMemory`.
 pub fn decider_of(
     alloc: Global,
     options: &Options<'_>,
@@ -39,6 +43,10 @@ pub fn surroundings_of(config: &SceneConfig) -> Surroundings
 }
 
 /// What the scene's reporter is built from.
+///
+/// # Errors
+///
+/// `OutOfMemory`.
 pub fn builder_of(
     alloc: Global,
     options: &Options<'_>,

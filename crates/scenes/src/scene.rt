@@ -23,7 +23,7 @@ pub struct Scene {
 }
 
 impl Scene {
-    /// The line of the event at this place, from 1; 0 where there is no such event.
+    /// The line of the event with this index, from 1; 0 if there is no such event.
     pub fn line_of(&self, place: usize) -> u64
         ensures { result ≡ get_or self.now.lines.items place 0 }
     {
@@ -32,6 +32,10 @@ impl Scene {
 
     /// The calls that the scene makes of a reporter, in order. They borrow its names. Where the options ask for it, the output
     /// that the reporter does not show is left unread, which changes neither its report nor what it refuses.
+    ///
+    /// # Errors
+    ///
+    /// `OutOfMemory`.
     #[tactic(auto, using(crate::proofs::lemmas::ReadyCalls::ready_whole, crate::proofs::lemmas::ReadyCalls::ready_unread))]
     pub fn calls(
         &self,

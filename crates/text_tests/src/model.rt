@@ -1,4 +1,4 @@
-//! What a run comes to.
+//! The results of runs.
 
 mod stats;
 mod stress;

@@ -11,7 +11,7 @@ use Rattle.{scene_fields.specs.declared.fault.LineFault.TheVariants.WrongNumberO
 use Rattle.run_model.specs.declared.output.ChildOutputDescription.TheVariants as streams
 use Rattle.scene_events.specs.declared.scene.event.SceneEvent.TheVariants as event
 
--- the value of the fields behind a word, by the first of these rows that has it, or else so
+-- the value of the fields after a word, by the first row with this word, or by `otherwise` if there is none
 abbrev pub by_row : {X : Type 0} → Line X → List (List ℕ × Line X) → List ℕ → Line X
 by_row otherwise [] word = otherwise
 by_row otherwise (row ∷ rows) word = if bytes_eq word row.0 then row.1 else by_row otherwise rows word
@@ -125,7 +125,7 @@ retry_numbered total number = record { attempt = number; total_attempts = total 
 abbrev pub attempt_number : ℕ → Line ℕ
 attempt_number n = λ p. if nat_lt n (2 ^ 32) then says n p else Err WrongNumberOfFields
 
--- n more attempts after these, the first of which has this number
+-- n more attempts, after `earlier` and `last`; the first of them has this number
 unfoldable pub attempts_from : FlakyResult → ℕ → ℕ → ℕ → List Attempt → Attempt → Line (Attempts LiveSpec ChildOutputDescription)
 attempts_from flaky total number zero earlier last = says (record { earlier = earlier; last = last; flaky_result = flaky })
 attempts_from flaky total number (suc more) earlier last = do
@@ -133,7 +133,7 @@ attempts_from flaky total number (suc more) earlier last = do
   next ← attempt_fields (retry_numbered total attempt)
   attempts_from flaky total (number + 1) more (earlier ++ last ∷ []) next
 
--- attempts behind the first one, up to the end of the line, eight fields each
+-- the attempts after the first one, up to the end of the line, eight fields each
 abbrev pub attempts_behind : FlakyResult → ℕ → Attempt → Line (Attempts LiveSpec ChildOutputDescription)
 attempts_behind flaky total first p = attempts_from flaky total 2 (length p.left / 8) [] first p
 
@@ -233,7 +233,7 @@ state_fields = do
   state ← valued (state_with result begun)
   says (state, result)
 
--- the same, and what it has written
+-- the state of a unit, and what it has written
 unfoldable pub answer_fields : Line UnitAnswer
 answer_fields = do
   read ← state_fields

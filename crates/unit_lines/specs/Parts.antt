@@ -45,7 +45,7 @@ running_in t = do
   timing ← timing_in cut_1.1
   Some (state.Running pid timing.0 timing.1)
 
--- `exiting`: the same, and the wait for its handles
+-- `exiting`: the parts of `running`, and the wait for the process's handles
 unfoldable pub exiting_in : List ℕ → Option UnitState
 exiting_in t = do
   cut_1 ← cut 58 t
@@ -135,6 +135,6 @@ highlight_of t = do
   slice ← bytes_in cut_2.1
   Some (record { stream = stream; start = start; slice = slice })
 
--- the same, or `-`
+-- a highlight, or `-`
 abbrev pub highlight_in : List ℕ → Option (Option Highlight)
 highlight_in t = if bytes_eq t (codes "-") then Some None else option_map (λ h. Some h) (highlight_of t)

@@ -34,7 +34,11 @@ impl BinaryIds {
         }
     }
 
-    /// Reads the id of a test's binary. It is copied where it is none of the ids that are kept, and is shared with those lines else.
+    /// Reads the id of a test's binary. An id that is kept from an earlier line is shared with it; any other is copied.
+    ///
+    /// # Errors
+    ///
+    /// Memory was refused. A bad field is no error but `None`.
     #[inline(always)]
     pub fn read(&mut self, alloc: Global, field: &str) -> Field<SharedBinaryId>
         ensures { IfOk result (λ id. id ≡ text_in field.now) }
@@ -47,7 +51,7 @@ impl BinaryIds {
         self.read_new(alloc, field)
     }
 
-    // Reads an id that is not kept, and keeps it, in place of all others where there is no room.
+    // Reads an id that is not kept, and keeps it. If there is no room, all others are dropped first.
     #[inline(never)]
     fn read_new(&mut self, alloc: Global, field: &str) -> Field<SharedBinaryId>
         ensures { IfOk result (λ id. id ≡ text_in field.now) }

@@ -46,6 +46,10 @@ type Line<T> = Result<T, LineError>;
 type EventResult = Line<SceneEvent>;
 
 /// Reads a `start` line: the test, the statistics, and the command.
+///
+/// # Errors
+///
+/// The first fault of the line, or refused memory.
 pub fn read_start(alloc: Global, ids: &mut BinaryIds, fields: &mut Fields<'_>) -> EventResult
     ensures { Gives (λ e. e) fields.old result fields.new start_line_fields }
 {
@@ -58,6 +62,10 @@ pub fn read_start(alloc: Global, ids: &mut BinaryIds, fields: &mut Fields<'_>) -
 }
 
 /// Reads a `retrystart` line: the test, the attempt, and the command.
+///
+/// # Errors
+///
+/// The first fault of the line, or refused memory.
 pub fn read_retry_start(alloc: Global, ids: &mut BinaryIds, fields: &mut Fields<'_>) -> EventResult
     ensures { Gives (λ e. e) fields.old result fields.new retry_start_line_fields }
 {
@@ -70,6 +78,10 @@ pub fn read_retry_start(alloc: Global, ids: &mut BinaryIds, fields: &mut Fields<
 }
 
 /// Reads a `slow` line: the test, the attempt, how long it has taken, and whether it is ended.
+///
+/// # Errors
+///
+/// The first fault of the line, or refused memory.
 pub fn read_slow(alloc: Global, ids: &mut BinaryIds, fields: &mut Fields<'_>) -> EventResult
     ensures { Gives (λ e. e) fields.old result fields.new slow_line_fields }
 {
@@ -84,6 +96,10 @@ pub fn read_slow(alloc: Global, ids: &mut BinaryIds, fields: &mut Fields<'_>) ->
 
 /// Reads a `retry` line: the test, which attempt failed, how long the next one waits, when the output is shown, and the
 /// attempt.
+///
+/// # Errors
+///
+/// The first fault of the line, or refused memory.
 pub fn read_retry(alloc: Global, ids: &mut BinaryIds, fields: &mut Fields<'_>) -> EventResult
     ensures { Gives (λ e. e) fields.old result fields.new retry_line_fields }
 {
@@ -100,6 +116,10 @@ pub fn read_retry(alloc: Global, ids: &mut BinaryIds, fields: &mut Fields<'_>) -
 
 /// Reads a `done` line: the test, when the output of a success and of a failure is shown, what a
 /// flaky test counts as, the statistics, how many attempts there can be, and the attempts.
+///
+/// # Errors
+///
+/// The first fault of the line, or refused memory.
 pub fn read_done(alloc: Global, ids: &mut BinaryIds, fields: &mut Fields<'_>) -> EventResult
     ensures { Gives (λ e. e) fields.old result fields.new done_line_fields }
 {
@@ -135,6 +155,10 @@ fn read_packed_stats(alloc: Global, field: &str) -> Field<PackedStats>
 }
 
 /// Reads which test it is: stress index, binary id and name.
+///
+/// # Errors
+///
+/// The first fault of the line, or refused memory.
 #[inline(always)]
 #[tactic(auto, unfolding(crate::specs::Lines::test_fields))]
 pub fn read_test(alloc: Global, ids: &mut BinaryIds, fields: &mut Fields<'_>) -> Line<SceneTest>
@@ -242,6 +266,10 @@ fn read_written_output(alloc: Global, fields: &mut Fields<'_>) -> Line<AttemptOu
 }
 
 /// Reads a `setup` line: the iteration, which script it is of how many, and the script.
+///
+/// # Errors
+///
+/// The first fault of the line, or refused memory.
 pub fn read_setup(alloc: Global, fields: &mut Fields<'_>) -> EventResult
     ensures { Gives (λ e. e) fields.old result fields.new setup_line_fields }
 {
@@ -255,6 +283,10 @@ pub fn read_setup(alloc: Global, fields: &mut Fields<'_>) -> EventResult
 }
 
 /// Reads a `setupslow` line: the iteration, the script, how long it has taken, and whether it is ended.
+///
+/// # Errors
+///
+/// The first fault of the line, or refused memory.
 pub fn read_setup_slow(alloc: Global, fields: &mut Fields<'_>) -> EventResult
     ensures { Gives (λ e. e) fields.old result fields.new setup_slow_line_fields }
 {
@@ -268,6 +300,10 @@ pub fn read_setup_slow(alloc: Global, fields: &mut Fields<'_>) -> EventResult
 }
 
 /// Reads a `setupdone` line: the iteration, the script, and its only attempt.
+///
+/// # Errors
+///
+/// The first fault of the line, or refused memory.
 pub fn read_setup_done(alloc: Global, fields: &mut Fields<'_>) -> EventResult
     ensures { Gives (λ e. e) fields.old result fields.new setup_done_line_fields }
 {
@@ -292,6 +328,10 @@ fn read_script(alloc: Global, fields: &mut Fields<'_>) -> Line<SceneScript>
 }
 
 /// Reads an `answer-script` line: which response it is of how many, the iteration, the script, and its response.
+///
+/// # Errors
+///
+/// The first fault of the line, or refused memory.
 pub fn read_answer_script(alloc: Global, fields: &mut Fields<'_>) -> EventResult
     ensures { Gives (λ e. e) fields.old result fields.new answer_script_line_fields }
 {
@@ -306,6 +346,10 @@ pub fn read_answer_script(alloc: Global, fields: &mut Fields<'_>) -> EventResult
 }
 
 /// Reads an `answer-test` line: which response it is of how many, the test, the attempt, and its response.
+///
+/// # Errors
+///
+/// The first fault of the line, or refused memory.
 pub fn read_answer_test(alloc: Global, ids: &mut BinaryIds, fields: &mut Fields<'_>) -> EventResult
     ensures { Gives (λ e. e) fields.old result fields.new answer_test_line_fields }
 {
@@ -357,7 +401,7 @@ fn read_output(alloc: Global, fields: &mut Fields<'_>) -> Line<SceneOutput>
     read_spelled_output(alloc, fields)
 }
 
-// The same where outputs may be stored. Not inlined, like `read_more_attempts`.
+// Like `read_spelled_output`, for a line whose outputs may be stored. Not inlined, like `read_more_attempts`.
 #[inline(never)]
 fn read_noted_output(alloc: Global, fields: &mut Fields<'_>) -> Line<SceneOutput>
     ensures { Gives (λ o. o) fields.old result fields.new output_fields }

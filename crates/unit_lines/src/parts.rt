@@ -30,6 +30,10 @@ use std::alloc::Global;
 /// let state = read_state(alloc, "running:42:1500000000:-")?; // for 1.5 s, as the process 42
 /// assert!(matches!(state, Some(UnitState::Running { .. })));
 /// ```
+///
+/// # Errors
+///
+/// Memory was refused. A bad field is no error but `None`.
 #[tactic(auto, unfolding(crate::specs::Parts::state_in))]
 pub fn read_state(alloc: Global, field: &str) -> Field<UnitState>
     ensures { IfOk result (λ state. state ≡ state_in field.now) }
@@ -61,7 +65,7 @@ fn read_running(text: &str) -> Option<UnitState>
     })
 }
 
-// Reads the parts after `exiting`: the same, and the wait for the process's handles.
+// Reads the parts after `exiting`: those of `running`, and the wait for the process's handles.
 #[tactic(auto, unfolding(crate::specs::Parts::exiting_in))]
 fn read_exiting(text: &str) -> Option<UnitState>
     ensures { result ≡ exiting_in text.now }
@@ -146,7 +150,7 @@ fn read_delay(text: &str) -> Option<UnitState>
     })
 }
 
-/// The state with the result of the field behind it, which what has ended has.
+/// Adds the result to a state of a unit that has ended; the field after the state holds it.
 pub fn state_with(
     state: UnitState,
     outcome: Option<ExecutionResultDescription>,
@@ -170,6 +174,10 @@ pub fn state_with(
 }
 
 /// Reads how an attempt ended, or `-`.
+///
+/// # Errors
+///
+/// Memory was refused. A bad field is no error but `None`.
 pub fn read_result_or_none(alloc: Global, field: &str) -> Field<Option<ExecutionResultDescription>>
     ensures { IfOk result (λ outcome. outcome ≡ result_or_none_in field.now) }
 {
@@ -180,6 +188,10 @@ pub fn read_result_or_none(alloc: Global, field: &str) -> Field<Option<Execution
 }
 
 /// Copies how an attempt ended, if that is known.
+///
+/// # Errors
+///
+/// Memory was refused.
 pub fn copy_outcome(
     alloc: Global,
     outcome: &Option<ExecutionResultDescription>,
@@ -233,6 +245,10 @@ fn read_terminate_reason(text: &str) -> Option<UnitTerminateReason>
 }
 
 /// Reads the part of the output to point out: its stream, the place of its first byte, and its bytes; or `-`.
+///
+/// # Errors
+///
+/// Memory was refused. A bad field is no error but `None`.
 pub fn read_highlight(alloc: Global, field: &str) -> Field<Option<Boxed<Highlight>>>
     ensures { IfOk result (λ highlight. highlight ≡ highlight_in field.now) }
 {

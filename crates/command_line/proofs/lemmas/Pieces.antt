@@ -40,7 +40,6 @@ module _ (text old left at_hand new : List ℕ) (rest : Option (List ℕ)) (so_f
   part_behind taken = (taken.0, taken.1, so_far ∙ taken.2)
 
 -- at the end of the file: what was taken is the last piece, or nothing
---
 pub at_end : (text piece : List ℕ) (rest : Option (List ℕ)) (no_byte : Bool) → no_byte ≡ (length piece == 0) → text ≡ piece → rest ≡ Some [] → IsNextPiece text (not no_byte) piece rest
 at_end text [] rest false size is end = absurd (grind (arith, nat_tests, size))
 at_end text [] rest true size is end = (is, end)

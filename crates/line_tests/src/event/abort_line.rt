@@ -1,4 +1,5 @@
-//! The line after the line of a test that was ended from outside. A status of a scene always has a message.
+//! The line below the line of a test that was aborted, for a Windows status without a message: in a scene it always has
+//! one.
 
 use crate::testing::expect_text;
 use report_text::helpers::display_abort_status;
@@ -16,8 +17,8 @@ fn a_status_may_have_no_message(rt: HostRuntime) -> Result<(), Fail> {
         code: -1_073_741_510,
         message: None,
     };
-    let told = display_abort_status(alloc, &abort)?;
-    expect_text(&rt, told.as_str(), "aborted with code 0xc000013a");
+    let status = display_abort_status(alloc, &abort)?;
+    expect_text(&rt, status.as_str(), "aborted with code 0xc000013a");
     let outcome = ExecutionResultDescription::Fail {
         failure: FailureDescription::Abort {
             abort: Boxed::new(alloc, abort)?,

@@ -1,4 +1,5 @@
-//! How an attempt ended, after its output. A scene has no signal with a name that left handles open.
+//! How an attempt ended, as shown after its output: a signal with a name, of a process that left handles open. No scene
+//! can spell that.
 
 ghost use Rattle.std.specs.Prelude.{◌≡◌, IfOk, true};
 ghost use Rattle.run_model.specs.Outputs.{has_loaded_output};

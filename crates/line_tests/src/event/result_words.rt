@@ -1,5 +1,5 @@
-//! The words of results that no scene reaches: the long ones of successes, since their lines take the words of `success_str`, and those of
-//! a process that left handles open where a scene cannot say so.
+//! The words of results that no scene leads to: the long words of successes, since their lines use `success_str`, and
+//! those of processes that left handles open in ways that a scene cannot spell.
 
 use itoa::Buffer;
 use run_model::abort::{AbortDescription, DescriptionText};

@@ -1,4 +1,4 @@
-//! The line of a finished test in the summary. No scene reaches one with a bar in the place of its counter.
+//! The line of a finished test in the summary, with a bar in place of its counter: no scene leads to one.
 
 use crate::testing::expect_text;
 use report_text::helpers::DisplayCounterIndex;
@@ -30,7 +30,7 @@ fn flaky() -> StatusSummary {
 }
 
 #[test]
-fn an_iteration_stands_before_a_bar(rt: HostRuntime) -> Result<(), Fail> {
+fn an_iteration_comes_before_a_bar(rt: HostRuntime) -> Result<(), Fail> {
     let alloc = rt.alloc();
     let binary_id = RustBinaryId::new(alloc, "my-binary-id")?;
     let test_name = TestCaseName::new(alloc, "test1")?;

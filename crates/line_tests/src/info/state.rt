@@ -1,4 +1,5 @@
-//! The line of a unit that waits for its next attempt. In the response of a test its attempt is shown; here it is not.
+//! The line of a unit that waits for its next attempt, without the number of the attempt, which the response of a test
+//! shows.
 
 use crate::testing::{expect_text, settings};
 use info_text::state::{InfoUnit, write_state};

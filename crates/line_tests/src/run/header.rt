@@ -1,4 +1,4 @@
-//! The header of a replay. A header of a scene has no fraction of a second.
+//! The header of a replay, with a fraction of a second, which a header of a scene never has.
 
 use crate::testing::expect_text;
 use jiff::civil::DateTime;

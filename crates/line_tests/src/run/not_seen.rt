@@ -1,4 +1,4 @@
-//! The note of tests that were not seen. Where a scene says 0 there is none.
+//! The note of outstanding tests that were not seen, with a count of 0: in a scene, 0 means that there is no note.
 
 use crate::testing::{expect_text, settings};
 use run_model::not_seen::{NotSeen, TestInstanceList};

@@ -4,7 +4,7 @@ use recorded::Source;
 use std::io;
 use std::io::ErrorKind;
 
-/// Bytes of which some calls fail, be they questions or reads.
+/// A source of which some calls fail: requests for its length, or reads.
 #[derive(Drop)]
 pub struct Failing<'a> {
     all: &'a [u8],
@@ -32,7 +32,7 @@ impl<'a> Failing<'a> {
         }
     }
 
-    // Counts a call, which fails where none is left.
+    // Counts a call, and fails if it is one that is to fail.
     fn call(&mut self) -> io::Result<()> {
         if self.calls_left > 0 {
             self.calls_left -= 1;
@@ -57,7 +57,7 @@ impl Source for Failing<'_> {
     }
 }
 
-/// Bytes of which more are there at each question.
+/// A source that has more bytes at each request for its length.
 #[derive(Drop)]
 pub struct Growing<'a> {
     all: &'a [u8],
@@ -65,7 +65,7 @@ pub struct Growing<'a> {
 }
 
 impl<'a> Growing<'a> {
-    /// As many are there as these say, one after the other.
+    /// A source that returns these lengths, in order.
     pub fn new(all: &'a [u8], lens: &'a [usize]) -> Growing<'a> {
         Growing { all, lens }
     }
@@ -85,7 +85,7 @@ impl Source for Growing<'_> {
     }
 }
 
-/// Fewer bytes than its length.
+/// A source that has fewer bytes than its length says.
 #[derive(Drop)]
 pub struct Shortened<'a> {
     all: &'a [u8],
@@ -93,7 +93,7 @@ pub struct Shortened<'a> {
 }
 
 impl<'a> Shortened<'a> {
-    /// How many of them there are.
+    /// A source of the first `there` of these bytes, with the length of all.
     pub fn new(all: &'a [u8], there: usize) -> Shortened<'a> {
         Shortened { all, there }
     }

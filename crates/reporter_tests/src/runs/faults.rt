@@ -1,8 +1,8 @@
-//! Each write and each flush of either writer fails once: what the two devices took, which call has the fault, and that neither
-//! a later call writes nor one that is refused.
+//! Each write and each flush of either writer fails once. The tests check what the two devices took, which call has the
+//! fault, and that neither a later call nor a refused one writes.
 
 use super::{ALL_OUTPUT, Texts, Trial, begin, front_len, run_alone, run_with_store, try_runs};
-use crate::testing::{Answers, line_builder, make_calls, retried_success, write_event};
+use crate::testing::{CallResults, line_builder, make_calls, retried_success, write_event};
 use console_reporter::imp::Store;
 use console_reporter::prelude::*;
 use std::alloc::Global;
@@ -18,7 +18,7 @@ enum Failing {
     Store,
 }
 
-// A device that works for the first n calls that can fail.
+// A device whose call after the first n fails.
 #[derive(Clone, Copy)]
 struct Fault {
     failing: Failing,
@@ -26,7 +26,7 @@ struct Fault {
     works: usize,
 }
 
-// What a run leaves: how it ended, and how many bytes either device took.
+// The result of a run, and how many bytes each device took.
 #[derive(Clone, Copy, PartialEq, Eq)]
 struct Left {
     outcome: Result<(), RunFault>,
@@ -35,7 +35,7 @@ struct Left {
 }
 
 impl Fault {
-    // What a run of calls that have these texts leaves.
+    // The expected result for calls with these texts.
     fn leaves(self, texts: Texts) -> Left {
         let (of_failing, fault) = match self.failing {
             Failing::Store => (texts.records, WriteEventError::StoreIo),
@@ -73,8 +73,8 @@ impl Fault {
         }
     }
 
-    // In which call the device fails, and how many bytes it took before. Each call writes its text, a piece at a time, and flushes
-    // the device; the end of the report flushes it once more.
+    // The call in which the device fails, and how many bytes it took before. Each call writes its text piece by piece
+    // and flushes the device. The end of the report flushes it once more.
     fn stop(self, texts: &[&str]) -> Option<(usize, usize)> {
         let (mut works, mut taken) = (self.works, 0usize);
         for (position, text) in texts.iter().enumerate() {
@@ -124,15 +124,15 @@ impl Fault {
         Ok((Devices::under(report, records), outcome))
     }
 
-    // Makes every call, also those after a fault, after an event that is refused. It returns the devices, whether that one was
-    // refused, and the results of the others.
+    // Reports an event that is refused, and then makes every call, even after a fault. It returns the devices,
+    // whether the event was refused, and the results of the calls.
     fn make_all(
         self,
         alloc: Global,
         builder: DisplayReporterBuilder,
         refused: &TestEvent<'_>,
         calls: &[ReportCall<'_>],
-    ) -> Result<(Devices, bool, Answers), Fail> {
+    ) -> Result<(Devices, bool, CallResults), Fail> {
         let (mut report, mut records) = self.writers(alloc)?;
         let store = match self.failing {
             Failing::Report => None,
@@ -141,11 +141,11 @@ impl Fault {
             }
         };
         let mut reporter = builder.build_in(alloc, &mut report, store, Surroundings::default());
-        let answer = write_event(&mut reporter, refused);
-        let answers = make_calls(alloc, &mut reporter, calls);
+        let refusal = write_event(&mut reporter, refused);
+        let results = make_calls(alloc, &mut reporter, calls);
         let _parts = reporter.into_parts();
-        let is_refused = answer == Err(WriteEventError::RetriedSuccess);
-        Ok((Devices::under(report, records), is_refused, answers))
+        let is_refused = refusal == Err(WriteEventError::RetriedSuccess);
+        Ok((Devices::under(report, records), is_refused, results))
     }
 
     // Runs the calls over these devices.
@@ -164,7 +164,7 @@ impl Fault {
         self.try_calls(alloc, refused, calls, texts, left)
     }
 
-    // The same call by call.
+    // Like `try_run`, call by call.
     fn try_calls(
         self,
         alloc: Global,
@@ -174,18 +174,18 @@ impl Fault {
         left: Left,
     ) -> Result<(), Fail> {
         let builder = line_builder(alloc, StatusLevel::Pass)?;
-        let (devices, is_refused, answers) = self.make_all(alloc, builder, refused, calls)?;
-        if answers.outcome != left.outcome || !devices.took(texts, left) {
+        let (devices, is_refused, results) = self.make_all(alloc, builder, refused, calls)?;
+        if results.outcome != left.outcome || !devices.took(texts, left) {
             return Err(Fail::from("calls one by one left other texts"));
         }
-        if !is_refused || !answers.are_silent {
-            return Err(Fail::from("a call did not answer that it was refused, or that one failed"));
+        if !is_refused || !results.are_silent {
+            return Err(Fail::from("a call did not return that it was refused, or that one failed"));
         }
         Ok(())
     }
 }
 
-// A writer over a device that works for the first n calls that can fail.
+// A writer over a device whose call after the first n fails.
 fn buffer(alloc: Global, works: usize, failure: Failure) -> Result<TextBuffer<Device>, Fail> {
     Ok(TextBuffer::new(alloc, Device::failing_at(alloc, works, failure))?)
 }
@@ -213,7 +213,7 @@ impl Devices {
     }
 }
 
-// Runs the calls over a device that fails at its first call, at its second, and so on until it does not fail.
+// Reports the run to a device that fails at its first call, then at its second, and so on until none fails.
 fn try_each(
     alloc: Global,
     refused: &TestEvent<'_>,
@@ -236,7 +236,7 @@ fn try_each(
     Err(Fail::from("every device failed"))
 }
 
-// For either writer, and for each way to fail.
+// Tries this for each writer and for each kind of failure.
 fn try_all(
     alloc: Global,
     refused: &TestEvent<'_>,
@@ -251,7 +251,7 @@ fn try_all(
     Ok(())
 }
 
-/// Runs the calls over devices that fail, one at each of its calls.
+/// Reports the run to devices that fail, at each of their calls in turn.
 pub fn try_run(
     alloc: Global,
     test: TestInstanceId<'_>,

@@ -1,8 +1,9 @@
-//! Runs whose memory may be refused. With ample memory every report is whole. `scripts/check-faults` runs these tests once for each
-//! growth, which is refused then: they return that error, and fail with other words if a text is no prefix of the whole.
+//! Runs when memory is refused. With enough memory every report is complete. `scripts/check-faults` runs these tests
+//! once for each allocation, which it refuses: a test then returns that error, and fails with another message if a text
+//! is no prefix of the whole one.
 
 use super::{ALL_OUTPUT, Texts, Trial, begin, front_len, run_alone, run_with_store, try_runs};
-use crate::testing::{Answers, line_builder, make_call, make_calls};
+use crate::testing::{CallResults, line_builder, make_call, make_calls};
 use console_reporter::prelude::*;
 use run_model::run_id::ShortestRunIdPrefix;
 use std::alloc::Global;
@@ -10,7 +11,7 @@ use std::mem;
 use std::test::Fail;
 use test_devices::Device;
 
-// How a run is made: by one call, without a store and with one, or call by call.
+// How a run is reported: at once, without a store or with one, or call by call.
 #[derive(Clone, Copy, PartialEq, Eq)]
 enum Way {
     Alone,
@@ -20,20 +21,20 @@ enum Way {
 
 const WAYS: [Way; 3] = [Way::Alone, Way::WithStore, Way::CallByCall];
 
-// Bytes enough for each of the texts.
+// More bytes than each of the texts has.
 const ROOM: usize = 1000;
 
-// Makes a run, whose second writer gets nothing if there is no store.
+// Reports a run. Without a store the second writer gets nothing.
 fn run_over<W: WriteStr, S: WriteStr>(
     alloc: Global,
     way: Way,
     report: &mut W,
     records: &mut S,
     calls: &[ReportCall<'_>],
-) -> Result<Answers, OutOfMemory> {
+) -> Result<CallResults, OutOfMemory> {
     match way {
-        Way::Alone => Ok(Answers::to_run(run_alone(alloc, report, calls)?)),
-        Way::WithStore => Ok(Answers::to_run(run_with_store(alloc, report, records, calls)?)),
+        Way::Alone => Ok(CallResults::to_run(run_alone(alloc, report, calls)?)),
+        Way::WithStore => Ok(CallResults::to_run(run_with_store(alloc, report, records, calls)?)),
         Way::CallByCall => {
             let builder = line_builder(alloc, StatusLevel::Pass)?;
             Ok(make_each(alloc, builder, report, records, calls))
@@ -47,33 +48,33 @@ fn make_each<W: WriteStr, S: WriteStr>(
     report: &mut W,
     records: &mut S,
     calls: &[ReportCall<'_>],
-) -> Answers {
+) -> CallResults {
     let mut reporter = builder.build_with_store(
         alloc, report, records, ALL_OUTPUT, false, false, false, false,
     );
-    let answers = make_calls(alloc, &mut reporter, calls);
+    let results = make_calls(alloc, &mut reporter, calls);
     let _parts = reporter.into_parts();
-    answers
+    results
 }
 
-// Whether a run with these results leaves these texts: all, or if memory was refused a prefix of each, and of a record only
-// after the whole text of its call. Without a store there are no records.
-fn leaves(texts: Texts, answers: Answers, report: &[u8], records: Option<&[u8]>) -> bool {
-    let is_known = match answers.outcome {
+// Whether these texts are right for a run with these results: complete, or a prefix of each if memory was refused. A
+// record comes only after the whole text of its call. Without a store there are no records.
+fn leaves(texts: Texts, results: CallResults, report: &[u8], records: Option<&[u8]>) -> bool {
+    let is_known = match results.outcome {
         Ok(()) => true,
-        Err(stop) => stop.fault == WriteEventError::Memory && answers.are_silent,
+        Err(stop) => stop.fault == WriteEventError::Memory && results.are_silent,
     };
-    if !is_known || !reaches(report, texts.report, answers.outcome) {
+    if !is_known || !reaches(report, texts.report, results.outcome) {
         return false;
     }
     let Some(records) = records else {
         return true;
     };
-    reaches(records, texts.records, answers.outcome)
-        && is_text_first(texts, answers.outcome, report, records)
+    reaches(records, texts.records, results.outcome)
+        && is_text_first(texts, results.outcome, report, records)
 }
 
-// Whether these bytes are the texts of the calls that worked, and a beginning of that of the call that did not.
+// Whether these bytes are the texts of the calls that succeeded and a prefix of the text of the call that did not.
 fn reaches(bytes: &[u8], texts: &[&str], outcome: Result<(), RunFault>) -> bool {
     let (least, most) = match outcome {
         Ok(()) => (texts.len(), texts.len()),
@@ -98,41 +99,41 @@ fn is_text_first(
         || report.len() == front_len(texts.report, stop.position.saturating_add(1))
 }
 
-// How the run ended, unless it left other texts than it may.
+// The result of the run, after its texts were checked.
 fn judge(
     texts: Texts,
-    answers: Result<Answers, OutOfMemory>,
+    results: Result<CallResults, OutOfMemory>,
     report: &[u8],
     records: Option<&[u8]>,
 ) -> Result<(), Fail> {
-    let answers = answers?;
-    if !leaves(texts, answers, report, records) {
+    let results = results?;
+    if !leaves(texts, results, report, records) {
         return Err(Fail::from("a run left other texts"));
     }
-    answers.outcome?;
+    results.outcome?;
     Ok(())
 }
 
-/// Runs the calls over two texts that grow.
+/// Reports the run to two texts that grow.
 pub fn run_over_strings(alloc: Global, calls: &[ReportCall<'_>], texts: Texts) -> Result<(), Fail> {
     for way in WAYS {
         let (mut report, mut records) = (String::new(alloc), String::new(alloc));
-        let answers = run_over(alloc, way, &mut report, &mut records, calls);
+        let results = run_over(alloc, way, &mut report, &mut records, calls);
         let stored = (way != Way::Alone).then_some(records.as_bytes());
-        judge(texts, answers, report.as_bytes(), stored)?;
+        judge(texts, results, report.as_bytes(), stored)?;
     }
     Ok(())
 }
 
-/// Runs the calls over two buffers, which reserve their memory before.
+/// Reports the run through two buffers, which reserve their memory first.
 pub fn run_over_buffers(alloc: Global, calls: &[ReportCall<'_>], texts: Texts) -> Result<(), Fail> {
     for way in WAYS {
         let mut report = buffer(alloc)?;
         let mut records = buffer(alloc)?;
-        let answers = run_over(alloc, way, &mut report, &mut records, calls);
+        let results = run_over(alloc, way, &mut report, &mut records, calls);
         let (report, records) = (device_under(report), device_under(records));
         let stored = (way != Way::Alone).then_some(records.taken());
-        judge(texts, answers, report.taken(), stored)?;
+        judge(texts, results, report.taken(), stored)?;
     }
     Ok(())
 }
@@ -156,7 +157,8 @@ pub fn run_after_prefix(alloc: Global, calls: &[ReportCall<'_>], texts: Texts) -
     tried
 }
 
-// The copy of a prefix may be refused as well. The reporter would go on with another text than its calls have, so it has failed then.
+// The memory for the copy of the prefix may be refused too. The reporter then has failed: it would go on with other
+// texts.
 fn run_after(
     alloc: Global,
     prefix: &ReportCall<'_>,
@@ -176,12 +178,12 @@ fn run_after(
         false,
     );
     let copied = make_call(alloc, &mut reporter, prefix);
-    let answers = make_calls(alloc, &mut reporter, calls);
+    let results = make_calls(alloc, &mut reporter, calls);
     let _parts = reporter.into_parts();
     let Err(fault) = copied else {
         return judge(
             texts,
-            Ok(answers),
+            Ok(results),
             report.as_bytes(),
             Some(records.as_bytes()),
         );
@@ -190,14 +192,14 @@ fn run_after(
         position: 0,
         fault: WriteEventError::Failed,
     });
-    if answers.outcome != failed || !report.is_empty() || !records.is_empty() {
+    if results.outcome != failed || !report.is_empty() || !records.is_empty() {
         return Err(Fail::from("the report went on without its prefix"));
     }
     let outcome = Err(RunFault { position: 0, fault });
-    let answers = Answers { outcome, ..answers };
+    let results = CallResults { outcome, ..results };
     judge(
         texts,
-        Ok(answers),
+        Ok(results),
         report.as_bytes(),
         Some(records.as_bytes()),
     )

@@ -1,5 +1,6 @@
-//! Reports whose memory may be refused. With ample memory each is whole. `scripts/check-faults` runs these tests once for each growth,
-//! which is refused then: a test returns that error, and panics if a text is no prefix of the whole.
+//! Reports when memory is refused. With enough memory each is complete. `scripts/check-faults` runs these tests once
+//! for each allocation, which it refuses: a test then returns that error, and panics if a text is no prefix of the
+//! whole one.
 
 use super::pieces::large_line;
 use super::{
@@ -14,7 +15,7 @@ use test_devices::Device;
 // More bytes than each report has.
 const ROOM: usize = 600;
 
-// Scenes, their reports, and what is stored of them without outputs.
+// Scenes, their reports, and their records without outputs.
 const REPORTS: [(&str, &str, &str); 3] = [
     (
         TWO_TESTS,
@@ -25,7 +26,7 @@ const REPORTS: [(&str, &str, &str); 3] = [
     (ASKED, OF_ASKED, ""),
 ];
 
-// Whether a run with this result leaves this text: the whole, or a prefix if memory was refused.
+// Whether this text is right for a run with this result: the whole one, or a prefix of it if memory was refused.
 fn leaves(outcome: &Result<(), Fault<'_>>, text: &[u8], whole: &str) -> bool {
     match outcome {
         Ok(()) => text == whole.as_bytes(),

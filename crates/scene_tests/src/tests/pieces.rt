@@ -1,4 +1,4 @@
-//! Scenes that are longer than what is read of a file at once.
+//! Scenes that are longer than one read of a file.
 
 use super::{OPTIONS, report_and_store};
 use run_model::level::StatusLevel;
@@ -8,7 +8,7 @@ use scenes::fault::{Fault, LineFault};
 use std::alloc::{AllocError, Global};
 use std::test::Fail;
 
-// How many lines come before the long one, and after it: a read ends within each half.
+// The number of lines before the long line, and of those after it: enough for a read to end among each.
 const LINES: usize = 1500;
 
 const SHOWING_SKIPS: Options<'static> = Options {
@@ -16,7 +16,7 @@ const SHOWING_SKIPS: Options<'static> = Options {
     ..OPTIONS
 };
 
-/// Pushes a text so often.
+/// Pushes a text `count` times.
 pub fn push_often(to: &mut String, text: &str, count: usize) -> Result<(), AllocError> {
     for _ in 0..count {
         to.push_str(text)?;
@@ -24,7 +24,7 @@ pub fn push_often(to: &mut String, text: &str, count: usize) -> Result<(), Alloc
     Ok(())
 }
 
-// The one text n times, another one, and again the one n times.
+// The text LINES times, then `inner`, then the text LINES times again.
 fn enclosed(alloc: Global, text: &str, inner: &str) -> Result<String, AllocError> {
     let mut whole = String::new(alloc);
     push_often(&mut whole, text, LINES)?;
@@ -33,8 +33,8 @@ fn enclosed(alloc: Global, text: &str, inner: &str) -> Result<String, AllocError
     Ok(whole)
 }
 
-// The report of a text, or the line and its fault.
-fn told_of(
+// The report of a scene, or the number and the fault of its wrong line.
+fn report_or_fault(
     alloc: Global,
     options: &Options<'static>,
     text: &str,
@@ -54,7 +54,7 @@ fn told_of(
     }
 }
 
-// A test whose output spans several reads, between skipped tests, behind a comment.
+// A test whose output spans several reads, between skipped tests.
 fn long_scene(alloc: Global) -> Result<String, AllocError> {
     let mut done = String::from_str(
         alloc,
@@ -75,14 +75,14 @@ fn each_line_is_read_once(rt: HostRuntime) -> Result<(), Fail> {
     let report = enclosed(alloc, skip, pass)?;
     let lines = long_scene(alloc)?;
     let mut comment = String::from_str(alloc, "#")?;
-    // The comment moves the edges of what is read.
+    // The comment shifts where each read ends.
     for _ in 0..14 {
         comment.push('x')?;
         let mut text = String::from_str(alloc, comment.as_str())?;
         text.push_str(lines.as_str())?;
         for (more, is_right) in [("\n", true), ("wrong", false)] {
             text.push_str(more)?;
-            match told_of(alloc, &SHOWING_SKIPS, text.as_str())? {
+            match report_or_fault(alloc, &SHOWING_SKIPS, text.as_str())? {
                 Ok(printed) => {
                     assert!(rt; is_right && printed.as_slice() == report.as_bytes());
                 }
@@ -96,12 +96,12 @@ fn each_line_is_read_once(rt: HostRuntime) -> Result<(), Fail> {
     Ok(())
 }
 
-// The line of a failed test, up to what it wrote.
+// The line of a failed test, up to its output.
 const FAILED: &str =
     "done\t-\ta\tt1\tnever\timmediate\tpass\tinitial=1 finished=1 failed=1\t1\tfail:1\t5000000\t0\t";
 
-// What comes before a large text in the line and after it, and the header of its report: as standard output, standard error, both
-// together, errors, and why the test did not start.
+// The fields before a large text and those after it, and the header above it in the report. The text is standard
+// output, standard error, both together, an error, or why the test did not start.
 const PLACES: [(&str, &str, &str); 5] = [
     ("split\t", "\t\t-\t-", "-- stdout --"),
     ("split\t-\t", "\t-\t-", "-- stderr --"),
@@ -110,7 +110,8 @@ const PLACES: [(&str, &str, &str); 5] = [
     ("start\t", "\t-\t-\t-", "- execfail -"),
 ];
 
-/// The line of a failed test that has a large text there, made of this one, behind one that leaves the indentation out.
+/// The line of a failed test with a large text between these fields: `repeated`, LARGE times. Before it is a line of
+/// `config` that turns indentation off.
 pub fn large_line(
     alloc: Global,
     before: &str,
@@ -125,7 +126,7 @@ pub fn large_line(
     Ok(line)
 }
 
-// Its report, where the text is shown so.
+// The report of a line of `large_line`: its text is `shown`, LARGE times, below this header.
 fn report_of_large(alloc: Global, header: &str, shown: &str) -> Result<String, AllocError> {
     let mut report = String::from_str(alloc, "        FAIL [   0.005s] a t1\n")?;
     report.push_str(header)?;
@@ -135,7 +136,7 @@ fn report_of_large(alloc: Global, header: &str, shown: &str) -> Result<String, A
     Ok(report)
 }
 
-// Texts as they are written and as they are shown.
+// Texts as a scene writes them, and as the report shows them.
 const TEXTS: [(&str, &str); 3] = [
     ("y", "y"),
     ("some \\x77ords, ", "some words, "),
@@ -149,14 +150,14 @@ fn a_large_output_is_read_whole(rt: HostRuntime) -> Result<(), Fail> {
         for (repeated, shown) in TEXTS {
             let line = large_line(alloc, before, repeated, after)?;
             let report = report_of_large(alloc, header, shown)?;
-            match told_of(alloc, &OPTIONS, line.as_str())? {
+            match report_or_fault(alloc, &OPTIONS, line.as_str())? {
                 Ok(printed) => assert!(rt; printed.as_slice() == report.as_bytes()),
                 Err(_) => return Err(Fail::from("a line was refused")),
             }
         }
         for wrong in ["y\\q", "y\\x4"] {
             let line = large_line(alloc, before, wrong, after)?;
-            assert!(rt; told_of(alloc, &OPTIONS, line.as_str())?.is_err());
+            assert!(rt; report_or_fault(alloc, &OPTIONS, line.as_str())?.is_err());
         }
     }
     Ok(())

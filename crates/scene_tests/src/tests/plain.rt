@@ -36,13 +36,13 @@ const STORING_FAILURES: Options<'static> = Options {
     ..OPTIONS
 };
 
-// Scenes with every kind of line, and what is said of those that are not accepted.
+// Scenes with every kind of line, and the error of each that is not accepted.
 const SCENES: [(&str, &str); 19] = [
     ("", ""),
     (TWO_TESTS, ""),
     (CANCELLED, ""),
     (ASKED, ""),
-    // A failed, a skipped and a passed test, all listed at the end, which comes twice.
+    // A failed, a skipped and a passed test, all listed in the summary, which is reported twice.
     (
         "config\tfinal\tall\n\
         done\t-\ta\tt1\tnever\tnever\tpass\t-\t1\tfail:1\t1000000000\t0\tsplit\t\t\t-\t-\n\
@@ -56,7 +56,7 @@ const SCENES: [(&str, &str); 19] = [
         "slow\t-\tbin\tt\t1\t2\t60000000000\t1\nslow\t-\tbin\tt\t2\t2\t60000000000\t0\n",
         "",
     ),
-    // Output that was left unread: refused, and accepted.
+    // Output that is not loaded: refused, and accepted.
     (
         "config\tnocapture\t1\n\
         start\t-\ta\tt1\t-\t-\n\
@@ -74,7 +74,7 @@ const SCENES: [(&str, &str); 19] = [
         setupdone\t-\ts1\tcmd\t-\tfail:2\t1000000000\t0\tsplit\tout\\n\terr\\n\t-\t-\n",
         "",
     ),
-    // An attempt that failed and is tried again; and one that succeeded, which is refused.
+    // An attempt that failed and is retried; and one that succeeded and is retried, which is refused.
     (
         "retry\t-\ta\tt1\t1\t3\t1000000000\tnever\tfail:1\t500000000\t0\tsplit\t\t\t-\t-\n\
         retry\t-\ta\tt1\t2\t3\t0\timmediate\tfail:1\t500000000\t0\tcomb\tboom\\n\t-\t-\t-\n",
@@ -85,7 +85,7 @@ const SCENES: [(&str, &str); 19] = [
         retry\t-\ta\tt1\t1\t3\t1000000000\tnever\tpass\t500000000\t0\tsplit\t\t\t-\t-\n",
         "report: line 2: a retried attempt succeeded",
     ),
-    // Outputs at once, at the end, both, and of an attempt that was retried.
+    // Outputs that are shown at once, at the end, or both, and that of an attempt that was retried.
     (
         "config\tfinal\tfail\n\
         done\t-\ta\tt1\timmediate\tnever\tpass\t-\t1\tpass\t1000000000\t0\tcomb\tfine\\n\t-\t-\t-\n\
@@ -137,7 +137,7 @@ const SCENES: [(&str, &str); 19] = [
     ("skip\t-\ta\tt2\nbogus\n", "report: line 2: unknown event"),
 ];
 
-// What the program says of a report that ended so; nothing where it was printed whole.
+// The line of the error, or nothing for a complete report.
 fn line_of(alloc: Global, outcome: Result<(), Fault<'static>>) -> Result<String, AllocError> {
     match outcome {
         Ok(()) => Ok(String::new(alloc)),
@@ -145,7 +145,8 @@ fn line_of(alloc: Global, outcome: Result<(), Fault<'static>>) -> Result<String,
     }
 }
 
-// Reports a scene call by call. These have no clause: the proof of the test would hold those of the program for each call.
+// Reports a scene call by call. It has no contract, so that the proof of the test does not have to carry that of
+// `report_scene` for each call.
 fn call_by_call(
     alloc: Global,
     options: &Options<'static>,
@@ -156,7 +157,7 @@ fn call_by_call(
     report_scene(alloc, options, text.as_bytes(), report, records).0
 }
 
-// Reports it by all its calls. The scene is not dropped: what drops one is proved in each crate that does.
+// Reports a scene by all its calls at once. The scene is not dropped: its drop would be proved once more here.
 fn by_all_calls(
     alloc: Global,
     options: &Options<'static>,
@@ -170,7 +171,7 @@ fn by_all_calls(
     outcome
 }
 
-// The line that both ways end with; None where they differ in it, or in a byte of either device.
+// The line that both ways end with, or None if they differ in it, in the report or in the records.
 fn both_ways(
     alloc: Global,
     options: &Options<'static>,

@@ -1,5 +1,5 @@
-//! Devices that fail under the program: what remains of the report and of the records, and which fault is reported. What they hold and which
-//! outputs they need is in `cases/program`.
+//! Devices that fail: what remains of the report and of the records, and which fault is reported. The contents of
+//! records are cases of `cases/program`.
 
 use super::{
     ASKED, CANCELLED, DONE, OF_ASKED, OF_CANCELLED, OF_TWO_TESTS, OPTIONS, STORED_OF_TWO_TESTS,
@@ -12,7 +12,7 @@ use std::alloc::Global;
 use std::test::Fail;
 use test_devices::{Device, Failure};
 
-// A scene, whether it is stored, and the texts of both devices where none fails.
+// A scene, its options, and what each device has if none fails.
 #[derive(Clone, Copy)]
 struct Run {
     options: Options<'static>,
@@ -22,8 +22,9 @@ struct Run {
 }
 
 impl Run {
-    // Runs the scene over two devices, of which one fails at its first call, its second, and so on until the report is whole, and says
-    // how many did. What each took is a beginning, and the fault is that of the device that failed.
+    // Reports the scene to two devices, one of which fails at its first call, then at its second, and so on until the
+    // report is complete. Returns how many calls could fail. Each device must have a prefix, and the fault must name
+    // the device that failed.
     fn count(&self, alloc: Global, is_store: bool, failure: Failure) -> Result<usize, Fail> {
         for number in 0..1000 {
             let (calls, store_calls) = if is_store {
@@ -40,14 +41,14 @@ impl Run {
             );
             let (taken, stored) = (device.taken(), store.taken());
             let (whole, records) = (self.whole.as_bytes(), self.records.as_bytes());
-            let is_told = match outcome {
+            let is_right = match outcome {
                 Ok(()) if taken == whole && stored == records => return Ok(number),
                 Ok(()) => return Err(Fail::from("a text is not whole")),
                 Err(Fault::StoreFailed) => is_store,
                 Err(Fault::WriteFailed) => !is_store,
                 Err(_) => false,
             };
-            if !is_told || !whole.starts_with(taken) || !records.starts_with(stored) {
+            if !is_right || !whole.starts_with(taken) || !records.starts_with(stored) {
                 return Err(Fail::from("no beginning of both texts, or another fault"));
             }
         }
@@ -55,8 +56,8 @@ impl Run {
     }
 }
 
-// Scenes; how many writes of seven bytes the texts of a scene take, and how many flushes: with records each call delivers its
-// text, and without all is delivered at the end; and those of its records.
+// Scenes, with the number of writes, of seven bytes each, and of flushes that the report takes, and those that the
+// records take. With records each call flushes its text; without, the report is flushed once, at the end.
 fn rows() -> [(Run, [usize; 2], [usize; 2]); 5] {
     let two_tests = Run {
         options: STORING,

@@ -1,4 +1,4 @@
-//! Short runs through `run_report`, each with its whole text, and the calls that it refuses.
+//! Short runs through `run_report`, each with its whole report, and the calls that it refuses.
 
 use super::{ASKED, CANCELLED, END, OF_ASKED, OF_CANCELLED, OF_TWO_TESTS, OPTIONS, TWO_TESTS};
 use console_reporter::imp::{RunFault, WriteEventError, run_report};
@@ -61,7 +61,7 @@ const ORDERS: [[&str; 3]; 6] = [
     [PASSED, SKIPPED, FAILED],
 ];
 
-// The summary of two tests once more.
+// The summary of two tests, reported twice.
 const OF_END: &str = "------------
      Summary [   1.520s] 2 tests run: 1 passed, 1 failed, 0 skipped
         FAIL [   1.500s] alpha mod::t2
@@ -78,7 +78,7 @@ const WORKED: [(Options<'static>, &str, &str); 22] = [
     (AT_RETRY, TERMINATED, " TERMINATING [> 60.000s] bin t\n"),
     (AT_SLOW, TERMINATED, "TRY 1 TRMNTG [> 60.000s] bin t\n"),
     (AT_FAIL, TERMINATED, ""),
-    // Output that was left unread, where none is shown.
+    // An output that is not loaded and not shown.
     (
         OPTIONS,
         "config\tnocapture\t1\n\
@@ -189,7 +189,7 @@ const WORKED: [(Options<'static>, &str, &str); 22] = [
 
 // Runs that are refused at a call, and what was printed before it.
 const REFUSED: [(Options<'static>, &str, &str, RunFault); 2] = [
-    // Output that was left unread, of a test that could not be started: it is shown at once.
+    // The output of a test that could not be started is shown at once, and is not loaded.
     (
         OPTIONS,
         "config\tnocapture\t1\n\
@@ -200,7 +200,7 @@ const REFUSED: [(Options<'static>, &str, &str, RunFault); 2] = [
             fault: WriteEventError::OutputNotLoaded,
         },
     ),
-    // An attempt that is tried again though it succeeded.
+    // An attempt that succeeded and is retried.
     (
         AT_NONE,
         "pause\t0\t2\n\
@@ -213,8 +213,8 @@ const REFUSED: [(Options<'static>, &str, &str, RunFault); 2] = [
     ),
 ];
 
-// Hands all calls of a scene to `run_report`, and returns what came of them. It has no clause: the proof of the test
-// would hold it for each call. Nothing of the scene is dropped: what drops one is proved in each crate that does.
+// Reports all calls of a scene by `run_report`. It has no contract, so that the proof of a test does not have to carry
+// it for each call. The scene is not dropped: its drop would be proved once more here.
 fn run(
     alloc: Global,
     options: &Options<'static>,
@@ -239,7 +239,7 @@ fn run(
     Ok(ran)
 }
 
-// Whether a scene is reported so, and ends so.
+// Whether a scene has this report and this outcome.
 fn ends(
     alloc: Global,
     options: &Options<'static>,

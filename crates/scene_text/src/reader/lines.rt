@@ -21,6 +21,10 @@ use unit_lines::lines::{
 
 /// Reads the fields behind a word, which names the kind of event. The words of tests come first, since most lines
 /// are theirs.
+///
+/// # Errors
+///
+/// The first fault of the line, `UnknownEvent` for an unknown word, or refused memory.
 #[inline(always)]
 #[tactic(auto, unfolding(crate::specs::EventLines::event_rows))]
 pub fn read_event(

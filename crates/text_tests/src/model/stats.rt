@@ -1,4 +1,4 @@
-//! What a stress run comes to.
+//! The result of a stress run.
 
 use run_model::stats::{
     FinalRunStats, RunFinishedStats, RunStatsFailureKind, StressFinalRunStats, StressRunStats,

@@ -1,4 +1,4 @@
-//! What remains of a stress run without end. A report says nothing of it.
+//! How much remains of a stress run without end, which no report shows.
 
 use run_model::stress::{StressCount, StressProgress, StressRemaining};
 use run_model::time::Nanos;

@@ -1,4 +1,4 @@
-//! Each form that no scene prints, with the text of nextest, and the greatest numbers.
+//! Texts that no scene leads to, as nextest prints them, and the greatest numbers.
 
 use crate::testing::expect_text;
 use report_text::helpers::paths::is_relative;
@@ -102,7 +102,7 @@ fn durations(rt: HostRuntime) -> Result<(), Fail> {
         let shown = FormattedDuration(Nanos(nanos)).to_string(rt.alloc())?;
         expect_text(&rt, shown.as_str(), text);
     }
-    // Each unit, where it begins and right before the next one does.
+    // Each unit of time, at its first value and at the last one before the next unit.
     for (nanos, text) in [
         (0, "0s"),
         (1, "1ns"),
@@ -202,7 +202,7 @@ fn ended_by(alloc: Global, signal: i32, name: Option<&str>) -> Result<AbortDescr
     Ok(AbortDescription::UnixSignal { signal, name })
 }
 
-// What is shown of how a process exits, and of how it aborts.
+// The texts for how a process exits and for how it aborts.
 fn expect_exit(
     rt: &impl Abort,
     alloc: Global,
@@ -320,7 +320,7 @@ fn paths(rt: HostRuntime) -> Result<(), Fail> {
     Ok(())
 }
 
-// Whether a theme has these characters, of which the first makes its bars.
+// Whether a theme has these characters; the first is that of its bars.
 fn has_characters(theme: &ThemeCharacters, bar: char, texts: [&str; 5]) -> bool {
     theme.hbar_char() == bar
         && texts

@@ -14,7 +14,7 @@ fn write_by_characters<W: WriteStr>(w: &mut W, text: &str) -> Result<(), WriteFa
     Ok(())
 }
 
-// Writes these pieces in two levels, of which the outer begins within its first line.
+// Writes these pieces with two levels of indentation. The outer level begins within its first line.
 fn write_in_two_levels<W: WriteStr>(w: &mut W, pieces: &[&str]) -> Result<(), WriteFault> {
     let mut outer = indented(w).skip_initial();
     let mut inner = indented(&mut outer).with_str("> ");

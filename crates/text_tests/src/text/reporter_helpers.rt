@@ -6,7 +6,7 @@ use std::process::Abort;
 use std::test::Fail;
 use styled_text::reporter_helpers::{highlight_end, print_lines_in_chunks};
 
-// The chunks of a text, each with a bar behind it.
+// The chunks of a text, each followed by a bar.
 fn chunks(alloc: Global, text: &str, limit: usize) -> Result<String, Fail> {
     let mut chunks = String::new(alloc);
     let mut is_full = false;

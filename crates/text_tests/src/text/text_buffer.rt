@@ -9,7 +9,8 @@ use writers::write_str::{CAPACITY, RetryInterrupted, TextBuffer, WriteFault, Wri
 
 const TEXT: &str = "a text of several writes";
 
-// Errors of a device, some of which mean to others that the call is to be made again, or that memory was refused.
+// Errors of a device. Elsewhere some of them mean that a call is repeated, or that memory was refused; here all are
+// failures.
 const KINDS: [ErrorKind; 7] = [
     ErrorKind::Interrupted,
     ErrorKind::WouldBlock,
@@ -29,9 +30,9 @@ fn deliver<W: Write + Drop>(
     let Ok(mut buffer) = TextBuffer::new(alloc, device) else {
         return Err(Fail::from("memory was refused"));
     };
-    let answer = write_and_flush(&mut buffer, text);
+    let outcome = write_and_flush(&mut buffer, text);
     let (device, pending) = buffer.into_inner();
-    Ok((device, answer, pending.len()))
+    Ok((device, outcome, pending.len()))
 }
 
 fn write_and_flush<W: WriteStr>(w: &mut W, text: &str) -> Result<(), WriteFault> {
@@ -39,7 +40,7 @@ fn write_and_flush<W: WriteStr>(w: &mut W, text: &str) -> Result<(), WriteFault>
     w.write_str_flush()
 }
 
-// Whether a device that fails in a write is said to have failed, once it took what the writes before were given.
+// Whether the error of a failed write is reported, after the device took the text of the writes before it.
 fn is_failed_write(
     alloc: Global,
     kind: ErrorKind,
@@ -47,12 +48,12 @@ fn is_failed_write(
     failure: Failure,
 ) -> Result<bool, Fail> {
     let device = Device::failing_at(alloc, call, failure).with_kind(kind);
-    let (device, answer, pending) = deliver(alloc, device, TEXT)?;
+    let (device, outcome, pending) = deliver(alloc, device, TEXT)?;
     let taken = device.taken();
     let is_front = TEXT.as_bytes().starts_with(taken)
         && taken.len() == call.saturating_mul(BYTES_AT_ONCE)
         && taken.len().saturating_add(pending) == TEXT.len();
-    Ok(answer == Err(WriteFault::Device) && is_front)
+    Ok(outcome == Err(WriteFault::Device) && is_front)
 }
 
 #[test]
@@ -68,11 +69,11 @@ fn a_write_that_fails_is_a_failure_of_the_device(rt: HostRuntime) -> Result<(), 
     Ok(())
 }
 
-// Whether a device that fails in its flush is said to have failed, once it took the text.
+// Whether the error of a failed flush is reported, after the device took the text.
 fn is_failed_flush(alloc: Global, kind: ErrorKind, text: &str) -> Result<bool, Fail> {
     let device = Device::failing_at(alloc, 0, Failure::FlushError).with_kind(kind);
-    let (device, answer, pending) = deliver(alloc, device, text)?;
-    Ok(answer == Err(WriteFault::Device) && device.taken() == text.as_bytes() && pending == 0)
+    let (device, outcome, pending) = deliver(alloc, device, text)?;
+    Ok(outcome == Err(WriteFault::Device) && device.taken() == text.as_bytes() && pending == 0)
 }
 
 #[test]
@@ -80,7 +81,7 @@ fn a_flush_that_fails_is_a_failure_of_the_device(rt: HostRuntime) -> Result<(), 
     let alloc = rt.alloc();
     for (row, kind) in KINDS.iter().enumerate() {
         expect_row(&rt, is_failed_flush(alloc, *kind, TEXT)?, row);
-        // Also where nothing is pending, since what the device was handed before may not be flushed.
+        // A flush reaches the device even if nothing is pending: earlier writes may not be flushed yet.
         expect_row(&rt, is_failed_flush(alloc, *kind, "")?, row);
     }
     Ok(())
@@ -101,14 +102,14 @@ fn a_device_that_fails_once_is_written_on(rt: HostRuntime) -> Result<(), Fail> {
     Ok(())
 }
 
-// Whether a text is delivered to a device each of whose calls is interrupted so often.
+// Whether a text is delivered to a device that interrupts each call this many times.
 fn is_made_again(alloc: Global, times: usize) -> Result<bool, Fail> {
     let device = RetryInterrupted::new(Device::interrupted(alloc, times));
-    let (device, answer, pending) = deliver(alloc, device, TEXT)?;
+    let (device, outcome, pending) = deliver(alloc, device, TEXT)?;
     let mut device = device.into_inner();
-    // The flush was made until it worked, so the next one is interrupted anew.
+    // The flush was repeated until it succeeded, so the next flush is interrupted again.
     let is_flushed = device.flush().is_err() == (times > 0);
-    Ok(answer == Ok(()) && pending == 0 && device.taken() == TEXT.as_bytes() && is_flushed)
+    Ok(outcome == Ok(()) && pending == 0 && device.taken() == TEXT.as_bytes() && is_flushed)
 }
 
 #[test]
@@ -131,7 +132,7 @@ fn is_passed_on(alloc: Global, kind: ErrorKind) -> bool {
 }
 
 #[test]
-fn no_other_answer_of_a_device_is_changed(rt: HostRuntime) -> Result<(), Fail> {
+fn no_other_result_of_a_device_is_changed(rt: HostRuntime) -> Result<(), Fail> {
     let alloc = rt.alloc();
     for (row, kind) in KINDS.iter().enumerate() {
         if *kind != ErrorKind::Interrupted {

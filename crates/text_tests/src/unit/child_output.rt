@@ -1,4 +1,5 @@
-//! What processes wrote, by the calls that write it: with a part pointed out, in colour and without, and where a stream was not captured.
+//! The output of processes, by direct calls: with a highlighted part, in colour and without, and with streams that were
+//! not captured.
 
 ghost use Rattle.std.specs.Prelude.{◌≡◌, IfOk, true};
 ghost use Rattle.run_model.specs.Outputs.{has_loaded_output, is_loaded};
@@ -62,7 +63,7 @@ fn combined(alloc: Global, bytes: &'static [u8]) -> Result<ChildOutputDescriptio
     })
 }
 
-// Two streams of a process, each where it was captured.
+// Two streams of a process; None is one that was not captured.
 fn split(
     alloc: Global,
     stdout: Option<&'static [u8]>,
@@ -86,7 +87,7 @@ fn captured(
     }
 }
 
-// What is shown of an output below its header.
+// The text of an output below its header.
 fn shown(
     alloc: Global,
     is_colorized: bool,
@@ -108,7 +109,7 @@ fn shown(
     }
 }
 
-// An output, its indentation, where the part that is pointed out begins, that part, and what is shown in colour.
+// An output, its indentation, the start of the highlighted part, that part, and the text in colour.
 type Row = (
     &'static [u8],
     &'static str,
@@ -117,7 +118,7 @@ type Row = (
     &'static str,
 );
 
-// All of an output is pointed out.
+// The whole output is highlighted.
 const WHOLE: Row = (
     b"\np\nq\n",
     "    ",
@@ -126,13 +127,13 @@ const WHOLE: Row = (
     "    \x1b[0m\x1b[31;1m\x1b[0m\n    \x1b[31;1mp\x1b[0m\n    q\x1b[0m\n",
 );
 
-// Nothing is pointed out, at the end of an output.
+// An empty part is highlighted, at the end of the output.
 const AT_THE_END: Row = (b"a\n", "", 2, b"", "a\n\x1b[0m\x1b[0m\n");
 
 const LINES: &[u8] = b"output\nhighlight 1\nhighlight 2\nnot highlighted";
 
-// The rest: a part of a line and of several ones, one that begins within a character, and bytes that are no UTF-8. Where it begins
-// beyond the output it is left out.
+// A part of a line, a part of several lines, one that begins within a character, and bytes that are not UTF-8. A part
+// that begins beyond the output is left out.
 const PARTS: [Row; 6] = [
     (
         b"output",
@@ -181,7 +182,7 @@ fn a_part_pointed_out_in_colour(rt: HostRuntime) -> Result<(), Fail> {
     Ok(())
 }
 
-// What is visible of a row in colour.
+// The text of a row in colour, without its sequences.
 fn visible(alloc: Global, row: Row) -> Result<String, Fail> {
     let coloured = shown_of_row(alloc, true, row)?;
     Ok(strip(alloc, coloured.as_str())?)
@@ -222,7 +223,7 @@ fn what_is_visible_after_a_part_at_the_end(rt: HostRuntime) -> Result<(), Fail> 
     Ok(())
 }
 
-// Without colour no sequence is left, also one that does not end in its line.
+// Without colour there are no escape sequences, not even one that does not end in its line.
 #[test]
 fn an_unfinished_sequence(rt: HostRuntime) -> Result<(), Fail> {
     let plain = shown(rt.alloc(), false, "", b"x\x1b]8;;\ny", None)?;

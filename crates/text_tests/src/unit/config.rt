@@ -1,4 +1,5 @@
-//! What each setting comes to, for every terminal, CI, capture and pair of levels that a user can ask for.
+//! The settings that a reporter ends up with, for every terminal, CI, capture and pair of levels that a user can ask
+//! for.
 
 use run_model::level::{FinalStatusLevel, StatusLevel};
 use unit_report::config::{
@@ -19,7 +20,7 @@ fn resolved(
     }
 }
 
-// The settings, and what each comes to with a bar and without. The profile's levels are Retry and Flaky.
+// The settings, and what each results in with a progress bar and without. The profile's levels are Retry and Flaky.
 fn settings() -> [(ShowProgress, ResolvedDisplay, ResolvedDisplay); 5] {
     let (retry, flaky) = (StatusLevel::Retry, FinalStatusLevel::Flaky);
     let bar = resolved(ProgressDisplay::Bar, retry, flaky);
@@ -57,7 +58,7 @@ const SURROUNDINGS: [(bool, bool, bool, bool); 8] = [
     (true, false, true, false),
 ];
 
-// The levels that are asked for; the status level that comes of them with capture and without, and the final level.
+// The levels that are asked for, the status level that results with capture and without, and the final level.
 type LevelRow = (
     Option<StatusLevel>,
     Option<FinalStatusLevel>,
@@ -66,7 +67,7 @@ type LevelRow = (
     FinalStatusLevel,
 );
 
-// What is asked for, where these levels come of the setting alone.
+// The rows for a setting that has these levels by itself.
 fn level_rows(levels: StatusLevels) -> [LevelRow; 4] {
     let (fail, pass, all) = (StatusLevel::Fail, StatusLevel::Pass, StatusLevel::All);
     let (final_slow, final_fail) = (FinalStatusLevel::Slow, FinalStatusLevel::Fail);

@@ -1,4 +1,5 @@
-//! What a run skips, also by a filter that no scene has: of another profile than the default one, and of its overrides.
+//! The counts of skipped tests, also for filters that no scene has: those of a profile other than the default, and of
+//! its overrides.
 
 use crate::testing::expect_text;
 use run_model::config::{CompiledDefaultFilter, CompiledDefaultFilterSection, NextestRunMode};
@@ -48,7 +49,7 @@ fn count(digit: u8) -> usize {
     usize::from(digit.wrapping_sub(b'0'))
 }
 
-// What is written for the key of a row.
+// The text for the key of a row.
 fn written(alloc: Global, key: &str) -> Result<String, Fail> {
     let [
         rerun,

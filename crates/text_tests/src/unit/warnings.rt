@@ -22,7 +22,8 @@ fn cancelled(reason: Option<CancelReason>, kind: RunStatsFailureKind) -> FinalRu
 
 const SCRIPT: RunStatsFailureKind = RunStatsFailureKind::SetupScript;
 
-// The rows of nextest-runner's test `test_final_warnings`, and one of a setup script that failed for no reason, which no statistics come to.
+// The rows of nextest-runner's test `test_final_warnings`, and a setup script that failed without a reason, which no
+// statistics lead to.
 fn rows() -> [(FinalRunStats, &'static str); 8] {
     [
         (
