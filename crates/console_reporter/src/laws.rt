@@ -5,7 +5,7 @@
 
 ghost use Rattle.std.specs.Prelude.{◌≡◌, ◌++◌, ◌∷◌, List, Result, Some, length, slice_get};
 ghost use Rattle.{std.specs.List.flat_map, run_model.specs.declared.call.ReportCall.ReportCall};
-ghost use Rattle.reporter_state.specs.declared.faults.RunFault.RunFault;
+ghost use Rattle.reporter_state.specs.declared.faults.RunFault.{RunFault};
 ghost use Rattle.console_reporter.specs.Names.{AreAccepted, Configuration, EndsWell, report, report_texts, text};
 ghost use Rattle.console_reporter.specs.Names.{Runs, absent};
 

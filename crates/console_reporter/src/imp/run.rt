@@ -1,6 +1,6 @@
 //! The run of a list of calls, with a reporter of its own.
 
-ghost use Rattle.std.specs.Prelude.◌≡◌;
+ghost use Rattle.std.specs.Prelude.{◌≡◌};
 ghost use Rattle.console_reporter.specs.Names.{configured, configured_with_store, Runs, absent};
 
 use super::builder::DisplayReporterBuilder;
