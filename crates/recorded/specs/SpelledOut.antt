@@ -21,7 +21,7 @@ bytes_spelled (b ∷ bs) = byte_spelled b ++ bytes_spelled bs
 abbrev pub field_spelled : List ℕ → List ℕ → List ℕ
 field_spelled all t = option_map_or (λ reference. bytes_spelled (bytes_at all reference)) (reference_in t) t
 
--- the fields of a line, which tabs part
+-- the fields of a line, separated by tabs
 abbrev pub tabbed : List (List ℕ) → List ℕ
 tabbed [] = []
 tabbed (t ∷ []) = t

@@ -24,12 +24,12 @@ pub struct LoadEventFault {
     pub fault: LoadFault,
 }
 
-/// Puts the stored outputs of an event into it, if its report shows them: the decider says so by how its unit ended and by the settings, and
-/// no output is read for that. Of a test that has finished it is the output of the last attempt alone, since nothing shows what those before
-/// it wrote. What a unit wrote that is asked for its state is always loaded, since no decider is asked about it. Where the outputs are skipped,
-/// the event stays as it is, and nothing is read.
+/// Puts the stored outputs of an event into it, if its report shows them. The decider decides that from the result of
+/// the unit and the settings, and reads no output for it. Of a finished test only the output of the last attempt is
+/// loaded, since nothing shows that of earlier attempts. The output in a response of a unit is always loaded: it is not
+/// the decider's concern. If the decider skips the outputs, the event stays as it is, and nothing is read.
 ///
-/// Every output must be there, also one that is not loaded. After an error the event is not to be used: some of its outputs may be in it.
+/// Every output must be there, even one that is not loaded.
 ///
 /// ```
 /// use scene_events::scene::event::SceneEvent;

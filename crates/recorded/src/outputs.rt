@@ -112,7 +112,7 @@ impl<O: ReadAt + Drop> RecordedOutputs<O> {
         Ok(reference.ends_within(self.len))
     }
 
-    /// Reads the bytes that a reference names, and no others, into memory of just their size, and checks their sum.
+    /// Reads the bytes of a reference, and no others, into memory of exactly their size, and checks their sum.
     ///
     /// ```
     /// use scene_fields::reference::read_reference;
@@ -156,9 +156,7 @@ impl<O: ReadAt + Drop> RecordedOutputs<O> {
         self.source.read_at(offset, bytes.as_mut_slice())
     }
 
-    /// Loads what was captured of an output. It reads the bytes of its streams and no others, and allocates for these.
-    ///
-    /// A fault says which stream is damaged, cannot be read or finds no memory; standard output comes first.
+    /// Loads a stored output. It reads the bytes of its streams and no others, and allocates for these.
     ///
     /// ```
     /// use scene_fields::stored::StoredOutput;

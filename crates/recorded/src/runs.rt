@@ -48,8 +48,8 @@ pub struct RecordedRun<'a, R, O: ReadAt> {
 }
 
 impl<'a, R: Read + Drop, O: ReadAt + Drop> RecordedRun<'a, R, O> {
-    /// The run whose lines this reader has, and whose outputs these are. It is reported as nextest shows a recorded run, whether or not the
-    /// options say so.
+    /// The run with the lines of this reader and these outputs. It is reported as nextest shows a recorded run,
+    /// whether or not the options say so.
     ///
     /// # Errors
     ///
@@ -86,13 +86,12 @@ impl<'a, R: Read + Drop, O: ReadAt + Drop> RecordedRun<'a, R, O> {
         self.outputs.bytes_read()
     }
 
-    /// Prints the report of the run, each line of it as soon as it was read, and its records to a second device, if the options ask for them. Both
-    /// devices are returned.
+    /// Prints the report of the run, each line as soon as it was read, and its records to a second device, if the
+    /// options ask for them. Both devices are returned.
     ///
-    /// On `Ok` the first device has what `follow` prints of the scene that the run is once each reference is spelled out, as the bytes at its
-    /// position (`spelled`), or of the events with every output put in (`ok`); and the outputs that the report does not show were not read
-    /// (`reads`, which is about the count of the outputs' source). The error is that of the first line that is wrong; the report of the lines
-    /// before it remains.
+    /// On `Ok` the first device has what `follow` prints for the scene in which each reference is replaced by its
+    /// bytes (`spelled`), or for the events with every output in them (`ok`). The outputs that the report does not
+    /// show were not read (`reads`, about the count of the outputs' source).
     ///
     /// # Errors
     ///

@@ -191,7 +191,7 @@ fn takes_a_line_that_was_cut_for_none(rt: HostRuntime) -> Result<(), Fail> {
     Ok(())
 }
 
-// Outputs of a known length of which no byte can be read.
+// Outputs with a known length whose bytes cannot be read.
 #[derive(Drop)]
 struct Unreadable {
     kind: ErrorKind,

@@ -34,7 +34,7 @@ unfoldable pub in_turn : {S : Type 0} → (S → List ℕ → List ℕ → Optio
 in_turn pair_in before [] = Some before
 in_turn pair_in before (t ∷ ts) = option_and_then (λ after. in_turn pair_in after ts) (option_and_then (λ x. pair_in before x.0 x.1) (cut 61 t))
 
--- the pairs of a field, which single spaces part, each key once; `-` is no pair
+-- the pairs of a field, separated by single spaces; `-` is no pair
 abbrev pub pairs_of : List ℕ → List (List ℕ)
 pairs_of t = if bytes_eq t (codes "-") then [] else split_on 32 t
 

@@ -17,7 +17,7 @@ is_reference NotCaptured = false
 is_reference Empty = false
 is_reference (At reference) = true
 
--- two streams of which at least one is stored
+-- two streams, at least one of them stored
 abbrev pub stored_split : Option StoredStream → Option StoredStream → Option StoredOutput
 stored_split None stderr = None
 stored_split (Some stdout) None = None

@@ -16,7 +16,7 @@ pub enum StoredStream {
     At(Reference),
 }
 
-/// An output of a recorded run of which a stream is in the file of outputs.
+/// An output of a recorded run, with at least one stream in the file of outputs.
 #[derive(Clone, Copy, Debug, PartialEq, Eq)]
 pub enum StoredOutput {
     /// Each stream by itself.

@@ -97,8 +97,8 @@ impl LinesRead {
         self.run.lines.clear();
     }
 
-    /// Reads the lines of a text that follow these. A text that ends in a line feed ends in an empty line: what follows it is another
-    /// line. The error is that of the first line that is wrong; the lines before it are read then, and `next` is its number.
+    /// Reads further lines from a text. A text that ends in a line feed ends in an empty line: what follows it is
+    /// another line.
     ///
     /// # Errors
     ///
@@ -127,8 +127,8 @@ impl LinesRead {
         Err(ReadFault::OutOfMemory)
     }
 
-    /// Reads the lines of a text as `read_more` does. A line that is alone there gives its memory to a large output in it, which is
-    /// decoded in place. The errors are those of `read_more`.
+    /// Reads further lines like `read_more`. If the text is a single line, a large output in it keeps its memory and is
+    /// decoded in place.
     ///
     /// ```
     /// let mut read = LinesRead::new(alloc);
@@ -158,8 +158,8 @@ impl LinesRead {
         }
     }
 
-    /// Reads the next line of a recorded run, whose outputs may be stored: those that are stored are then in `stored`, and not loaded in the
-    /// event. The value is not among the lines until `push` adds it. The errors are those of `read_more`, and leave `stored` empty.
+    /// Reads the next line of a recorded run. Its stored outputs are then in `stored`, and are not loaded in the
+    /// event. The value is not among the lines until `push` adds it.
     ///
     /// A field that begins like a reference is a bad field if it is not one, or if none is allowed there.
     ///
@@ -188,7 +188,7 @@ impl LinesRead {
         }
     }
 
-    /// Adds the value of the next line. If memory is refused, nothing is added.
+    /// Adds the value of the next line.
     ///
     /// # Errors
     ///

@@ -22,12 +22,10 @@ use scene_text::reader::LinesRead;
 use std::alloc::Global;
 use std::io::{Read, Write};
 
-/// Follows the lines of a reader: the buffered ones are read, the text of each event is written and delivered, and then the next are
-/// read. Its records go to a second device, if the options ask for them. Both devices are returned.
+/// Follows the lines of a reader: the buffered ones are read, the text of each event is written and delivered, and then
+/// the next ones are read. The records go to a second device, if the options ask for them. Both devices are returned.
 ///
-/// On `Ok` the device has what `report_scene` prints of the same bytes, and the result is the outcome of the run. The error is that of the first line
-/// that has a fault, or whose event is refused: the report of the lines before it is whole. So it is if the reader fails; if a
-/// device fails or memory is refused, a prefix of it is there.
+/// On `Ok` the device has what `report_scene` prints for the same bytes, and the result is the outcome of the run.
 ///
 /// # Errors
 ///

@@ -22,9 +22,9 @@ pub fn records_come_after_texts()
         → StandAtOneCall device device texts records calls (Some [], Some []) (Some [], Some stored) → stored ≡ [] }
 {}
 
-/// The clause `err` of `report_scene` is not empty: of a text that is a valid scene, and of which no call is refused,
-/// the fault is that the file cannot be read, that a device failed, or that memory was refused. It does not say when
-/// a device fails: by the kit's `Write` any call may.
+/// The clause `err` of `report_scene` is not empty. If a text is a valid scene and none of its calls is refused, the
+/// only faults are that the file cannot be read, that a device failed, or that memory was refused. When a device fails
+/// is not specified: by the kit's `Write` any call may.
 pub fn scenes_end_well<W: Write, S: Write>()
     ensures { (options : Options) (text : List ℕ) (old new : W × S) (fault : Fault)
         → IsRejected options text fault old new
@@ -34,7 +34,7 @@ pub fn scenes_end_well<W: Write, S: Write>()
         → IsUnread options.file.now fault ⊎ IsStop options fault }
 {}
 
-/// Like [`scenes_end_well`], for `follow_source` and a source of which no line is malformed and no call is refused.
+/// Like [`scenes_end_well`], for `follow_source` and a source without a malformed line or a refused call.
 pub fn followed_lines_end_well<W: Write, S: Write>()
     ensures { (options : Options) (all : List RunLine) (old new : W × S) (fault : Fault)
         → StopsBy options all

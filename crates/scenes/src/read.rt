@@ -22,7 +22,7 @@ pub trait RunSource {
     // These lines are left after those before, and once they are read, this many bytes of outputs were read in all.
     ghost left: { ℕ → Self → ParsedLines → List RunLine → Type 0 };
 
-    /// Reads further lines of this file. It returns whether there may be more. If a line has a fault, the lines before it are read.
+    /// Reads further lines of this file. It returns whether there may be more.
     ///
     /// # Errors
     ///

@@ -44,9 +44,7 @@ impl<'a> Model for AcceptedScene<'a> {
     ghost invariant = { λ j. IsSceneAccepted j.options.now j.scene.now };
 }
 
-/// Reads a scene to its end, and judges it whole: each line by itself, and then whether its reporter would refuse an event.
-/// It returns the fault of the first line that has one, the line of the first event that is refused, that the file cannot be
-/// read, or that memory is refused.
+/// Reads a scene to its end and checks it: each line by itself, and then that its reporter refuses no event.
 ///
 /// # Errors
 ///
@@ -58,7 +56,7 @@ pub fn judge<'a, R: Read + Drop>(
     reader: R,
 ) -> Result<Scene, Fault<'a>>
     ensures fault { IfErr result (IsJudgeFault options.now.file.now) }
-    // Where the reader's bytes are known: what `read_whole` says of them.
+    // If the reader's bytes are known: like `read_whole`.
     ensures scene { (bytes : List ℕ) → R.remaining reader ≡ Some bytes → IfOk result (λ scene. AllRead no_lines (text_lines bytes) (scene_lines scene)) }
     ensures first_fault { (bytes : List ℕ) → R.remaining reader ≡ Some bytes → IfErr result (λ fault. IsReadFault bytes fault ⊎ IsRefusedText options.now bytes fault) }
     ensures answer { (bytes : List ℕ) → R.remaining reader ≡ Some bytes → IsJudged options.now result bytes }
@@ -73,7 +71,7 @@ pub fn judge<'a, R: Read + Drop>(
     Ok(scene)
 }
 
-/// Reads a scene to its end, and judges each line by itself.
+/// Reads a scene to its end, and checks each line by itself.
 ///
 /// # Errors
 ///
@@ -168,9 +166,9 @@ fn check_refusal<'a>(
     }
 }
 
-/// Reads a scene to its end, judges it, and writes its report to a device and its records to a second one, if the options ask for
-/// them. It gives both devices back: the whole way from a file's bytes to those of both texts. A scene that has a fault leaves the
-/// devices as they were. The text is delivered as by [`report_accepted`].
+/// Reads a scene to its end, checks it, and writes its report to a device and its records to a second one, if the
+/// options ask for them. It returns both devices. A scene with a fault leaves them unchanged. The text is delivered as
+/// by [`report_accepted`].
 ///
 /// # Errors
 ///
@@ -200,8 +198,7 @@ pub fn report_scene<'a, R: Read + Drop, W: Write, S: Write>(
     }
 }
 
-/// Writes the report of a scene to a device, and its records to a second one, if the options ask for them: the plain way, by the calls of
-/// the scene. It keeps both devices. [`report_by_calls`] does the same and gives them back, so that its clauses can speak of them.
+/// Like [`report_by_calls`], but it does not return the devices, so its clauses say less about them.
 ///
 /// # Errors
 ///
@@ -227,9 +224,9 @@ pub fn write_report<W: Write + Drop, S: Write + Drop>(
     outcome
 }
 
-/// Writes the report of a scene to a device, and its records to a second one, if the options ask for them, and gives both devices back.
-/// All calls of the scene are made, and the first that is refused is asked for. A scene that has one leaves the devices as they were; else
-/// `run_report` writes their report. [`report_accepted`] promises the same, and holds one call at a time.
+/// Writes the report of a scene to a device, and its records to a second one if the options ask for them, and returns
+/// both devices. It makes all calls of the scene in memory. If the reporter refuses one, the devices are unchanged;
+/// otherwise `run_report` writes the report. [`report_accepted`] does the same with one call in memory at a time.
 ///
 /// # Errors
 ///
@@ -274,9 +271,9 @@ pub fn report_by_calls<W: Write, S: Write>(
     )
 }
 
-/// Writes the report of an accepted scene to a device, and its records to a second one where the options ask for them, and gives
-/// both devices back. Without records the text goes to its device when 8,192 bytes are gathered and at the end; with records it goes
-/// there at each call, before the records of that call.
+/// Writes the report of an accepted scene to a device, and its records to a second one if the options ask for them, and
+/// returns both devices. Without records the text goes to its device whenever 8,192 bytes are buffered, and at the end.
+/// With records it goes there at each call, before the records of that call.
 ///
 /// # Errors
 ///

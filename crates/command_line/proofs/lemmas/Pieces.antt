@@ -31,7 +31,7 @@ lines_taken k old at_hand text left last =
     let here = subst (λ t. t ≡ take k at_hand ++ 10 ∷ drop (k + 1) t) left.1 (feed_here at_hand left.0 k last.0.high feed) in
     ap (λ u. old ++ u) here ∙ sym (append_assoc old (take k at_hand) (10 ∷ drop (k + 1) text))
 
--- lines were taken of what was left of a text, or a part of one
+-- lines, or part of a line, were taken from what was left of the text
 module _ (text old left at_hand new : List ℕ) (rest : Option (List ℕ)) (so_far : text ≡ old ++ left) where
   pub lines_behind : IsBehind taken.Lines at_hand left old new rest → IsNextPiece text true new rest
   lines_behind taken = (taken.0, taken.1, inl (so_far ∙ taken.2))

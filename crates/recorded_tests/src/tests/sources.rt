@@ -4,7 +4,7 @@ use recorded::Source;
 use std::io;
 use std::io::ErrorKind;
 
-/// A source of which some calls fail: requests for its length, or reads.
+/// A source that fails in some calls: requests for its length, or reads.
 #[derive(Drop)]
 pub struct Failing<'a> {
     all: &'a [u8],

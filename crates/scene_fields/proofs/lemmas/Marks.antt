@@ -70,7 +70,7 @@ pub some_before : (b : ℕ) (t : List ℕ) → 0 < length t → get_or t 0 0 ≢
 some_before b [] some other = absurd (omega arith)
 some_before b (c ∷ t) some other = let e : (c == b) ≡ false = grind (arith, nat_tests, other) in rw e (omega arith)
 
--- from at up to end, the mask has a bit for each position of the byte, and there is none from start up to at
+-- the mask has a bit for each position of the byte between `at` and `end`, and the byte is not between `start` and `at`
 pub record AreLeft (b : ℕ) (t : List ℕ) (start at end mask : ℕ) : Type 0 where
   pub low : at ≤ length t
   pub few : end ≤ at + 32

@@ -14,7 +14,7 @@ row_sum : sum_in sum_text ≡ Some sum_bytes
 unfolding sum_in hex_on_literals
 row_sum = refl
 
--- a letter is upper case, a digit is missing, one is too many, and one is none
+-- bad sums: an upper-case letter, a digit too few, two too many, and a character that is no digit
 row_upper : sum_in (codes "D1fba762150c532c") ≡ None
 unfolding sum_in hex_on_literals
 row_upper = refl

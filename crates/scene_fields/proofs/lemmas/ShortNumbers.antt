@@ -61,7 +61,7 @@ begins : (rest : List ℕ) → 0 < length rest → AllDigits 10 rest → starts_
 begins [] some h = absurd (omega arith)
 begins (c ∷ t) some h = (Decides-ltb (digit_value c) 10).1 h.0
 
--- where something follows the number, the whole is none of at most nineteen digits
+-- if something follows the number, the whole text is not a number of at most nineteen digits
 pub not_whole : (t : List ℕ) (n : ℕ) (rest : List ℕ) → IsLeadingNumber t n rest → 0 < length rest → IsNumeral 10 t × (length t ≤ 19) → ⊥
 not_whole t n rest r some h =
     let all : AllDigits 10 rest = digits_behind r.digits rest (subst (AllDigits 10) r.parts h.0.1) in

@@ -5,7 +5,7 @@ use Rattle.scene_fields.specs.{Texts.LacksEscapes, Texts.escape_byte, Texts.Adds
 use Rattle.scene_fields.proofs.lemmas.Unescaped.{alike, all_read, bad_escape, escape_read}
 use Rattle.scene_fields.proofs.lists.read_words.Goals as goal
 
--- words were read and a part of the next, and the rest of the list is still to come
+-- some words and a part of the next one were read; the rest of the list is still to be read
 module _ (whole : Option Words) (words : Words) (word rest : List ℕ) (so_far : whole ≡ option_map (λ ws. words ++ (word ++ ws.0) ∷ ws.1) (list_words rest)) where
   module _ (plain escape : List ℕ) (r : rest ≡ plain ++ (92 ∷ escape)) (h : LacksEscapes plain) where
     -- a separator ends the word

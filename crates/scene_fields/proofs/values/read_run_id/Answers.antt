@@ -1,7 +1,7 @@
 use Rattle.std.proofs.Common.{◌≡◌, Option, None, Some, refl}
 use Rattle.uuid.specs.Text.{parsed}
 
--- what is no value is none
+-- an option without a value is None
 no_value : {V : Type 0} (o : Option V) → ((v : V) → ¬ (o ≡ Some v)) → None ≡ o
 no_value None h = refl
 no_value (Some v) h = absurd (h v refl)

@@ -1,7 +1,7 @@
 use Rattle.std.proofs.Common.{◌≡◌, ◌-◌, ◌++◌, ◌∙◌, List, [], ◌∷◌, ℕ, zero, suc, length, take, drop, min, ap, sym, arith}
 use Rattle.{std.proofs.lemmas.List.drop-map, std.proofs.lemmas.List.length-map, std.specs.Borrow.Bor, std.specs.Borrow.MutBor, scene_fields.specs.Split.field_texts, scene_fields.specs.Fields.Place, scene_fields.proofs.lemmas.Cuts.rest_is}
 
--- n items of both lists are dropped, of which these are in the first
+-- dropping n items of two joined lists drops some of the first and the others of the second
 both : (n here : ℕ) (xs ys : List (List ℕ)) → here ≡ min n (length xs) → drop here xs ++ drop (n - here) ys ≡ drop n (xs ++ ys)
 both n zero [] ys e = let all : n - 0 ≡ n = omega arith in ap (λ k. drop k ys) all
 both n (suc here) [] ys e = absurd (omega (arith, e))
