@@ -75,7 +75,7 @@ def words_of(file, name):
 def line_words():
     """The words of all kinds of line: `config`, and those of the rows of lines that are events, as in `(codes "run",
     exactly 5 ..)`."""
-    file = "scene_text/specs/EventLines.antt"
+    file = "scene_reader/specs/EventLines.antt"
     found = re.findall(r'^ +(?:∷ )?\(codes "(.*?)", ', (CRATES / file).read_text(), re.M)
     return {"config", *found} if found else sys.exit(f"{sys.argv[0]}: {file} has no kind of line")
 

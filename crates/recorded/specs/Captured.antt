@@ -1,7 +1,7 @@
 -- What was captured of a stored output, and how many bytes are read for it.
 use Rattle.std.specs.Prelude.{◌≡◌, ℕ, List, [], true, Option, None, Some, Result, Ok, Err, ⊤}
 use Rattle.{std.specs.Option.is_some, std.specs.Option.option_map, recorded.specs.declared.outputs.LoadFault.LoadFault, recorded.specs.declared.outputs.StreamFault.StreamFault}
-use Rattle.scene_text.specs.Names.{ChildOutputDescription, stream_in_field, StoredOutput, StoredStream, StreamField}
+use Rattle.scene_reader.specs.Names.{ChildOutputDescription, stream_in_field, StoredOutput, StoredStream, StreamField}
 use Rattle.recorded.specs.Outputs.{IsCounted, IsLoaded, counted, stream_at}
 use Rattle.scene_fields.specs.declared.stored.{StoredOutput.TheVariants.Split, StoredOutput.TheVariants.Combined, StreamField.TheVariants.First, StreamField.TheVariants.Second}
 use Rattle.scene_fields.specs.declared.stored.StoredStream.TheVariants.{NotCaptured, Empty, At}

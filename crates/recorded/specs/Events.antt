@@ -1,7 +1,7 @@
 -- The event that a replay makes of one whose outputs are stored.
 use Rattle.std.specs.Prelude.{◌≡◌, ◌==◌, ℕ, ◌+◌, List, [], ◌∷◌, length, Bool, true, not, nat_le, if◌then◌else◌, Option, None, Some, Result, Ok, Err, ⊤}
 use Rattle.{scene_fields.specs.declared.fault.LineFault.TheVariants.BadField, std.specs.Option.is_some, std.specs.Option.option_or, console_reporter.specs.Names.OutputLoadDecider}
-use Rattle.scene_text.specs.Names.{ChildOutputDescription, end_of, field_of, stream_in_field, PlacedOutput, StoredOutput, StoredStream, StreamField, event_with, SceneEvent, LineFault}
+use Rattle.scene_reader.specs.Names.{ChildOutputDescription, end_of, field_of, stream_in_field, PlacedOutput, StoredOutput, StoredStream, StreamField, event_with, SceneEvent, LineFault}
 use Rattle.recorded.specs.{Outputs.bytes_at, Captured.captured_stream_at, Skips.skips, declared.outputs.LoadFault.LoadFault, declared.events.LoadEventFault.LoadEventFault}
 use Rattle.recorded.specs.declared.outputs.LoadFault.TheVariants.{CannotRead, PastEnd, WrongSum, OutOfMemory}
 use Rattle.scene_fields.specs.declared.stored.{StoredOutput.TheVariants.Split, StoredOutput.TheVariants.Combined, StreamField.TheVariants.First, StreamField.TheVariants.Second}

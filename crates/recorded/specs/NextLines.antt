@@ -2,8 +2,8 @@
 use Rattle.std.specs.Prelude.{◌≡◌, ◌⊎◌, ℕ, ◌+◌, Bool, true, false, List, [], ◌∷◌, ◌++◌, Option, Some, Result, Ok}
 use Rattle.scenes.specs.Names.{decider_for, fault_of_read, IsUnread, Options, Fault, LinesRead}
 use Rattle.recorded.specs.{declared.outputs.LoadFault.LoadFault, declared.lines.Taken.Taken, Events.event_replayed, Outputs.counted, Runs.needed_for, Runs.ended_lines}
-use Rattle.scene_text.specs.Names.{Lacks, LineFault, ReadFault, IsFaultOfNext, LeavesLines, ReadsLines, RunLine, before_next, recorded_line, with_made}
-use Rattle.scene_text.specs.declared.reader.ParsedLine.{ParsedLine}
+use Rattle.scene_reader.specs.Names.{Lacks, LineFault, ReadFault, IsFaultOfNext, LeavesLines, ReadsLines, RunLine, before_next, recorded_line, with_made}
+use Rattle.scene_reader.specs.declared.reader.ParsedLine.{ParsedLine}
 use Rattle.command_line.specs.declared.fault.Fault.TheVariants as program
 use Rattle.recorded.specs.declared.outputs.LoadFault.TheVariants as load
 use Rattle.recorded.specs.declared.lines.Taken.TheVariants as taken

@@ -1,6 +1,6 @@
 -- What is loaded of a file of outputs.
 use Rattle.std.specs.Prelude.{◌≡◌, ℕ, ◌+◌, ◌-◌, ◌^◌, ◌≤◌, ◌<◌, ◌&&◌, ◌⊎◌, min, nat_le, bytes_eq, if◌then◌else◌, List, length, take, drop, Option, None, Some, Result, Ok, Err, ⊤}
-use Rattle.scene_text.specs.Names.{Reference, end_of, sum_of}
+use Rattle.scene_reader.specs.Names.{Reference, end_of, sum_of}
 use Rattle.recorded.specs.declared.outputs.LoadFault.TheVariants.{CannotRead, PastEnd, WrongSum, OutOfMemory}
 use Rattle.recorded.specs.declared.outputs.LoadFault.{LoadFault}
 

@@ -1,9 +1,9 @@
 -- A recorded run as lines of a run: as they are replayed, and with every output in its place.
 use Rattle.std.specs.Prelude.{ℕ, ◌+◌, List, [], ◌∷◌, map, true, Result, Ok, Err}
 use Rattle.recorded.specs.Events.{event_inline, event_replayed, needed_of}
-use Rattle.{scenes.specs.Names.Options, scenes.specs.Names.decider_for, scene_text.specs.declared.reader.ParsedLine.ParsedLine}
-use Rattle.scene_text.specs.Names.{split_on, LineFault, PlacedOutput, LinesBefore, RecordedLine, RunLine, lines_before, no_lines, recorded_line}
-use Rattle.scene_text.specs.declared.reader.ParsedLine.TheVariants.{ConfigLine, EventLine, NoEvent}
+use Rattle.{scenes.specs.Names.Options, scenes.specs.Names.decider_for, scene_reader.specs.declared.reader.ParsedLine.ParsedLine}
+use Rattle.scene_reader.specs.Names.{split_on, LineFault, PlacedOutput, LinesBefore, RecordedLine, RunLine, lines_before, no_lines, recorded_line}
+use Rattle.scene_reader.specs.declared.reader.ParsedLine.TheVariants.{ConfigLine, EventLine, NoEvent}
 
 -- options that show a recorded run
 abbrev pub replayed : Options → Options

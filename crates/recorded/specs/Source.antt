@@ -2,7 +2,7 @@
 use Rattle.std.specs.Prelude.{◌≡◌, ℕ, List, Option, Some}
 use Rattle.recorded.specs.Runs.{lines_replayed, needed, ended_lines}
 use Rattle.{command_line.specs.declared.args.Options.Options, recorded.specs.Outputs.counted}
-use Rattle.scene_text.specs.SceneTexts.{ParsedLines, RunLine, lines_before}
+use Rattle.scene_reader.specs.SceneTexts.{ParsedLines, RunLine, lines_before}
 
 -- These lines are left after those before. `total` bytes of outputs are read once these lines are read.
 pub record IsLeft (total : ℕ) (options : Options) (recorded remaining : Option (List ℕ)) (bytes_read : ℕ) (before : ParsedLines) (lines : List RunLine) : Type 0 where

@@ -3,14 +3,14 @@
 ghost use Rattle.std.specs.Prelude.{◌≡◌, ℕ, List, [], ◌∷◌, Some, IfErr, IfOk, Ok, OnOk};
 ghost use Rattle.{std.specs.Io.Buffered.reader_buffer, std.specs.Io.Buffered.reader_remaining, scenes.specs.Names.IsJudgeFault, scenes.specs.Names.IsUnread};
 ghost use Rattle.recorded.specs.Names.{CountsLine, CountsMore, IsFaultOfLoad, IsLineFault, IsNextLine, LeavesLine, TakesOf, line_replayed, needed_by, value_replayed};
-ghost use Rattle.scene_text.specs.Names.{ReadsLines, before_next};
+ghost use Rattle.scene_reader.specs.Names.{ReadsLines, before_next};
 
 use super::events::{LoadEventFault, load_outputs};
 use super::outputs::{LoadFault, RecordedOutputs};
 use super::read_at::ReadAt;
 use memchr::memchr;
 use run_model::memory::OutOfMemory;
-use scene_text::reader::{LinesRead, ParsedLine};
+use scene_reader::reader::{LinesRead, ParsedLine};
 use scenes::args::Options;
 use scenes::fault::{Fault, LineFault};
 use scenes::reporter::decider_of;

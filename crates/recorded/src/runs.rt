@@ -10,7 +10,7 @@ use super::outputs::RecordedOutputs;
 use super::read_at::ReadAt;
 use memchr::memchr;
 use run_model::memory::OutOfMemory;
-use scene_text::reader::LinesRead;
+use scene_reader::reader::LinesRead;
 use scenes::args::Options;
 use scenes::fault::Fault;
 use scenes::follow::{RunOutcome, follow_source};

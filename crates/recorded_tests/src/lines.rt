@@ -4,7 +4,7 @@ use crate::testing::{expect_bytes, expect_count, expect_row, expect_text};
 use recorded::{LoadFault, Metered, RecordedOutputs, StreamFault};
 use run_model::output::{ChildOutputDescription, ChildSingleOutput};
 use scene_fields::stored::{PlacedOutput, StoredOutput, StreamField};
-use scene_text::reader::LinesRead;
+use scene_reader::reader::LinesRead;
 use std::process::Abort;
 use std::test::Fail;
 

@@ -1,4 +1,4 @@
-//! The tests of the crates `scene_text` and `scenes`: what the programs do, over scenes and writers in memory. They
+//! The tests of the crates `scene_reader` and `scenes`: what the programs do, over scenes and writers in memory. They
 //! have their own crate because a crate with tests is proved twice.
 #![tactic(auto)]
 

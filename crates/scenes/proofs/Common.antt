@@ -32,11 +32,11 @@ pub use Rattle.scene_events.specs.declared.scene.SceneConfig.{SceneConfig}
 pub use Rattle.scene_events.specs.declared.scene.event.SceneEvent.{SceneEvent}
 pub use Rattle.scene_fields.specs.declared.fault.LineFault.{LineFault}
 pub use Rattle.scene_fields.specs.declared.fault.ReadFault.{ReadFault}
-pub use Rattle.scene_text.proofs.lemmas.Tellings.{all_append, begun_behind}
-pub use Rattle.scene_text.specs.SceneTexts.{AllRead, IsNextFault, ParsedLines, RunLine, is_begun, is_begun_behind, line_value, lines_after, lines_before, lines_with, no_lines, parsed_lines, text_lines, text_read, with_line}
-pub use Rattle.scene_text.specs.declared.reader.ParsedLine.{ParsedLine}
-pub use Rattle.scene_text.specs.declared.reader.ParsedLine.TheVariants.{EventLine}
-pub use Rattle.scene_text.specs.declared.reader.LinesRead.{LinesRead}
+pub use Rattle.scene_reader.proofs.lemmas.Tellings.{all_append, begun_behind}
+pub use Rattle.scene_reader.specs.SceneTexts.{AllRead, IsNextFault, ParsedLines, RunLine, is_begun, is_begun_behind, line_value, lines_after, lines_before, lines_with, no_lines, parsed_lines, text_lines, text_read, with_line}
+pub use Rattle.scene_reader.specs.declared.reader.ParsedLine.{ParsedLine}
+pub use Rattle.scene_reader.specs.declared.reader.ParsedLine.TheVariants.{EventLine}
+pub use Rattle.scene_reader.specs.declared.reader.LinesRead.{LinesRead}
 pub use Rattle.scenes.specs.Deferred.{DeliversRest}
 pub use Rattle.scenes.specs.Follow.{Followed, KeepsUp, StopsBy}
 pub use Rattle.scenes.specs.Judged.{ChecksEvent, IsSceneRefused, Refuses}

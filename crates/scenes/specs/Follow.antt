@@ -1,8 +1,8 @@
 -- A report that is written line by line: what stops it, and the outcome of the run.
 use Rattle.std.specs.Prelude.{◌≡◌, ◌⊎◌, ℕ, List, ◌∷◌, ◌++◌, Bool, true, Result, Ok, Err, IfErr, IfOk, OnOk}
 use Rattle.{styled_text.specs.Names.Bor, styled_text.specs.Names.Meaning, console_reporter.specs.OptionalStore.store_meaning}
-use Rattle.scene_text.specs.Names.{ParsedLines, RunLine, is_begun, line_value, lines_before, SceneEvent, LineFault}
-use Rattle.scene_text.specs.declared.reader.{ParsedLine.TheVariants.EventLine, LinesRead.LinesRead}
+use Rattle.scene_reader.specs.Names.{ParsedLines, RunLine, is_begun, line_value, lines_before, SceneEvent, LineFault}
+use Rattle.scene_reader.specs.declared.reader.{ParsedLine.TheVariants.EventLine, LinesRead.LinesRead}
 use Rattle.scenes.specs.{Judged.RefusesEvent, ParsedScenes.OfLines, Read.AtLine, Read.HasReadLines, declared.outcome.RunOutcome.RunOutcome, declared.scene_reporter.SceneReporter.SceneReporter}
 use Rattle.scenes.specs.Prints.{Begins, Prints, PrintsFollowed}
 use Rattle.scenes.specs.{SceneReporter.Follows, SceneReporter.writers}

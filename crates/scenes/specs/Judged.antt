@@ -5,7 +5,7 @@ use Rattle.reporter_state.specs.Refusals.{first_refused, refusal_at_by, refusal_
 use Rattle.{command_line.specs.declared.args.Options.Options, reporter_state.specs.declared.decider.OutputLoadDecider.OutputLoadDecider, scenes.specs.declared.scene.Scene.Scene}
 use Rattle.scenes.specs.Reports.{AreCallsOf, fault_at_call, decider_for}
 use Rattle.scenes.specs.ParsedScenes.{IsFaultOf, IsSceneRead, scene_lines}
-use Rattle.scene_text.specs.Names.{event_lines, no_lines, text_lines, text_read, IsCallOf, SceneConfig, SceneEvent, LineFault, ReportCall}
+use Rattle.scene_reader.specs.Names.{event_lines, no_lines, text_lines, text_read, IsCallOf, SceneConfig, SceneEvent, LineFault, ReportCall}
 use Rattle.command_line.specs.declared.fault.Fault.TheVariants as fault
 
 -- no call of the scene is refused

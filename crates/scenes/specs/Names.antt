@@ -3,7 +3,7 @@ pub use Rattle.command_line.specs.Faults.{IsJudgeFault, fault_of_read, status_of
 pub use Rattle.command_line.specs.Pieces.{IsUnread}
 pub use Rattle.command_line.specs.declared.args.Options.{Options}
 pub use Rattle.command_line.specs.declared.fault.Fault.{Fault}
-pub use Rattle.scene_text.specs.declared.reader.LinesRead.{LinesRead}
+pub use Rattle.scene_reader.specs.declared.reader.LinesRead.{LinesRead}
 pub use Rattle.scenes.specs.Deferred.{deferred_meaning}
 pub use Rattle.scenes.specs.Follow.{Followed, StopsBy}
 pub use Rattle.scenes.specs.Judged.{ChecksEvent, IsJudged, IsRefusedText, IsRejected, IsSceneAccepted, IsSceneRefused, RefusesEvent, fault_of_first}

@@ -1,6 +1,6 @@
 -- Scenes as lines that were read.
 use Rattle.std.specs.Prelude.{◌≡◌, ℕ, List, Result, Ok, Err, ⊤}
-use Rattle.scene_text.specs.Names.{IsFirstFault, ParsedLines, RunLine, lines_read, no_lines, parsed_lines, text_lines, LineFault, ParsedRun}
+use Rattle.scene_reader.specs.Names.{IsFirstFault, ParsedLines, RunLine, lines_read, no_lines, parsed_lines, text_lines, LineFault, ParsedRun}
 use Rattle.{command_line.specs.declared.fault.Fault.Fault, scenes.specs.declared.scene.Scene.Scene}
 use Rattle.command_line.specs.declared.fault.Fault.TheVariants as fault
 

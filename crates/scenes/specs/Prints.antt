@@ -3,7 +3,7 @@ use Rattle.std.specs.Prelude.{◌≡◌, ◌≤◌, ◌⊎◌, ℕ, List, ◌++�
 use Rattle.styled_text.specs.Names.{Appends, AllZip, is_some, Text, AppendsFront, Meaning, WriteFault}
 use Rattle.writers.specs.declared.write_str.WriteFault.TheVariants.{Device, Memory}
 use Rattle.{console_reporter.specs.Outcomes.HasFront, reporter_state.specs.Refusals.first_refused, scenes.specs.Outcomes.run_outcome}
-use Rattle.scene_text.specs.Names.{IsCallOf, SceneConfig, ParsedLines, ReportCall}
+use Rattle.scene_reader.specs.Names.{IsCallOf, SceneConfig, ParsedLines, ReportCall}
 use Rattle.scenes.specs.Reports.{report_of, store_for, stored_of, decider_for}
 use Rattle.{scenes.specs.declared.outcome.RunOutcome.RunOutcome, command_line.specs.declared.args.Options.Options, command_line.specs.declared.fault.Fault.Fault}
 use Rattle.command_line.specs.declared.fault.Fault.TheVariants.{OutOfMemory, StoreFailed, WriteFailed}

@@ -1,7 +1,7 @@
 -- The lines of a file that were read so far, and those that are left.
 use Rattle.std.specs.Prelude.{◌≡◌, ◌⊎◌, ℕ, ◌+◌, Bool, true, false, List, [], ◌++◌, length, Option, Some, Result, Ok, Err}
-use Rattle.{command_line.specs.Faults.fault_of_read, command_line.specs.Pieces.IsUnread, command_line.specs.declared.fault.Fault.Fault, scene_text.specs.declared.reader.LinesRead.LinesRead}
-use Rattle.scene_text.specs.Names.{ReadFault, AllRead, IsNextFault, ParsedLines, RunLine, event_lines, is_begun, no_lines, parsed_lines, lines_after, text_lines}
+use Rattle.{command_line.specs.Faults.fault_of_read, command_line.specs.Pieces.IsUnread, command_line.specs.declared.fault.Fault.Fault, scene_reader.specs.declared.reader.LinesRead.LinesRead}
+use Rattle.scene_reader.specs.Names.{ReadFault, AllRead, IsNextFault, ParsedLines, RunLine, event_lines, is_begun, no_lines, parsed_lines, lines_after, text_lines}
 
 -- lines that are left of a text: its pieces, or none where it ended with the line before
 abbrev pub AreLeft : List RunLine → List ℕ → Type 0

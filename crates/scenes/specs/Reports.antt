@@ -8,7 +8,7 @@ use Rattle.reporter_state.specs.Names.{StoreConfig, unread, unread_call}
 use Rattle.console_reporter.specs.Names.{WriteEventError, OutputLoadDecider, Configuration, configured_in, report, stored, decider_of, IsIsolated}
 use Rattle.console_reporter.specs.declared.imp.builder.{DisplayReporterBuilder.DisplayReporterBuilder, Surroundings.Surroundings}
 use Rattle.reporter_state.specs.declared.faults.WriteEventError.TheVariants.{RetriedSuccess, OutputNotLoaded, Io, Memory, Failed, StoreIo}
-use Rattle.scene_text.specs.Names.{IsCallOf, SceneConfig, SceneEvent}
+use Rattle.scene_reader.specs.Names.{IsCallOf, SceneConfig, SceneEvent}
 use Rattle.command_line.specs.declared.fault.Fault.TheVariants.{Line, WriteFailed, StoreFailed, OutOfMemory}
 use Rattle.unit_report.specs.declared.config.ShowProgress.TheVariants as progress
 use Rattle.unit_report.specs.declared.unit_output.DisplayerKind.TheVariants as displayer

@@ -1,7 +1,7 @@
 -- The events of a scene, reported one after the other: what a reporter of some has done, and what stops one.
 use Rattle.std.specs.Prelude.{◌≡◌, ◌⊎◌, ℕ, List, [], ◌∷◌, ◌++◌, get_or, length, reverse, Option}
 use Rattle.{writers.specs.Writer.Meaning, console_reporter.specs.Names.StandsAfter, console_reporter.specs.Names.store_meaning, console_reporter.specs.declared.imp.store.Store.Store}
-use Rattle.scene_text.specs.Names.{SceneConfig, SceneEvent, LineFault, ParsedLines}
+use Rattle.scene_reader.specs.Names.{SceneConfig, SceneEvent, LineFault, ParsedLines}
 use Rattle.scenes.specs.Prints.{Begins, Prints, PrintsFollowed}
 use Rattle.scenes.specs.{Judged.RefusesEvent, declared.scene_reporter.SceneReporter.SceneReporter, Reports.configuration_for, Reports.unloaded_for}
 use Rattle.command_line.specs.declared.{fault.Fault.Fault, fault.Fault.TheVariants.Line, args.Options.Options}

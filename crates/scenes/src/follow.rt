@@ -5,7 +5,7 @@
 
 ghost use Rattle.std.specs.Prelude.{◌≡◌, ℕ, List, [], true, Option, None, Some, Ok, IfOk, IfErr, OnOk};
 ghost use Rattle.console_reporter.specs.Names.{IsSameStore, config_of, store_delivered, store_meaning, IsSameReporter};
-ghost use Rattle.scene_text.specs.SceneTexts.{RunLine, is_begun, no_lines, text_lines};
+ghost use Rattle.scene_reader.specs.SceneTexts.{RunLine, is_begun, no_lines, text_lines};
 ghost use Rattle.scenes.specs.Names.{Followed, StopsBy, OfLines, OfText, Begins, Prints, PrintsFollowed, device, HasReadLines, store_for, Follows, writers};
 
 use crate::devices::{RecordDevice, buffered};
@@ -18,7 +18,7 @@ use command_line::fault::Fault;
 use console_reporter::imp::{Store, give_back};
 use console_reporter::write_str::WriteStr;
 use run_model::memory::OutOfMemory;
-use scene_text::reader::LinesRead;
+use scene_reader::reader::LinesRead;
 use std::alloc::Global;
 use std::io::{Read, Write};
 

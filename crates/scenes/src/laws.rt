@@ -4,7 +4,7 @@
 //! proved it. So a law shows what the clauses of other functions imply.
 
 ghost use Rattle.std.specs.Prelude.{◌≡◌, ◌⊎◌, ℕ, List, [], Some, ⊤};
-ghost use Rattle.scene_text.specs.Names.{LineFault, ParsedLines, RunLine};
+ghost use Rattle.scene_reader.specs.Names.{LineFault, ParsedLines, RunLine};
 ghost use Rattle.scenes.specs.Names.{Begins, Fault, IsRefusedText, IsRejected, IsStop, IsUnread, OfText};
 ghost use Rattle.scenes.specs.Names.{Options, Prints, StandAtOneCall, StopsBy, device};
 ghost use Rattle.scenes.specs.{Follow.IsWrongLine, Read.AtLine};

@@ -10,7 +10,7 @@
 //!   stop a valid scene.
 //! - `process` is what the programs have in common: standard descriptors, the file of records, the line and the status of a fault.
 //!
-//! How a text is read is in the crate `scene_text`; the words of a command line, pieces of a file and faults are in `command_line`.
+//! How a text is read is in the crate `scene_reader`; the words of a command line, pieces of a file and faults are in `command_line`.
 #![tactic(auto)]
 
 mod deferred;

@@ -3,13 +3,13 @@
 ghost use Rattle.std.specs.Prelude.{◌≡◌, ℕ, List, [], Ok, true, IfErr, IfOk, OnOk};
 ghost use Rattle.scenes.specs.Names.{IsJudgeFault, AreLeftOf, HasReadLines};
 ghost use Rattle.std.specs.Io.Buffered.{reader_remaining};
-ghost use Rattle.scene_text.specs.SceneTexts.{LeavesLines, ParsedLines, ReadsLines, RunLine, is_begun, text_lines};
+ghost use Rattle.scene_reader.specs.SceneTexts.{LeavesLines, ParsedLines, ReadsLines, RunLine, is_begun, text_lines};
 
 use command_line::fault::Fault;
 use command_line::pieces::next_piece;
 use run_model::memory::OutOfMemory;
-use scene_text::fault::ReadFault;
-use scene_text::reader::{LARGE, LinesRead};
+use scene_reader::fault::ReadFault;
+use scene_reader::reader::{LARGE, LinesRead};
 use std::alloc::Global;
 use std::io::{BufReader, Read};
 use std::mem;

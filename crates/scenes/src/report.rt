@@ -7,7 +7,7 @@ ghost use Rattle.scenes.specs.Names.{Fault, IsJudgeFault, IsJudged, IsRefusedTex
 ghost use Rattle.std.specs.Prelude.{◌≡◌, ◌⊎◌, ℕ, List, Option, None, Some, IfOk, IfErr, OnOk};
 ghost use Rattle.scenes.specs.Names.{store_for, IsReadFault, IsSceneRead, OfText, scene_lines};
 ghost use Rattle.console_reporter.specs.OptionalStore.{IsSameStore, config_of, store_delivered, store_meaning};
-ghost use Rattle.scene_text.specs.SceneTexts.{AllRead, event_lines, no_lines, text_lines, text_read};
+ghost use Rattle.scene_reader.specs.SceneTexts.{AllRead, event_lines, no_lines, text_lines, text_read};
 
 use crate::deferred::{Deferred, deliver_rest};
 use crate::devices::{RecordDevice, buffered};
@@ -22,7 +22,7 @@ use command_line::fault::Fault;
 use console_reporter::imp::{OutputLoadDecider, Store, give_back};
 use console_reporter::write_str::WriteStr;
 use run_model::memory::OutOfMemory;
-use scene_text::reader::LinesRead;
+use scene_reader::reader::LinesRead;
 use std::alloc::Global;
 use std::io::{Read, Write};
 use std::marker::Model;

@@ -8,7 +8,7 @@ use command_line::args::Options;
 use command_line::fault::Fault;
 use console_reporter::imp::{ReportCall, unload_skipped};
 use run_model::memory::OutOfMemory;
-pub use scene_text::scene::{SceneConfig, attempts, event, outputs, run_events, unit_events};
+pub use scene_reader::scene::{SceneConfig, attempts, event, outputs, run_events, unit_events};
 use std::alloc::Global;
 
 /// A run: how it is reported, and its events in order.

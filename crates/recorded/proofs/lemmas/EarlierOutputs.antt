@@ -7,7 +7,7 @@ use Rattle.console_reporter.proofs.lemmas.Earlier.{call_of_last, calls_of_last, 
 use Rattle.recorded.specs.Names.{event_inline, output_inline, wanted, wanted_of, skips}
 use Rattle.recorded.proofs.lemmas.{Skipped.skips-with, Skips.skips-same, Unloaded.unloaded-earlier}
 use Rattle.run_model.specs.Names.{Attempts, attempt_with_output, unloaded_attempt}
-use Rattle.scene_text.specs.Names.{ReportCall, TestEvent, TestEventKind, ChildOutputDescription, LiveSpec, attempts_with, event_with, IsCallOf, SaysSame, SceneEvent, TestFinish, PlacedOutput}
+use Rattle.scene_reader.specs.Names.{ReportCall, TestEvent, TestEventKind, ChildOutputDescription, LiveSpec, attempts_with, event_with, IsCallOf, SaysSame, SceneEvent, TestFinish, PlacedOutput}
 use Rattle.scenes.specs.{Outcomes.outcome_after, Outcomes.run_outcome, declared.outcome.RunOutcome.RunOutcome}
 use Rattle.run_model.specs.declared.call.ReportCall.TheVariants as call
 use Rattle.run_model.specs.declared.event.TestEventKind.TheVariants as kind

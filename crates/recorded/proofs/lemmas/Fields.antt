@@ -1,6 +1,6 @@
 -- The outputs of a line that are left.
 use Rattle.std.proofs.Common.{◌≡◌, ℕ, List, Bool, Option, IfSome}
-use Rattle.scene_text.specs.Names.{PlacedOutput, StoredStream, SceneEvent}
+use Rattle.scene_reader.specs.Names.{PlacedOutput, StoredStream, SceneEvent}
 use Rattle.{recorded.specs.Events.event_inline, recorded.specs.Events.first_field_not}
 
 -- they have the first bad field of all

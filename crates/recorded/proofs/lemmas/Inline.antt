@@ -4,9 +4,9 @@ use Rattle.std.proofs.Common.{◌≡◌, ◌⊎◌, ℕ, Bool, true, false, List
 use Rattle.{std.specs.List.AllZip, reporter_state.specs.declared.decider.OutputLoadDecider.OutputLoadDecider, scenes.proofs.lemmas.ReadLines.config_kept}
 use Rattle.{std.proofs.lemmas.Bool.cases_Bool, std.proofs.lemmas.Bool.false≢true, std.proofs.lemmas.Slice.Zip.all_zipped_more, scenes.specs.Names.Options, scenes.specs.Names.decider_for}
 use Rattle.recorded.specs.Names.{event_inline, event_replayed, first_field_not, is_there, is_undamaged, unless_bad, wanted_of, skips, line_inline, line_replayed}
-use Rattle.scene_text.specs.Names.{PlacedOutput, SceneEvent, LineFault, AllRead, ParsedLines, event_line, is_begun, line_read, lines_before, lines_with, recorded_line, with_line, with_made}
-use Rattle.scene_text.specs.declared.reader.ParsedLine.TheVariants.{ConfigLine, EventLine, NoEvent}
-use Rattle.scene_text.specs.declared.reader.ParsedLine.{ParsedLine}
+use Rattle.scene_reader.specs.Names.{PlacedOutput, SceneEvent, LineFault, AllRead, ParsedLines, event_line, is_begun, line_read, lines_before, lines_with, recorded_line, with_line, with_made}
+use Rattle.scene_reader.specs.declared.reader.ParsedLine.TheVariants.{ConfigLine, EventLine, NoEvent}
+use Rattle.scene_reader.specs.declared.reader.ParsedLine.{ParsedLine}
 
 -- an event with every output in its place: the decider skips those of the one that is replayed, or that one has those in it that are loaded
 abbrev pub IsInline : List ℕ → OutputLoadDecider → SceneEvent → SceneEvent → Type 0

@@ -2,9 +2,9 @@
 use Rattle.std.proofs.Common.{◌≡◌, ℕ, ◌+◌, Bool, true, false, List, [], ◌∷◌, ◌++◌, Option, Some, Result, Ok, Err, map, refl, sym, ap, ◌∙◌, append_assoc, arith, inl, inr}
 use Rattle.scenes.specs.Names.{Options, Fault, HasReadLines, IsMore, decider_for, LinesRead}
 use Rattle.recorded.proofs.lemmas.LoadedLines.{before_is, behind, one_read}
-use Rattle.{recorded.proofs.lemmas.WholeLines.ended_lines-more, scene_text.specs.declared.reader.ParsedLine.ParsedLine, scene_text.proofs.lemmas.Tellings.reads_none}
+use Rattle.{recorded.proofs.lemmas.WholeLines.ended_lines-more, scene_reader.specs.declared.reader.ParsedLine.ParsedLine, scene_reader.proofs.lemmas.Tellings.reads_none}
 use Rattle.recorded.specs.Names.{event_replayed, CountsLine, IsNextLine, LeavesLine, counted, before_rest, line_replayed, lines_replayed, needed, needed_for, ended_lines, IsLeft}
-use Rattle.scene_text.specs.Names.{SceneEvent, LineFault, PlacedOutput, ParsedLines, ReadsLines, RunLine, before_next, line_read, lines_before, lines_with, recorded_line, with_made}
+use Rattle.scene_reader.specs.Names.{SceneEvent, LineFault, PlacedOutput, ParsedLines, ReadsLines, RunLine, before_next, line_read, lines_before, lines_with, recorded_line, with_made}
 use Rattle.scenes.proofs.lemmas.ReadLines.{begun_by, further as with_more, next_fault}
 
 -- what is before the line after a valid one

@@ -1,6 +1,6 @@
 -- What was loaded of an output is what is at its positions.
 use Rattle.std.proofs.Common.{◌≡◌, ℕ, List, Option, None, Some, IfSome, Ok, ap, ◌∙◌, arith}
-use Rattle.scene_text.specs.Names.{ChildOutputDescription, Reference, PlacedOutput, StoredOutput, StoredStream, event_with, SceneEvent}
+use Rattle.scene_reader.specs.Names.{ChildOutputDescription, Reference, PlacedOutput, StoredOutput, StoredStream, event_with, SceneEvent}
 use Rattle.recorded.specs.Names.{bytes_at, stream_at, IsCaptured, captured_at, captured_stream_at, output_inline, stream_inline}
 
 -- the bytes of a reference, a stream, and both streams, apart or together

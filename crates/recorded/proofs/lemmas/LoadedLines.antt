@@ -1,12 +1,12 @@
 -- A line as it is read, and as it is replayed (for `read_line`, `load_shown`).
-use Rattle.scene_text.specs.Names.{SceneEvent, LineFault, ReadFault, PlacedOutput, AllRead, IsFaultOfNext, KeepsLines, LeavesLines, ParsedLines, ReadsLines, RunLine, before_next, event_line}
+use Rattle.scene_reader.specs.Names.{SceneEvent, LineFault, ReadFault, PlacedOutput, AllRead, IsFaultOfNext, KeepsLines, LeavesLines, ParsedLines, ReadsLines, RunLine, before_next, event_line}
 use Rattle.std.proofs.Common.{◌≡◌, ℕ, Bool, true, List, [], ◌∷◌, ◌++◌, Option, Some, Result, Ok, Err, length, sym, ap, ◌∙◌, subst, arith, ◌==◌, inl, inr, refl, IfErr, IfSome}
 use Rattle.{std.specs.Result.IsErrAnd, reporter_state.specs.declared.decider.OutputLoadDecider.OutputLoadDecider, std.proofs.lemmas.Bool.Decides.nat_tests, std.proofs.lemmas.List.nil_from_length}
 use Rattle.scenes.specs.Names.{IsUnread, Options, Fault, decider_for, LinesRead}
 use Rattle.recorded.specs.Names.{IfDamaged, IsReplayed, event_replayed, IsFaultOfLoad, IsLineFault, LeavesLine, line_replayed, value_replayed, LoadEventFault, LoadFault}
-use Rattle.scene_text.specs.Names.{event_lines, is_begun, line_read, line_value, lines_after, lines_before, parsed_lines, recorded_line, with_made}
-use Rattle.scene_text.specs.declared.reader.ParsedLine.{ParsedLine, TheVariants.EventLine}
-use Rattle.scene_text.proofs.lemmas.Tellings.{begun_behind, leaves_here, leaves_refused, reads_same}
+use Rattle.scene_reader.specs.Names.{event_lines, is_begun, line_read, line_value, lines_after, lines_before, parsed_lines, recorded_line, with_made}
+use Rattle.scene_reader.specs.declared.reader.ParsedLine.{ParsedLine, TheVariants.EventLine}
+use Rattle.scene_reader.proofs.lemmas.Tellings.{begun_behind, leaves_here, leaves_refused, reads_same}
 use Rattle.recorded.specs.declared.outputs.LoadFault.TheVariants as load
 use Rattle.scene_fields.specs.declared.fault.LineError.TheVariants as error
 use Rattle.scene_fields.specs.declared.fault.LineFault.TheVariants as wrong

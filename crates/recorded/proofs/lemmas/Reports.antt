@@ -8,8 +8,8 @@ use Rattle.recorded.proofs.lemmas.EarlierOutputs.{loaded_call, outcome_last, sho
 use Rattle.recorded.proofs.lemmas.Inline.{AreInline, IsInline, go_on}
 use Rattle.recorded.specs.Names.{counted, line_replayed, lines_inline, lines_replayed, needed, ended_lines, IsLeft, AreBytes, scene_spelled}
 use Rattle.reporter_state.specs.{Names.first_refused, Names.unread, declared.decider.OutputLoadDecider.OutputLoadDecider}
-use Rattle.scene_text.specs.Names.{ReportCall, IsCallOf, SceneConfig, SceneEvent, ParsedLines, RunLine, lines_before, no_lines}
-use Rattle.scene_text.proofs.lemmas.Tellings.{all_tell, all_told}
+use Rattle.scene_reader.specs.Names.{ReportCall, IsCallOf, SceneConfig, SceneEvent, ParsedLines, RunLine, lines_before, no_lines}
+use Rattle.scene_reader.proofs.lemmas.Tellings.{all_tell, all_told}
 
 -- a call of an event with every output in its place, which is shown as a call of the event that is replayed
 module _ (all : List ℕ) (d : OutputLoadDecider) where

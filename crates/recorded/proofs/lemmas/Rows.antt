@@ -4,7 +4,7 @@ use Rattle.std.proofs.Common.{◌≡◌, ℕ, List, [], ◌∷◌, ◌++◌, cod
 use Rattle.{hex.proofs.OnLiterals.hex_on_literals, console_reporter.specs.Names.OutputLoadDecider, run_model.specs.Names.attempt_with_output, run_model.specs.Names.is_success}
 use Rattle.scene_fields.specs.declared.{fault.LineFault.TheVariants.BadField, stored.StoredOutput.TheVariants.Split, stored.StoredOutput.TheVariants.Combined}
 use Rattle.recorded.specs.Names.{captured_at, counted_output, event_replayed, outputs_len, stream_at, line_spelled, scene_spelled, tabbed}
-use Rattle.scene_text.specs.Names.{SetupFinish, number_in, after_mark, reference_in, sum_in, sum_of, cut, split_on, Reference, PlacedOutput}
+use Rattle.scene_reader.specs.Names.{SetupFinish, number_in, after_mark, reference_in, sum_in, sum_of, cut, split_on, Reference, PlacedOutput}
 use Rattle.scene_fields.specs.declared.stored.StoredStream.TheVariants.{NotCaptured, Empty, At}
 use Rattle.run_model.specs.declared.output.ChildOutputDescription.TheVariants as captured
 use Rattle.scene_events.specs.declared.scene.event.SceneEvent.TheVariants as scene

@@ -3,7 +3,7 @@ use Rattle.std.proofs.Common.{◌≡◌, ℕ, true, not, ◌==◌, List, [], ◌
 use Rattle.recorded.specs.Names.{event_inline, output_inline, skips}
 use Rattle.{std.proofs.lemmas.Bool.cases_Bool, std.proofs.lemmas.Bool.false≢true, recorded.proofs.lemmas.Skips.skips-same}
 use Rattle.run_model.specs.Names.{attempt_with_output, unloaded_attempt, unloaded_attempts, unloaded_event, unloaded_kind, unloaded_script}
-use Rattle.scene_text.specs.Names.{ReportCall, TestEvent, TestEventKind, ChildOutputDescription, PlacedOutput, attempts_with, event_with, script_status, IsCallOf, SaysSame, elapsed_in, SceneEvent}
+use Rattle.scene_reader.specs.Names.{ReportCall, TestEvent, TestEventKind, ChildOutputDescription, PlacedOutput, attempts_with, event_with, script_status, IsCallOf, SaysSame, elapsed_in, SceneEvent}
 use Rattle.reporter_state.specs.{Names.loads_finish, Names.unread_call, declared.decider.OutputLoadDecider.OutputLoadDecider}
 use Rattle.recorded.proofs.lemmas.Unloaded.{same-summary, unloaded-attempt, unloaded-attempts, unloaded-script}
 use Rattle.run_model.specs.declared.call.ReportCall.TheVariants as call

@@ -1,6 +1,6 @@
 -- The decider skips an event of a scene just where it skips the event of a reporter that the call has.
 use Rattle.{std.proofs.Common.◌≡◌, std.proofs.Common.arith, run_model.specs.Statuses.summary_of, recorded.specs.Skips.skips}
-use Rattle.scene_text.specs.Names.{TestEventKind, SaysSame, SceneEvent, TestFinish}
+use Rattle.scene_reader.specs.Names.{TestEventKind, SaysSame, SceneEvent, TestFinish}
 use Rattle.reporter_state.specs.Names.{loads_finish, loads_last, is_skipped}
 use Rattle.reporter_state.{specs.declared.decider.OutputLoadDecider.OutputLoadDecider, proofs.lemmas.Metadata.loads_last-same}
 

@@ -1,12 +1,12 @@
 -- The attempts of a test, spelled out: each is read with its own output in it.
 use Rattle.std.proofs.Common.{◌≡◌, ℕ, zero, suc, ◌+◌, ◌/◌, ◌^◌, ◌==◌, true, false, List, [], ◌∷◌, ◌++◌, length, Option, None, Some, refl, sym, ap, ◌∙◌, arith, append_assoc, nat_lt, slice_get}
-use Rattle.scene_text.specs.Names.{ChildOutputDescription, LiveSpec, FlakyResult, attempts_with, Noted, Place, none_noted, noted_outputs, with_noted, placed, PlacedOutput, StoredOutput, all_attempts}
+use Rattle.scene_reader.specs.Names.{ChildOutputDescription, LiveSpec, FlakyResult, attempts_with, Noted, Place, none_noted, noted_outputs, with_noted, placed, PlacedOutput, StoredOutput, all_attempts}
 use Rattle.std.proofs.{Common.length-append, Math.Seq.set-append_seam, lemmas.Bool.Decides.nat_tests, lemmas.List.length-map}
 use Rattle.recorded.proofs.lemmas.SpelledOutputs.{attempt_loads, attempt_reads}
 use Rattle.recorded.proofs.lemmas.SpelledPlaces.{Change, Follows, HasNoted, HasOutput, Reads, Same, bind_follows, checked_reads, place_spelled, says_spells, with_put}
 use Rattle.{recorded.specs.Names.output_inline, recorded.specs.Names.AreBytes, scene_fields.specs.declared.fault.LineFault.TheVariants.WrongNumberOfFields}
 use Rattle.run_model.specs.Attempts.{Attempt, Attempts, attempt_with_output}
-use Rattle.scene_text.specs.Names.{attempt_fields, attempt_number, attempts_from, retry_numbered}
+use Rattle.scene_reader.specs.Names.{attempt_fields, attempt_number, attempts_from, retry_numbered}
 
 abbrev pub TestAttempts : Type 0
 TestAttempts = Attempts LiveSpec ChildOutputDescription

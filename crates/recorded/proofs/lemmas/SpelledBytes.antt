@@ -3,7 +3,7 @@ use Rattle.std.proofs.Common.{◌≡◌, ℕ, zero, suc, ◌+◌, ◌*◌, ◌/�
 use Rattle.std.proofs.{Common.option_map, Common.eqb-true, lemmas.Bool.agree_below_at, lemmas.Bool.and_parts, lemmas.Bool.Decides.nat_tests, lemmas.Str.IsUtf8-from_ascii}
 use Rattle.{std.specs.Char.digit_value, std.specs.List.list_all, std.specs.Option.option_map_or, std.specs.Str.IsAscii, std.specs.Str.IsUtf8, hex.specs.Hex.lower_digits}
 use Rattle.recorded.specs.Names.{bytes_at, AreBytes, bytes_spelled, field_spelled}
-use Rattle.scene_text.specs.Names.{reference_in, Lacks, bytes_in, hex_escape, unescaped_after, Reference, stream_in}
+use Rattle.scene_reader.specs.Names.{reference_in, Lacks, bytes_in, hex_escape, unescaped_after, Reference, stream_in}
 
 -- the digit at a place
 abbrev digit : ℕ → ℕ

@@ -1,11 +1,11 @@
 -- A recorded line, spelled out, is read to the event with its outputs in it (`line_law`).
 use Rattle.recorded.proofs.lemmas.MarkedFields.{marked_iteration, marked_moment, marked_nanos, marked_number, marked_progress, marked_result_or_none, marked_run_id, marked_skips, marked_state}
 use Rattle.recorded.proofs.lemmas.SpelledPlaces.{Change, Follows, HasNoted, HasOutput, Read, Reads, Refused, RowsRead, Same, by_row_reads, either_reads, exactly_reads, fields_read, if_reads}
-use Rattle.scene_text.specs.Names.{UnitState, ChildOutputDescription, ExecutionResultDescription, RunStats, FlakyResult, RetryData, answer_with, attempts_with, event_with, written, SceneConfig}
-use Rattle.scene_text.specs.Names.{SceneEvent, SceneOutput, SceneTest, UnitAnswer, ◌>>=◌, Line, Place, exactly, none_noted, noted_outputs, says, split_on, LineFault, unescaped_after, PlacedOutput}
-use Rattle.scene_text.specs.Names.{StoredOutput, ConfigKey, placed, all_attempts, attempt_fields, answer_fields, config_line_fields, event_line_fields, event_rows, made, other_event_rows}
-use Rattle.scene_text.specs.Names.{retry_fields, run_event_rows, script_fields, set_field, state_fields, test_fields, unique_prefix_fields, unknown, AllRead, LinesBefore, ParsedLines, config_words}
-use Rattle.scene_text.specs.Names.{is_passed_over, line_from, line_place, line_read, line_words, lines_before, lines_read, lines_with, no_lines, parsed_line, plain_line, recorded_line, text_lines}
+use Rattle.scene_reader.specs.Names.{UnitState, ChildOutputDescription, ExecutionResultDescription, RunStats, FlakyResult, RetryData, answer_with, attempts_with, event_with, written, SceneConfig}
+use Rattle.scene_reader.specs.Names.{SceneEvent, SceneOutput, SceneTest, UnitAnswer, ◌>>=◌, Line, Place, exactly, none_noted, noted_outputs, says, split_on, LineFault, unescaped_after, PlacedOutput}
+use Rattle.scene_reader.specs.Names.{StoredOutput, ConfigKey, placed, all_attempts, attempt_fields, answer_fields, config_line_fields, event_line_fields, event_rows, made, other_event_rows}
+use Rattle.scene_reader.specs.Names.{retry_fields, run_event_rows, script_fields, set_field, state_fields, test_fields, unique_prefix_fields, unknown, AllRead, LinesBefore, ParsedLines, config_words}
+use Rattle.scene_reader.specs.Names.{is_passed_over, line_from, line_place, line_read, line_words, lines_before, lines_read, lines_with, no_lines, parsed_line, plain_line, recorded_line, text_lines}
 use Rattle.std.proofs.Common.{◌≡◌, ℕ, true, false, List, [], ◌∷◌, Option, None, Some, Result, Ok, Err, refl, sym, ap, ◌∙◌, bytes_eq, codes, inl, inr, ◌++◌, map, arith}
 use Rattle.{std.specs.Result.result_map_both, std.specs.Str.is_utf8, std.proofs.lemmas.Bool.cases_Bool, run_model.specs.Names.Attempt, run_model.specs.Names.TestOutputDisplay}
 use Rattle.recorded.proofs.lemmas.SpelledAttempts.{TestAttempts, attempts_inline, attempts_read}
@@ -14,9 +14,9 @@ use Rattle.recorded.proofs.lemmas.SpelledOutputs.{attempt_loads, attempt_reads, 
 use Rattle.recorded.proofs.lemmas.SpelledPlaces.{made_reads, next_reads, next_unmarked, output_made_reads, place_spelled, then_spells, turned_follows, with_attempts_reads, with_put}
 use Rattle.recorded.proofs.lemmas.SpelledTexts.{line_fields, line_passed_over, line_utf8, passed_over_line, lines_of_scene}
 use Rattle.recorded.specs.Names.{event_inline, output_inline, ended_lines, line_inline, lines_inline, AreBytes, line_spelled, scene_spelled}
-use Rattle.scene_text.{specs.Names.with_made, specs.Names.words_behind, proofs.lemmas.Tellings.all_tell, proofs.lemmas.Tellings.all_told}
-use Rattle.scene_text.specs.declared.reader.ParsedLine.TheVariants.{ConfigLine, EventLine, NoEvent}
-use Rattle.scene_text.specs.declared.reader.ParsedLine.{ParsedLine}
+use Rattle.scene_reader.{specs.Names.with_made, specs.Names.words_behind, proofs.lemmas.Tellings.all_tell, proofs.lemmas.Tellings.all_told}
+use Rattle.scene_reader.specs.declared.reader.ParsedLine.TheVariants.{ConfigLine, EventLine, NoEvent}
+use Rattle.scene_reader.specs.declared.reader.ParsedLine.{ParsedLine}
 use Rattle.scene_events.specs.declared.scene.event.SceneEvent.TheVariants as event
 use Rattle.scene_fields.specs.declared.values.ConfigKey.TheVariants as key
 

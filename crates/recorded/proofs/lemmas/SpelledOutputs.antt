@@ -1,7 +1,7 @@
 -- The fields of an output, spelled out.
 use Rattle.recorded.proofs.lemmas.SpelledPlaces.{Becomes, Follows, HasOutput, Reads, Same, Spells, by_row_reads, field_reads, fields_read, next_reads, output_made_reads, then_spells, turned_follows}
-use Rattle.scene_text.specs.Names.{ChildOutputDescription, ExecutionResultDescription, RetryData, loaded, written, SceneOutput, Line, Noted, next_stored, stored_among, valued, with_noted, after_mark}
-use Rattle.scene_text.specs.Names.{reference_in, is_reference, stored_output_in, stored_split, stored_stream_in, unescaped_after, Reference, StoredOutput, StoredStream, after_streams, attempt_fields}
+use Rattle.scene_reader.specs.Names.{ChildOutputDescription, ExecutionResultDescription, RetryData, loaded, written, SceneOutput, Line, Noted, next_stored, stored_among, valued, with_noted, after_mark}
+use Rattle.scene_reader.specs.Names.{reference_in, is_reference, stored_output_in, stored_split, stored_stream_in, unescaped_after, Reference, StoredOutput, StoredStream, after_streams, attempt_fields}
 use Rattle.std.proofs.Common.{◌≡◌, ℕ, ◌+◌, Bool, true, false, List, [], ◌∷◌, map, Option, None, Some, refl, ap, ◌∙◌, bytes_eq, codes, ◌||◌, ◌&&◌, if◌then◌else◌, inl, inr, arith, option_map}
 use Rattle.std.proofs.lemmas.{Bool.and_parts, Bool.cases_Bool, Slice.Eq.bytes_eq-Decides}
 use Rattle.recorded.proofs.lemmas.MarkedFields.{marked_highlight, marked_nanos, marked_result}
@@ -9,7 +9,7 @@ use Rattle.recorded.proofs.lemmas.SpelledPlaces.{valued_reads}
 use Rattle.recorded.proofs.lemmas.SpelledBytes.{bytes_at_bytes, bytes_read_back, stream_read_back}
 use Rattle.recorded.specs.Names.{output_inline, stream_inline, bytes_at, AreBytes, field_spelled}
 use Rattle.run_model.specs.Names.{Attempt, attempt_with_output, Nanos}
-use Rattle.scene_text.specs.Names.{by_row, combined_fields, output_fields, output_fields_of, spelled_output_fields, split_fields, start_error_fields, stored_output_fields, stream_in, unloaded_fields}
+use Rattle.scene_reader.specs.Names.{by_row, combined_fields, output_fields, output_fields_of, spelled_output_fields, split_fields, start_error_fields, stored_output_fields, stream_in, unloaded_fields}
 use Rattle.scene_fields.specs.declared.stored.{StoredOutput.TheVariants.Split, StoredOutput.TheVariants.Combined, StoredStream.TheVariants.At}
 use Rattle.run_model.specs.declared.output.ChildOutputDescription.TheVariants as streams
 

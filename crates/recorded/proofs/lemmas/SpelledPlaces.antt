@@ -1,9 +1,9 @@
 -- The fields of a recorded line, spelled out: their readers give equal values, and for an output what is at its position.
 use Rattle.std.proofs.Common.{◌≡◌, ℕ, ◌+◌, ◌%◌, Bool, true, false, List, [], ◌∷◌, map, length, Option, None, Some, Result, Ok, Err, refl, ap, ◌∙◌, ◌==◌, ◌&&◌, if◌then◌else◌, bytes_eq, drop, inl, inr}
-use Rattle.scene_text.specs.Names.{◌>>=◌, Line, Noted, Place, exactly, field, goes_on, next, none_noted, noted_outputs, says, taken, valued, with_attempts, with_noted, reference_in, LineFault}
+use Rattle.scene_reader.specs.Names.{◌>>=◌, Line, Noted, Place, exactly, field, goes_on, next, none_noted, noted_outputs, says, taken, valued, with_attempts, with_noted, reference_in, LineFault}
 use Rattle.{std.proofs.Common.subst, std.proofs.Common.nat_le, std.proofs.lemmas.List.length-map, recorded.proofs.lemmas.MarkedFields.MarkedIsNone, recorded.proofs.lemmas.MarkedFields.marked}
 use Rattle.{std.specs.Prelude.⊤, scene_fields.specs.declared.fault.LineFault.TheVariants.WrongNumberOfFields, recorded.specs.Names.output_inline, recorded.specs.Names.field_spelled}
-use Rattle.scene_text.specs.Names.{PlacedOutput, StoredOutput, by_row, ChildOutputDescription}
+use Rattle.scene_reader.specs.Names.{PlacedOutput, StoredOutput, by_row, ChildOutputDescription}
 
 -- a place in the line as it is spelled out, where nothing is noted
 abbrev pub place_spelled : List ℕ → Place → Place

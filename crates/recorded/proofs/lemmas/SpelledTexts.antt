@@ -7,7 +7,7 @@ use Rattle.std.proofs.lemmas.Str.{IsCharBoundary-after_ascii, IsCharBoundary-bef
 use Rattle.recorded.proofs.lemmas.WholeLines.{NoneHas, lacks-append, pieces}
 use Rattle.recorded.proofs.lemmas.SpelledBytes.{field_lacks_feed, field_lacks_tab, field_utf8}
 use Rattle.recorded.specs.Names.{ended_lines, without_last, field_spelled, line_spelled, scene_spelled, tabbed, text_of_lines}
-use Rattle.scene_text.specs.Names.{reference_in, Lacks, split_on, is_passed_over}
+use Rattle.scene_reader.specs.Names.{reference_in, Lacks, split_on, is_passed_over}
 
 -- fields that tabs part are the pieces at the tabs
 split_tabbed : (t : List ℕ) (ts : List (List ℕ)) → Lacks 9 t → NoneHas 9 ts → split_on 9 (tabbed (t ∷ ts)) ≡ t ∷ ts

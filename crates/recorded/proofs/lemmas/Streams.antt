@@ -1,7 +1,7 @@
 -- When bytes that were read are the stream that a reference names.
 use Rattle.std.proofs.Common.{◌≡◌, ◌≢◌, ℕ, ◌<◌, ◌≤◌, ◌↔◌, IsTrue, List, length, take, drop, Bool, true, false, Option, None, Some, IfSome, Result, Ok, Err, ap, sym, ◌∙◌, arith}
 use Rattle.{std.specs.Result.IsErrAnd, recorded.specs.declared.outputs.LoadFault.TheVariants.OutOfMemory, std.proofs.lemmas.Bool.Decides.nat_tests, std.proofs.lemmas.Slice.Eq.bytes_eq-Decides}
-use Rattle.scene_text.specs.Names.{Reference, end_of, sum_of}
+use Rattle.scene_reader.specs.Names.{Reference, end_of, sum_of}
 use Rattle.recorded.specs.Names.{IsLoaded, bytes_at, stream_at, LoadFault, HasRead}
 
 -- where known bytes do not hold a reference

@@ -1,7 +1,7 @@
 -- Output that is put into an event is gone once it is left unread, and nothing else has changed.
 use Rattle.std.proofs.Common.{◌≡◌, ℕ, zero, suc, List, [], ◌∷◌, map, refl, ap, sym, ◌∙◌, arith}
 use Rattle.run_model.specs.Names.{Attempt, Attempts, Written, attempt_with_output, execution_with_output, summary_of, unloaded_attempt, unloaded_attempts, unloaded_output, unloaded_script}
-use Rattle.scene_text.specs.Names.{ChildOutputDescription, LiveSpec, with_output_at, attempts_with, script_status}
+use Rattle.scene_reader.specs.Names.{ChildOutputDescription, LiveSpec, with_output_at, attempts_with, script_status}
 use Rattle.console_reporter.proofs.lemmas.Isolation.{unloaded-summary}
 
 unloaded-execution : (o : Written) (captured : ChildOutputDescription) → unloaded_output (execution_with_output o captured) ≡ unloaded_output o

@@ -2,7 +2,7 @@
 
 use super::{OPTIONS, report_and_store};
 use run_model::level::StatusLevel;
-use scene_text::reader::LARGE;
+use scene_reader::reader::LARGE;
 use scenes::args::Options;
 use scenes::fault::{Fault, LineFault};
 use std::alloc::{AllocError, Global};

@@ -2,7 +2,7 @@
 -- `followed_lines_end_well`).
 use Rattle.std.proofs.Common.{◌≡◌, ◌⊎◌, ◌∙◌, inl, inr, ℕ, List, Ok, Err, refl, subst, sym}
 use Rattle.{std.specs.Prelude.⊤, styled_text.specs.Names.Bor, styled_text.specs.Names.Meaning}
-use Rattle.scene_text.specs.Names.{LineFault, ParsedLines, RunLine, lines_read, no_lines, text_lines}
+use Rattle.scene_reader.specs.Names.{LineFault, ParsedLines, RunLine, lines_read, no_lines, text_lines}
 use Rattle.scenes.specs.Names.{Begins, Fault, IsJudgeFault, IsJudged, IsRefusedText, IsRejected, IsStop, IsUnread}
 use Rattle.scenes.specs.Names.{OfText, Options, Prints, StopsBy}
 use Rattle.scenes.specs.{Follow.IsWrongLine, Read.AtLine}

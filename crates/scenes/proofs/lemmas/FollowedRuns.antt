@@ -3,7 +3,7 @@ use Rattle.scenes.proofs.Common.{AreWhole, AtLine, Begins, begun_behind, Followe
 use Rattle.scenes.proofs.Common.{KeepsUp, Line, line_value, LineFault, lines_after, lines_before, lines_with, LinesRead, Meaning, no_lines, Options, OutOfMemory, parsed_lines, ParsedLine, ParsedLines}
 use Rattle.scenes.proofs.Common.{Prints, ReadFault, ReportCall, RunLine, RunOutcome, SceneConfig, SceneEvent, SceneReporter, StopsAtEvent, StopsBy, store-laws, store_meaning, with_line, WriterLaws}
 use Rattle.std.proofs.Common.{◌≡◌, ℕ, ◌+◌, Bool, true, false, List, [], ◌∷◌, ◌++◌, Result, Ok, Err, length, get_or, refl, sym, ap, ◌∙◌, subst, append_assoc, inl, inr, ◌⊎◌}
-use Rattle.{std.specs.Borrow.Bor, command_line.specs.declared.fault.Fault.TheVariants.CannotRead, scenes.specs.Follow.IsWrongLine, scene_text.specs.SceneTexts.line_read}
+use Rattle.{std.specs.Borrow.Bor, command_line.specs.declared.fault.Fault.TheVariants.CannotRead, scenes.specs.Follow.IsWrongLine, scene_reader.specs.SceneTexts.line_read}
 use Rattle.scenes.proofs.lemmas.Prints.{begins_no_more, calls_so, none_begun, prints_only}
 use Rattle.scenes.proofs.{Common.writers, lemmas.SceneReporters.StopsAt}
 use Rattle.scenes.proofs.lemmas.ReadLines.{config_kept, at_behind, event_at, forgets, spells}

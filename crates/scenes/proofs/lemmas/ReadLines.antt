@@ -2,16 +2,16 @@
 use Rattle.std.proofs.Common.{bytes_eq, codes, if◌then◌else◌, ◌≡◌, ◌⊎◌, ℕ, ◌+◌, true, List, [], ◌∷◌, ◌++◌, Result, Ok, Err, length, get_or, refl, sym, ap, ◌∙◌, subst, arith, append-nil, append_assoc}
 use Rattle.scenes.proofs.Common.{AllRead, AtLine, EventLine, is_begun, length-append, line_value, LineFault, lines_before, lines_with, nat_lt, nat_tests, ParsedLine, ParsedLines, RunLine, SceneConfig}
 use Rattle.scenes.proofs.Common.{SceneEvent, with_line, all_append, AreLeft, AreLeftOf, begun_behind, cases_Bool, false≢true, Fault, fault_of_read, HasReadLines, is_begun_behind, IsMore, IsNextFault}
-use Rattle.scene_text.specs.Names.{event_lines, is_passed_over, line_read, LinesBefore, PlainLine, RecordedLine, config_words, event_line, line_from, line_place, line_words, value_of, with_made}
+use Rattle.scene_reader.specs.Names.{event_lines, is_passed_over, line_read, LinesBefore, PlainLine, RecordedLine, config_words, event_line, line_from, line_place, line_words, value_of, with_made}
 use Rattle.std.proofs.Common.{inl, inr, Bool, false, Option, None, Some, map, ◌==◌}
 use native.Mathlib.Numerals.{unary_clauses}
 use Rattle.scenes.proofs.Common.{IsNextPiece, IsUnread, lines_after, LinesRead, map-append, no_lines, parsed_lines, ReadFault, text_lines, text_read}
 use Rattle.std.proofs.lemmas.{List.append_cancel_left, List.Splits.length-slice_split, Bool.cond_both}
-use Rattle.scene_text.specs.Names.{LeavesLines, ReadsLines, lines_read, plain_line, event_line_fields, made, Noted, Place, goes_on, none_noted, says, noted_outputs, PlacedOutput, split_on}
-use Rattle.scene_text.specs.declared.reader.ParsedLine.TheVariants.{ConfigLine, NoEvent}
+use Rattle.scene_reader.specs.Names.{LeavesLines, ReadsLines, lines_read, plain_line, event_line_fields, made, Noted, Place, goes_on, none_noted, says, noted_outputs, PlacedOutput, split_on}
+use Rattle.scene_reader.specs.declared.reader.ParsedLine.TheVariants.{ConfigLine, NoEvent}
 use Rattle.styled_text.specs.Names.{result_map_both, is_utf8, onto_first}
 use Rattle.{scene_fields.specs.declared.fault.LineFault.TheVariants.NotUtf8, scenes.specs.ParsedScenes.IsReadFault, scenes.specs.ParsedScenes.IsSceneRead}
-use Rattle.scene_text.proofs.lemmas.Tellings.{all_told, noted_append, reads_none, wrong_told}
+use Rattle.scene_reader.proofs.lemmas.Tellings.{all_told, noted_append, reads_none, wrong_told}
 use Rattle.command_line.specs.declared.fault.Fault.TheVariants as program
 use Rattle.scene_fields.specs.declared.fault.ReadFault.TheVariants as reading
 

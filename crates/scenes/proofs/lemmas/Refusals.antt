@@ -11,7 +11,7 @@ use Rattle.run_model.specs.Names.{Attempt, Written, has_valid_output, has_loaded
 use Rattle.run_model.specs.declared.event.TestEventKind.TheVariants as kind
 use Rattle.run_model.specs.declared.info.InfoResponse.TheVariants as response
 use Rattle.run_model.specs.declared.call.ReportCall.TheVariants as call
-use Rattle.scene_text.specs.Names.{script_status, SaysSame, may_be_refused, nothing_counted, elapsed_in, SceneTest}
+use Rattle.scene_reader.specs.Names.{script_status, SaysSame, may_be_refused, nothing_counted, elapsed_in, SceneTest}
 use Rattle.scene_events.specs.declared.scene.event.SceneEvent.TheVariants as scene
 
 -- why an event is refused whose output is needed or is not

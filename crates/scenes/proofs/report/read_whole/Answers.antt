@@ -1,6 +1,6 @@
 use Rattle.std.proofs.Common.{[], Bool, List, ℕ, Ok, Some, ◌≡◌, ◌∙◌, false, inl, refl}
 use Rattle.scenes.proofs.Common.{AreLeftOf, HasReadLines, no_lines, reader_remaining, text_lines}
-use Rattle.{scene_text.proofs.lemmas.Tellings.all_tell, scenes.proofs.report.read_whole.Goals.After-read_lines}
+use Rattle.{scene_reader.proofs.lemmas.Tellings.all_tell, scenes.proofs.report.read_whole.Goals.After-read_lines}
 use Rattle.scenes.proofs.lemmas.ReadLines.{none_read, notes, spells, stopped_read, to_end}
 use Rattle.scenes.proofs.report.read_whole.Given as given
 use Rattle.scenes.proofs.report.read_whole.Goals as goal

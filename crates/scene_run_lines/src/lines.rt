@@ -1,0 +1,278 @@
+//! The lines of a run, of the iterations of a stress run, and of a replay, and of how the run is reported.
+
+ghost use Rattle.std.specs.Prelude.{◌≡◌, IfOk};
+ghost use Rattle.scene_fields.specs.Texts.{text_in};
+ghost use Rattle.scene_run_lines.specs.Lines.{cancel_line_fields, config_line_fields, end_line_fields, end_stress_line_fields, header_line_fields, info_line_fields, input_line_fields, not_seen_fields};
+ghost use Rattle.scene_run_lines.specs.Lines.{pause_line_fields, prefix_line_fields, run_line_fields, some_text_in, sub_end_line_fields, unique_prefix_fields};
+ghost use Rattle.scene_fields.specs.Fields.{Gives, answered};
+
+use super::parts::{read_moment, read_progress};
+use run_model::abort::DescriptionText;
+use run_model::boxed::Boxed;
+use run_model::event::TestCounts;
+use run_model::memory::OutOfMemory;
+use run_model::not_seen::NotSeen;
+use run_model::run_id::ShortestRunIdPrefix;
+use run_model::stats::{RunFinishedStats, StressRunStats};
+use scene_events::scene::SceneConfig;
+use scene_events::scene::event::SceneEvent;
+use scene_events::scene::run_events::{
+    RunCancel, RunFinish, RunPause, RunStart, SceneHeader, StateRequest, SubRunFinish,
+};
+use scene_fields::counts::{read_skips, read_stats};
+use scene_fields::fault::{LineError, LineFault};
+use scene_fields::fields::Fields;
+use scene_fields::lists::read_instances;
+use scene_fields::names::read_profile_name;
+use scene_fields::numbers::{read_count, read_nanos, read_small_count};
+use scene_fields::texts::read_text;
+use scene_fields::values::{
+    ConfigKey, read_absent, read_config_key, read_display, read_final_level, read_flag, read_mode,
+    read_reason_or_none, read_run_id, read_stress_index,
+};
+use std::alloc::Global;
+
+// What fields spell, or what is wrong with their line.
+type Line<T> = Result<T, LineError>;
+
+/// Reads a `config` line: a key and its value. The last line of a key counts.
+///
+/// # Errors
+///
+/// The first fault of the line.
+#[tactic(auto, unfolding(crate::specs::Lines::config_line_fields))]
+pub fn read_config(fields: &mut Fields<'_>, config: SceneConfig) -> Result<SceneConfig, LineFault>
+    ensures { config_line_fields config fields.old ≡ answered result fields.new }
+{
+    let mut config = config;
+    match fields.read(read_config_key)? {
+        ConfigKey::Final => config.final_status_level = fields.read(read_final_level)?,
+        ConfigKey::Runs => config.run_count = fields.read(read_count)?,
+        ConfigKey::Bench => config.mode = fields.read(read_mode)?,
+        ConfigKey::Success => config.success_output = Some(fields.read(read_display)?),
+        ConfigKey::Failure => config.failure_output = Some(fields.read(read_display)?),
+        ConfigKey::NoCapture => config.no_capture = fields.read(read_flag)?,
+        ConfigKey::Verbose => config.verbose = fields.read(read_flag)?,
+        ConfigKey::NoIndent => config.no_output_indent = fields.read(read_flag)?,
+        ConfigKey::Unicode => config.use_unicode = fields.read(read_flag)?,
+        ConfigKey::Empty => config.display_empty_outputs = fields.read(read_flag)?,
+    }
+    Ok(config)
+}
+
+/// Reads a `run` line: run id, profile, how many tests and binaries, and what is skipped.
+///
+/// # Errors
+///
+/// The first fault of the line, or refused memory.
+pub fn read_run(alloc: Global, fields: &mut Fields<'_>) -> Line<SceneEvent>
+    ensures { Gives (λ e. e) fields.old result fields.new run_line_fields }
+{
+    let start = RunStart {
+        run_id: fields.read(read_run_id)?,
+        profile_name: fields.try_read(|field| read_profile_name(alloc, field))?,
+        test_list: TestCounts {
+            run_count: fields.read(read_count)?,
+            listed_binary_count: fields.read(read_count)?,
+            skip_counts: fields.read(read_skips)?,
+        },
+    };
+    Ok(SceneEvent::RunStarted(Boxed::new(alloc, start)?))
+}
+
+/// Reads an `end` line: how long the run took, its statistics, and the tests that were not seen.
+///
+/// # Errors
+///
+/// The first fault of the line, or refused memory.
+pub fn read_end(alloc: Global, fields: &mut Fields<'_>) -> Line<SceneEvent>
+    ensures { Gives (λ e. e) fields.old result fields.new end_line_fields }
+{
+    let finish = RunFinish {
+        elapsed: fields.read(read_nanos)?,
+        run_stats: RunFinishedStats::Single(fields.read(read_stats)?),
+        outstanding_not_seen: read_not_seen(alloc, fields)?,
+    };
+    Ok(SceneEvent::RunFinished(Boxed::new(alloc, finish)?))
+}
+
+/// Reads an `endstress` line: how long the run took, how many iterations have finished, succeeded and failed, the
+/// statistics of the last one, and the tests that were not seen.
+///
+/// # Errors
+///
+/// The first fault of the line, or refused memory.
+pub fn read_end_stress(alloc: Global, fields: &mut Fields<'_>) -> Line<SceneEvent>
+    ensures { Gives (λ e. e) fields.old result fields.new end_stress_line_fields }
+{
+    let finish = RunFinish {
+        elapsed: fields.read(read_nanos)?,
+        run_stats: RunFinishedStats::Stress(StressRunStats {
+            completed: fields.read(|field| read_stress_index(field).flatten())?,
+            success_count: fields.read(read_small_count)?,
+            failed_count: fields.read(read_small_count)?,
+            last_final_stats: fields.read(read_stats)?.summarize_final(),
+        }),
+        outstanding_not_seen: read_not_seen(alloc, fields)?,
+    };
+    Ok(SceneEvent::RunFinished(Boxed::new(alloc, finish)?))
+}
+
+// Reads how many tests were not seen, and those of them that are listed.
+fn read_not_seen(alloc: Global, fields: &mut Fields<'_>) -> Line<Option<NotSeen>>
+    ensures { Gives (λ o. o) fields.old result fields.new not_seen_fields }
+{
+    let total_not_seen = fields.read(read_count)?;
+    let not_seen = fields.try_read(|field| read_instances(alloc, field))?;
+    if total_not_seen == 0 && not_seen.as_slice().is_empty() {
+        return Ok(None);
+    }
+    Ok(Some(NotSeen {
+        not_seen,
+        total_not_seen,
+    }))
+}
+
+/// Reads a `prefix` line: the part of the run's id that no other run has, and the rest.
+///
+/// # Errors
+///
+/// The first fault of the line, or refused memory.
+pub fn read_prefix(alloc: Global, fields: &mut Fields<'_>) -> Line<SceneEvent>
+    ensures { Gives (λ e. e) fields.old result fields.new prefix_line_fields }
+{
+    let prefix = fields.try_read(|field| read_description(alloc, field))?;
+    let rest = fields.try_read(|field| read_description(alloc, field))?;
+    let prefix = ShortestRunIdPrefix::new(alloc, prefix.as_str(), rest.as_str())?;
+    Ok(SceneEvent::Prefix(Boxed::new(alloc, prefix)?))
+}
+
+/// Reads a `header` line: the run's id, its prefix and the rest, when it started, and how it ended.
+///
+/// # Errors
+///
+/// The first fault of the line, or refused memory.
+pub fn read_header(alloc: Global, fields: &mut Fields<'_>) -> Line<SceneEvent>
+    ensures { Gives (λ e. e) fields.old result fields.new header_line_fields }
+{
+    let header = SceneHeader {
+        run_id: fields.read(read_run_id)?,
+        unique_prefix: read_unique_prefix(alloc, fields)?,
+        started_at: fields.read(read_moment)?,
+        status: fields.try_read(|field| read_description(alloc, field))?,
+    };
+    Ok(SceneEvent::Header(Boxed::new(alloc, header)?))
+}
+
+// Reads a prefix and the rest of the id, or twice `-`.
+fn read_unique_prefix(alloc: Global, fields: &mut Fields<'_>) -> Line<Option<ShortestRunIdPrefix>>
+    ensures { Gives (λ p. p) fields.old result fields.new unique_prefix_fields }
+{
+    let prefix = fields.take()?;
+    if prefix == "-" {
+        fields.read(read_absent)?; // nor is there a rest
+        return Ok(None);
+    }
+    let prefix = read_description(alloc, prefix)?.ok_or(fields.bad_field())?;
+    let rest = fields.try_read(|field| read_some_text(alloc, field))?;
+    Ok(Some(ShortestRunIdPrefix::new(alloc, prefix.as_str(), rest.as_str())?))
+}
+
+// Reads a text, where `-` is a bad field.
+fn read_some_text(alloc: Global, field: &str) -> Result<Option<DescriptionText>, OutOfMemory>
+    ensures { IfOk result (λ text. text ≡ some_text_in field.now) }
+{
+    match field {
+        "-" => Ok(None),
+        _ => read_description(alloc, field),
+    }
+}
+
+// Reads a text.
+fn read_description(alloc: Global, field: &str) -> Result<Option<DescriptionText>, OutOfMemory>
+    ensures { IfOk result (λ text. text ≡ text_in field.now) }
+{
+    match read_text(alloc, field)? {
+        Some(text) => Ok(Some(DescriptionText::new(alloc, text.as_str())?)),
+        None => Ok(None),
+    }
+}
+
+/// Reads a `cancel` or `kill` line: how many setup scripts and tests run, and the reason.
+///
+/// # Errors
+///
+/// The first fault of the line, or refused memory.
+pub fn read_cancel(alloc: Global, fields: &mut Fields<'_>) -> Line<Boxed<RunCancel>>
+    ensures { Gives (λ c. c) fields.old result fields.new cancel_line_fields }
+{
+    let cancel = RunCancel {
+        setup_scripts_running: fields.read(read_count)?,
+        running: fields.read(read_count)?,
+        reason: fields.read(read_reason_or_none)?,
+    };
+    Ok(Boxed::new(alloc, cancel)?)
+}
+
+/// Reads a `pause` or `continue` line: how many setup scripts and tests run.
+///
+/// # Errors
+///
+/// The first fault of the line, or refused memory.
+pub fn read_pause(alloc: Global, fields: &mut Fields<'_>) -> Line<Boxed<RunPause>>
+    ensures { Gives (λ p. p) fields.old result fields.new pause_line_fields }
+{
+    let pause = RunPause {
+        setup_scripts_running: fields.read(read_count)?,
+        running: fields.read(read_count)?,
+    };
+    Ok(Boxed::new(alloc, pause)?)
+}
+
+/// Reads an `info` line: how long the run has taken, how many units were asked, and its statistics.
+///
+/// # Errors
+///
+/// The first fault of the line, or refused memory.
+pub fn read_info(alloc: Global, fields: &mut Fields<'_>) -> Line<SceneEvent>
+    ensures { Gives (λ e. e) fields.old result fields.new info_line_fields }
+{
+    let request = StateRequest {
+        elapsed: fields.read(read_nanos)?,
+        running: fields.read(read_count)?,
+        current_stats: fields.read(read_stats)?,
+    };
+    Ok(SceneEvent::InfoStarted(Boxed::new(alloc, request)?))
+}
+
+/// Reads an `input` line: how long the run has taken, its statistics, and how many units run.
+///
+/// # Errors
+///
+/// The first fault of the line, or refused memory.
+pub fn read_input(alloc: Global, fields: &mut Fields<'_>) -> Line<SceneEvent>
+    ensures { Gives (λ e. e) fields.old result fields.new input_line_fields }
+{
+    let request = StateRequest {
+        elapsed: fields.read(read_nanos)?,
+        current_stats: fields.read(read_stats)?,
+        running: fields.read(read_count)?,
+    };
+    Ok(SceneEvent::InputEnter(Boxed::new(alloc, request)?))
+}
+
+/// Reads a `subend` line: how far the stress run has come, how long the iteration took, and its statistics.
+///
+/// # Errors
+///
+/// The first fault of the line, or refused memory.
+pub fn read_sub_end(alloc: Global, fields: &mut Fields<'_>) -> Line<SceneEvent>
+    ensures { Gives (λ e. e) fields.old result fields.new sub_end_line_fields }
+{
+    let finish = SubRunFinish {
+        progress: fields.read(read_progress)?,
+        sub_elapsed: fields.read(read_nanos)?,
+        sub_stats: fields.read(read_stats)?,
+    };
+    Ok(SceneEvent::StressSubRunFinished(Boxed::new(alloc, finish)?))
+}

@@ -1,0 +1,261 @@
+-- The kinds of line that tests and setup scripts have, and what the fields behind their words spell.
+use Rattle.std.specs.Prelude.{ℕ, zero, suc, ◌+◌, ◌/◌, ◌^◌, List, [], ◌∷◌, ◌++◌, length, if◌then◌else◌, nat_lt, Some, Err, Option, None, codes, bytes_eq, ◌≡◌, Bool, true, false, Ok}
+use Rattle.{std.specs.Option.option_map, run_model.specs.Names.Attempt, run_model.specs.Names.Attempts, scene_events.specs.SceneOutputs.written, scene_events.specs.SceneOutputs.no_output}
+use Rattle.run_model.specs.declared.{info.UnitState.UnitState, output.ChildOutputDescription.ChildOutputDescription, output.LiveSpec.LiveSpec, status.ExecutionResultDescription.ExecutionResultDescription, status.FlakyResult.FlakyResult, status.RetryData.RetryData}
+use Rattle.scene_events.specs.declared.scene.{event.SceneEvent.SceneEvent, unit_events.SceneScript.SceneScript, unit_events.SceneTest.SceneTest, unit_events.UnitAnswer.UnitAnswer}
+use Rattle.scene_events.specs.declared.scene.outputs.SceneOutput.{SceneOutput, TheVariants.Output, TheVariants.StartError}
+use Rattle.scene_fields.specs.{Counts.stats_in, Results.result_in, Texts.text_in, Texts.bytes_in, Numbers.nanos_in, Numbers.number_in, declared.stored.StoredOutput.StoredOutput}
+use Rattle.scene_fields.specs.Fields.{◌>>=◌, Line, says, field, Place, next, next_stored, noting, valued}
+use Rattle.scene_fields.specs.{Lists.words_of, Lists.chain_in, Lists.errors_in, Values.absent_in, Values.display_in, Values.flag_in, Values.flaky_in, Values.stress_in}
+use Rattle.{scene_fields.specs.declared.fault.LineFault.TheVariants.WrongNumberOfFields, scene_unit_lines.specs.Parts.state_in, scene_unit_lines.specs.Parts.state_with, scene_unit_lines.specs.Parts.result_or_none_in, scene_unit_lines.specs.Parts.highlight_in}
+use Rattle.run_model.specs.declared.output.ChildOutputDescription.TheVariants as streams
+use Rattle.scene_events.specs.declared.scene.event.SceneEvent.TheVariants as event
+
+-- the value of the fields after a word, by the first row with this word, or by `otherwise` if there is none
+abbrev pub by_row : {X : Type 0} → Line X → List (List ℕ × Line X) → List ℕ → Line X
+by_row otherwise [] word = otherwise
+by_row otherwise (row ∷ rows) word = if bytes_eq word row.0 then row.1 else by_row otherwise rows word
+
+-- the bytes of a stream, or `-`
+abbrev pub stream_in : List ℕ → Option (Option (List ℕ))
+stream_in t = if bytes_eq t (codes "-") then Some None else option_map (λ bytes. Some bytes) (bytes_in t)
+
+-- errors and a highlight, after the streams
+unfoldable pub after_streams : ChildOutputDescription → Line SceneOutput
+after_streams output = do
+  errors ← field errors_in
+  highlight ← field highlight_in
+  says (Output output errors highlight)
+
+-- each stream by itself
+abbrev pub split_fields : Line SceneOutput
+split_fields = do
+  stdout ← field stream_in
+  stderr ← field stream_in
+  after_streams (streams.Split stdout stderr)
+
+-- both streams together
+abbrev pub combined_fields : Line SceneOutput
+combined_fields = do
+  output ← field bytes_in
+  none ← field absent_in
+  after_streams (streams.Combined output)
+
+-- what was captured was left unread
+abbrev pub unloaded_fields : Line SceneOutput
+unloaded_fields = do
+  first ← field absent_in
+  second ← field absent_in
+  after_streams streams.NotLoaded
+
+-- the process could not be started
+abbrev pub start_error_fields : Line SceneOutput
+start_error_fields = do
+  error ← field chain_in
+  second ← field absent_in
+  errors ← field absent_in
+  highlight ← field absent_in
+  says (StartError error)
+
+-- an output as its fields spell it: its form, what that takes first and second, errors, and a highlight
+unfoldable pub spelled_output_fields : Line SceneOutput
+spelled_output_fields = do
+  form ← next
+  by_row (valued None) ((codes "split", split_fields) ∷ (codes "comb", combined_fields) ∷ (codes "unloaded", unloaded_fields) ∷ (codes "start", start_error_fields) ∷ []) form
+
+-- an output that is stored and left unread: its form, its streams, errors, and a highlight
+unfoldable pub stored_output_fields : Line SceneOutput
+stored_output_fields = do
+  form ← next
+  first ← next
+  second ← next
+  after_streams streams.NotLoaded
+
+abbrev pub output_fields_of : Option StoredOutput → Line SceneOutput
+output_fields_of None = spelled_output_fields
+output_fields_of (Some output) = stored_output_fields
+
+-- an output, which is noted: one that is stored, or what its fields spell
+unfoldable pub output_fields : Line SceneOutput
+output_fields p = output_fields_of (next_stored p) (noting (next_stored p) p)
+
+-- the form and the streams of a stored output were taken, or none was; it is noted, and what is left of it follows
+abbrev pub TakesStoredOutput : Bool → Place → Place → Type 0
+TakesStoredOutput true old new = output_fields old ≡ after_streams streams.NotLoaded new
+TakesStoredOutput false old new = output_fields old ≡ spelled_output_fields new
+
+-- both streams were captured and hold nothing, and there is nothing else
+abbrev pub empty_output_fields : List (List ℕ)
+empty_output_fields = codes "split" ∷ [] ∷ [] ∷ codes "-" ∷ codes "-" ∷ []
+
+-- the fields of such an output were taken, or none was
+abbrev pub TakesEmptyOutput : Bool → Place → Place → Type 0
+TakesEmptyOutput true old new = output_fields old ≡ Ok (no_output, new)
+TakesEmptyOutput false old new = new ≡ old
+
+-- which test it is: iteration, binary and name
+unfoldable pub test_fields : Line SceneTest
+test_fields = do
+  stress_index ← field stress_in
+  binary_id ← field text_in
+  test_name ← field text_in
+  says (record { stress_index = stress_index; binary_id = binary_id; test_name = test_name })
+
+-- which attempt it is, and how many there can be
+unfoldable pub retry_fields : Line RetryData
+retry_fields = do
+  attempt ← field (number_in 32)
+  total ← field (number_in 32)
+  says (record { attempt = attempt; total_attempts = total })
+
+-- an attempt: result, duration, whether it was slow, and its output
+unfoldable pub attempt_fields : RetryData → Line Attempt
+attempt_fields retry_data = do
+  result ← field result_in
+  time_taken ← field nanos_in
+  is_slow ← field flag_in
+  output ← output_fields
+  says (record { retry_data = retry_data; output = written (Some result) output; result = result; time_taken = time_taken; is_slow = is_slow })
+
+-- the attempt of this number, of n possible ones
+abbrev pub retry_numbered : ℕ → ℕ → RetryData
+retry_numbered total number = record { attempt = number; total_attempts = total }
+
+-- the number of an attempt has 32 bits; a line has no fields for one more
+abbrev pub attempt_number : ℕ → Line ℕ
+attempt_number n = λ p. if nat_lt n (2 ^ 32) then says n p else Err WrongNumberOfFields
+
+-- n more attempts, after `earlier` and `last`; the first of them has this number
+unfoldable pub attempts_from : FlakyResult → ℕ → ℕ → ℕ → List Attempt → Attempt → Line (Attempts LiveSpec ChildOutputDescription)
+attempts_from flaky total number zero earlier last = says (record { earlier = earlier; last = last; flaky_result = flaky })
+attempts_from flaky total number (suc more) earlier last = do
+  attempt ← attempt_number number
+  next ← attempt_fields (retry_numbered total attempt)
+  attempts_from flaky total (number + 1) more (earlier ++ last ∷ []) next
+
+-- the attempts after the first one, up to the end of the line, eight fields each
+abbrev pub attempts_behind : FlakyResult → ℕ → Attempt → Line (Attempts LiveSpec ChildOutputDescription)
+attempts_behind flaky total first p = attempts_from flaky total 2 (length p.left / 8) [] first p
+
+-- attempts up to the end of the line
+unfoldable pub all_attempts : FlakyResult → ℕ → Line (Attempts LiveSpec ChildOutputDescription)
+all_attempts flaky total = do
+  first ← attempt_fields (retry_numbered total 1)
+  attempts_behind flaky total first
+
+-- `start`: the test, statistics, and the command
+abbrev pub start_line_fields : Line SceneEvent
+start_line_fields = do
+  test ← test_fields
+  stats ← field stats_in
+  command ← field words_of
+  says (event.TestStarted (record { test = test; current_stats = stats; command_line = command }))
+
+-- `retrystart`: the test, the attempt, and the command
+abbrev pub retry_start_line_fields : Line SceneEvent
+retry_start_line_fields = do
+  test ← test_fields
+  retry_data ← retry_fields
+  command ← field words_of
+  says (event.TestRetryStarted (record { test = test; retry_data = retry_data; command_line = command }))
+
+-- `slow`: the test, the attempt, how long it has taken, and whether it is ended
+abbrev pub slow_line_fields : Line SceneEvent
+slow_line_fields = do
+  test ← test_fields
+  retry_data ← retry_fields
+  elapsed ← field nanos_in
+  will_terminate ← field flag_in
+  says (event.TestSlow (record { elapsed = elapsed; test = test; retry_data = retry_data; will_terminate = will_terminate }))
+
+-- `retry`: the test, which attempt failed, how long the next one waits, when the output is shown, and the attempt
+abbrev pub retry_line_fields : Line SceneEvent
+retry_line_fields = do
+  test ← test_fields
+  retry_data ← retry_fields
+  delay ← field nanos_in
+  on_failure ← field display_in
+  attempt ← attempt_fields retry_data
+  says (event.TestAttemptFailedWillRetry (record { attempt = attempt; delay_before_next_attempt = delay; test = test; failure_output = on_failure }))
+
+-- `done`: the test, when its output is shown, what a flaky test counts as, statistics, how many attempts
+-- there can be, and the attempts
+abbrev pub done_line_fields : Line SceneEvent
+done_line_fields = do
+  test ← test_fields
+  on_success ← field display_in
+  on_failure ← field display_in
+  flaky ← field flaky_in
+  stats ← field stats_in
+  total ← field (number_in 32)
+  attempts ← all_attempts flaky total
+  says (event.TestFinished (record { attempts = attempts; current_stats = stats; test = test; success_output = on_success; failure_output = on_failure }))
+
+-- which script it is: its id, the program, and the program's arguments
+unfoldable pub script_fields : Line SceneScript
+script_fields = do
+  script_id ← field text_in
+  program ← field text_in
+  args ← field words_of
+  says (record { script_id = script_id; program = program; args = args })
+
+-- `setup`: the iteration, which script of how many, and the script
+abbrev pub setup_line_fields : Line SceneEvent
+setup_line_fields = do
+  stress_index ← field stress_in
+  index ← field (number_in 64)
+  total ← field (number_in 64)
+  script ← script_fields
+  says (event.SetupScriptStarted (record { stress_index = stress_index; index = index; total = total; script = script }))
+
+-- `setupslow`: the iteration, the script, how long it has taken, and whether it is ended
+abbrev pub setup_slow_line_fields : Line SceneEvent
+setup_slow_line_fields = do
+  stress_index ← field stress_in
+  script ← script_fields
+  elapsed ← field nanos_in
+  will_terminate ← field flag_in
+  says (event.SetupScriptSlow (record { elapsed = elapsed; stress_index = stress_index; script = script; will_terminate = will_terminate }))
+
+-- `setupdone`: the iteration, the script, and its only attempt
+abbrev pub setup_done_line_fields : Line SceneEvent
+setup_done_line_fields = do
+  stress_index ← field stress_in
+  script ← script_fields
+  attempt ← attempt_fields (retry_numbered 1 1)
+  says (event.SetupScriptFinished (record { attempt = attempt; stress_index = stress_index; script = script }))
+
+-- what a unit is doing, and how the attempt ended
+unfoldable pub state_fields : Line (UnitState × Option ExecutionResultDescription)
+state_fields = do
+  begun ← field state_in
+  result ← field result_or_none_in
+  state ← valued (state_with result begun)
+  says (state, result)
+
+-- the state of a unit, and what it has written
+unfoldable pub answer_fields : Line UnitAnswer
+answer_fields = do
+  read ← state_fields
+  output ← output_fields
+  says (record { state = read.0; output = written read.1 output })
+
+-- `answer-script`: which response of how many, the iteration, the script, and its response
+abbrev pub answer_script_line_fields : Line SceneEvent
+answer_script_line_fields = do
+  index ← field (number_in 64)
+  total ← field (number_in 64)
+  stress_index ← field stress_in
+  script ← script_fields
+  answer ← answer_fields
+  says (event.ScriptAnswered (record { index = index; total = total; stress_index = stress_index; script = script; answer = answer }))
+
+-- `answer-test`: which response of how many, the test, the attempt, and its response
+abbrev pub answer_test_line_fields : Line SceneEvent
+answer_test_line_fields = do
+  index ← field (number_in 64)
+  total ← field (number_in 64)
+  test ← test_fields
+  retry_data ← retry_fields
+  answer ← answer_fields
+  says (event.TestAnswered (record { index = index; total = total; test = test; retry_data = retry_data; answer = answer }))
