@@ -1,7 +1,9 @@
 -- The options of a command line.
-use Rattle.std.specs.Prelude.{ℕ, List, [], ◌∷◌, ◌++◌, map, Bool, true, false, not, ◌&&◌, ◌||◌, if◌then◌else◌, Option, None, Some, is_none, is_some, unwrap_or, String, string_bytes, codes, bytes_eq}
+use Rattle.std.specs.Prelude.{ℕ, List, [], ◌∷◌, ◌++◌, map, Bool, true, false, not, ◌&&◌, ◌||◌, if◌then◌else◌, Option}
+use Rattle.std.specs.Prelude.{None, Some, is_none, is_some, unwrap_or, String, string_bytes, codes, bytes_eq}
 use Rattle.std.specs.Option.{option_map, option_and_then, option_or}
-use Rattle.{std.specs.declared.alloc.Global.Global, run_names.specs.declared.level.StatusLevel.StatusLevel, store_text.specs.declared.config.StoreConfig.StoreConfig}
+use Rattle.{std.specs.declared.alloc.Global.Global, run_names.specs.declared.level.StatusLevel.StatusLevel}
+use Rattle.{store_text.specs.declared.config.StoreConfig.StoreConfig}
 use Rattle.command_line.specs.declared.args.{ArgsSoFar.ArgsSoFar, Options.Options, StoreOptions.StoreOptions}
 use Rattle.run_names.specs.declared.level.StatusLevel.TheVariants as status
 
@@ -38,13 +40,24 @@ asked_of options store file =
       is_replay = options.replay;
       unload_skipped = options.unload;
       status_level = unwrap_or options.level status.Pass;
-      store = option_map (λ path. record { file = path; config = record { store_success_output = options.store_success; store_failure_output = options.store_failure } }) store;
+      store = option_map (λ path. record {
+        file = path;
+        config = record { store_success_output = options.store_success; store_failure_output = options.store_failure };
+      }) store;
       file = file;
     })
 
 -- no option
 abbrev pub no_args : ArgsSoFar
-no_args = record { color = false; counter = false; replay = false; unload = false; level = None; store_success = false; store_failure = false }
+no_args = record {
+  color = false;
+  counter = false;
+  replay = false;
+  unload = false;
+  level = None;
+  store_success = false;
+  store_failure = false;
+}
 
 -- adds a flag; None if it is unknown or was already given
 abbrev pub with_flag : ArgsSoFar → Argument → Option ArgsSoFar
@@ -53,8 +66,12 @@ with_flag options flag =
     else (if bytes_eq flag (codes "--counter") && not options.counter then Some (record options { counter = true })
     else (if bytes_eq flag (codes "--replay") && not options.replay then Some (record options { replay = true })
     else (if bytes_eq flag (codes "--unload") && not options.unload then Some (record options { unload = true })
-    else (if bytes_eq flag (codes "--store-success") && not options.store_success then Some (record options { store_success = true })
-    else (if bytes_eq flag (codes "--store-failure") && not options.store_failure then Some (record options { store_failure = true })
+    else (if bytes_eq flag (codes "--store-success") && not options.store_success then Some (record options {
+      store_success = true;
+    })
+    else (if bytes_eq flag (codes "--store-failure") && not options.store_failure then Some (record options {
+      store_failure = true;
+    })
     else None)))))
 
 -- the status level of a word
@@ -82,8 +99,11 @@ unfoldable pub options_after : ArgsSoFar → Option Argument → List Argument �
 options_after options store [] = None
 options_after options store (file ∷ []) = asked_of options store file
 options_after options store (option ∷ word ∷ rest) =
-    if bytes_eq option (codes "--level") then option_and_then (λ more. options_after more store rest) (with_level options word)
-    else (if bytes_eq option (codes "--store") then (if is_some store then None else options_after options (Some word) rest)
+    if bytes_eq option (codes "--level") then option_and_then (λ more. options_after more store rest)
+    (with_level options word)
+    else
+    (if bytes_eq option (codes "--store") then
+    (if is_some store then None else options_after options (Some word) rest)
     else option_and_then (λ more. options_after more store (word ∷ rest)) (with_flag options option))
 
 -- the options of a command line, or None if it is wrong

@@ -1,6 +1,7 @@
 -- The line of a fault, and the status that the program ends with.
 use Rattle.std.specs.Prelude.{ℕ, List, ◌++◌, codes, decimal, ⊤}
-use Rattle.{std.specs.declared.io.ErrorKind.ErrorKind, command_line.specs.Pieces.IsUnread, scene_fields.specs.Faults.line_fault_text, scene_fields.specs.declared.fault.ReadFault.ReadFault}
+use Rattle.{std.specs.declared.io.ErrorKind.ErrorKind, command_line.specs.Pieces.IsUnread}
+use Rattle.{scene_fields.specs.Faults.line_fault_text, scene_fields.specs.declared.fault.ReadFault.ReadFault}
 use Rattle.command_line.specs.declared.fault.{Fault.Fault, FaultLine.FaultLine, ReportProgram.ReportProgram}
 use Rattle.std.specs.declared.io.ErrorKind.TheVariants as kind
 use Rattle.scene_fields.specs.declared.fault.ReadFault.TheVariants as read
@@ -17,7 +18,9 @@ program_words program.Replay = (codes "replay", codes "DIR")
 abbrev pub fault_text : ReportProgram → Fault → List ℕ
 fault_text by fault.Usage =
     codes "usage: " ++ ((program_words by).0
-    ++ (codes " [--color] [--counter] [--replay] [--unload] [--level L] [--store PATH] [--store-success] [--store-failure] " ++ (program_words by).1))
+    ++ (codes
+    " [--color] [--counter] [--replay] [--unload] [--level L] [--store PATH] [--store-success] [--store-failure] "
+    ++ (program_words by).1))
 fault_text by (fault.CannotRead file) = codes "cannot read " ++ file.now
 fault_text by (fault.CannotWrite file) = codes "cannot write " ++ file.now
 fault_text by (fault.Line n f) = codes "line " ++ (decimal n ++ (codes ": " ++ line_fault_text f))

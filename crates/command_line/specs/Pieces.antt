@@ -8,7 +8,8 @@ use Rattle.command_line.specs.declared.pieces.Chunk.TheVariants as taken
 -- text.
 abbrev pub IsNextPiece : List ℕ → Bool → List ℕ → Option (List ℕ) → Type 0
 IsNextPiece text false piece rest = (text ≡ []) × (rest ≡ Some [])
-IsNextPiece text true piece rest = (more : List ℕ) × (rest ≡ Some more) × ((text ≡ piece ++ 10 ∷ more) ⊎ ((text ≡ piece) × (more ≡ []) × (0 < length piece)))
+IsNextPiece text true piece rest = (more : List ℕ) × (rest ≡ Some more)
+    × ((text ≡ piece ++ 10 ∷ more) ⊎ ((text ≡ piece) × (more ≡ []) × (0 < length piece)))
 
 -- What take_at_hand took from the buffer, the front of the text, and added to the piece `old`: lines and the line feed
 -- after them, part of a line, or nothing if the buffer was empty. `rest` is what remains of the text.

@@ -4,7 +4,8 @@
 
 ghost use Rattle.std.specs.Prelude.{◌≡◌, true, if◌then◌else◌, Some, None, IfOk};
 ghost use Rattle.std.specs.Option.{option_map};
-ghost use Rattle.command_line.specs.Args.{options_after, options_of, options_or_input, asked, asked_of, texts, with_flag, with_level, level_of};
+ghost use Rattle.command_line.specs.Args.{options_after, options_of, options_or_input, asked, asked_of, texts};
+ghost use Rattle.command_line.specs.Args.{with_flag, with_level, level_of};
 
 use run_model::level::StatusLevel;
 use run_model::memory::OutOfMemory;

@@ -1,7 +1,8 @@
 //! The errors of the programs, with the message and the exit status of each.
 
 ghost use Rattle.std.specs.Prelude.{◌≡◌, Some};
-ghost use Rattle.command_line.specs.Faults.{fault_by_kind, fault_line, fault_of_read, line_of, program_words, status_of};
+ghost use Rattle.command_line.specs.Faults.{fault_by_kind, fault_line, fault_of_read, line_of, program_words};
+ghost use Rattle.command_line.specs.Faults.{status_of};
 ghost use Rattle.command_line.specs.declared.fault.Fault.TheVariants.{OutOfMemory};
 
 use run_model::memory::OutOfMemory;

@@ -20,7 +20,9 @@ pub fn next_piece<'a, R: Read>(
     reader: &mut BufReader<R>,
     piece: &mut Vec<u8>,
 ) -> Result<bool, Fault<'a>>
-    ensures piece { IfOk result (λ has_line. (text : List ℕ) → reader_remaining R.remaining reader.old ≡ Some text → IsNextPiece text has_line piece.new.items (reader_remaining R.remaining reader.new)) }
+    ensures piece { IfOk result
+        (λ has_line. (text : List ℕ) → reader_remaining R.remaining reader.old ≡ Some text
+        → IsNextPiece text has_line piece.new.items (reader_remaining R.remaining reader.new)) }
     ensures err { IfErr result (IsUnread file.now) }
 {
     piece.clear();
@@ -56,7 +58,10 @@ fn take_at_hand<R: Read>(
     reader: &mut BufReader<R>,
     piece: &mut Vec<u8>,
 ) -> Result<Chunk, OutOfMemory>
-    ensures { IfOk result (λ taken. (text : List ℕ) → reader_remaining R.remaining reader.old ≡ Some text → IsBehind taken (reader_buffer reader.old) text piece.old.items piece.new.items (reader_remaining R.remaining reader.new)) }
+    ensures { IfOk result
+        (λ taken. (text : List ℕ) → reader_remaining R.remaining reader.old ≡ Some text
+        → IsBehind taken (reader_buffer reader.old) text piece.old.items piece.new.items (reader_remaining
+        R.remaining reader.new)) }
 {
     let at_hand = reader.buffer();
     match memrchr(b'\n', at_hand) {

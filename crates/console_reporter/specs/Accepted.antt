@@ -1,8 +1,10 @@
 -- Which calls a reporter refuses: from the call and the configuration alone, whatever came before.
 use Rattle.std.specs.Prelude.{ℕ, List, Option}
-use Rattle.{run_model.specs.declared.call.ReportCall.ReportCall, console_reporter.specs.Configuration.Configuration, console_reporter.specs.Configuration.settings_of}
+use Rattle.{run_model.specs.declared.call.ReportCall.ReportCall, console_reporter.specs.Configuration.Configuration}
+use Rattle.{console_reporter.specs.Configuration.settings_of}
 use Rattle.reporter_state.specs.Refusals.{AreAcceptedBy, IsAcceptedBy, decider_by, refusal_at_by, refusal_by}
-use Rattle.reporter_state.specs.{declared.decider.OutputLoadDecider.OutputLoadDecider, declared.faults.WriteEventError.WriteEventError}
+use Rattle.reporter_state.specs.{declared.decider.OutputLoadDecider.OutputLoadDecider}
+use Rattle.reporter_state.specs.{declared.faults.WriteEventError.WriteEventError}
 
 -- the decider of a reporter with this configuration
 abbrev pub decider_of : Configuration → OutputLoadDecider

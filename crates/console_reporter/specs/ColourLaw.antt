@@ -1,7 +1,9 @@
 -- The law of colour: colour adds nothing that is visible, and takes nothing away.
 use Rattle.std.specs.Prelude.{◌≡◌, ℕ, List, Bool, true, false, reverse}
-use Rattle.{styled_text.specs.Names.IsEqualButEndSpaces, styled_text.specs.Names.visible, run_model.specs.declared.call.ReportCall.ReportCall}
-use Rattle.console_reporter.specs.{Configuration.Configuration, Report.report, Report.text_at, Stored.stored, Stored.stored_at, PlainCalls.ArePlain, PlainCalls.IsPlainConfiguration}
+use Rattle.{styled_text.specs.Names.IsEqualButEndSpaces, styled_text.specs.Names.visible}
+use Rattle.{run_model.specs.declared.call.ReportCall.ReportCall}
+use Rattle.console_reporter.specs.{Configuration.Configuration, Report.report, Report.text_at, Stored.stored}
+use Rattle.console_reporter.specs.{Stored.stored_at, PlainCalls.ArePlain, PlainCalls.IsPlainConfiguration}
 
 -- this configuration, with colours or without
 abbrev pub in_colour : Bool → Configuration → Configuration
@@ -9,8 +11,11 @@ in_colour b config = record config { builder = record config.builder { should_co
 
 -- the visible text in colour is alike the text without colour: the text of each call, and the whole report
 pub record IsEqualInColour (config : Configuration) (calls : List ReportCall) : Type 0 where
-  pub at_each : (position : ℕ) → IsEqualButEndSpaces (visible (text_at (in_colour true config) calls position)) (text_at (in_colour false config) calls position)
-  pub whole : IsEqualButEndSpaces (visible (report (in_colour true config) (reverse calls))) (report (in_colour false config) (reverse calls))
+  pub at_each : (position : ℕ)
+      → IsEqualButEndSpaces (visible (text_at (in_colour true config) calls position))
+      (text_at (in_colour false config) calls position)
+  pub whole : IsEqualButEndSpaces (visible (report (in_colour true config) (reverse calls)))
+      (report (in_colour false config) (reverse calls))
 
 -- this holds if no given text holds an escape character
 abbrev pub ColourLaw : Configuration → List ReportCall → Type 0
@@ -18,5 +23,7 @@ ColourLaw config calls = IsPlainConfiguration config → ArePlain true calls →
 
 -- colours do not change what is stored: neither the record of any call, nor all of them
 pub record IsSameStoredInColour (config : Configuration) (calls : List ReportCall) : Type 0 where
-  pub at_each : (position : ℕ) → stored_at (in_colour true config).store calls position ≡ stored_at (in_colour false config).store calls position
-  pub whole : stored (in_colour true config).store (reverse calls) ≡ stored (in_colour false config).store (reverse calls)
+  pub at_each : (position : ℕ)
+      → stored_at (in_colour true config).store calls position ≡ stored_at (in_colour false config).store calls position
+  pub whole : stored (in_colour true config).store (reverse calls)
+      ≡ stored (in_colour false config).store (reverse calls)

@@ -1,9 +1,14 @@
 -- The configuration of a reporter, and the settings that it leads to.
 use Rattle.std.specs.Prelude.{ℕ, Bool, false, Option, None, Some}
-use Rattle.{unit_report.specs.declared.config.ShowProgress.TheVariants.Auto, unit_report.specs.declared.unit_output.DisplayerKind.TheVariants.Live}
-use Rattle.{run_names.specs.Filters.default_config_filter, run_names.specs.declared.config.NextestRunMode.TheVariants.Test, styled_text.specs.Style.styles_of, reporter_state.specs.Names.Settings, reporter_state.specs.Names.StoreConfig}
-use Rattle.text_parts.specs.Names.{resolved_display, ResolvedDisplay, OutputDisplayOverrides, counter_width_of, overrides_by, theme_of}
-use Rattle.console_reporter.specs.declared.imp.builder.{DisplayReporterBuilder.DisplayReporterBuilder, Surroundings.Surroundings}
+use Rattle.{unit_report.specs.declared.config.ShowProgress.TheVariants.Auto}
+use Rattle.{unit_report.specs.declared.unit_output.DisplayerKind.TheVariants.Live}
+use Rattle.{run_names.specs.Filters.default_config_filter}
+use Rattle.{run_names.specs.declared.config.NextestRunMode.TheVariants.Test, styled_text.specs.Style.styles_of}
+use Rattle.{reporter_state.specs.Names.Settings, reporter_state.specs.Names.StoreConfig}
+use Rattle.text_parts.specs.Names.{resolved_display, ResolvedDisplay, OutputDisplayOverrides, counter_width_of}
+use Rattle.text_parts.specs.Names.{overrides_by, theme_of}
+use Rattle.console_reporter.specs.declared.imp.builder.{DisplayReporterBuilder.DisplayReporterBuilder}
+use Rattle.console_reporter.specs.declared.imp.builder.{Surroundings.Surroundings}
 use Rattle.run_names.specs.declared.level.FinalStatusLevel.TheVariants as final
 use Rattle.run_names.specs.declared.level.StatusLevel.TheVariants as status
 
@@ -52,7 +57,10 @@ configured builder use_unicode is_terminal is_ci display_empty_outputs = record 
 -- a configuration in named surroundings, with a store if there is one
 abbrev pub configured_in : DisplayReporterBuilder → Surroundings → Option StoreConfig → Configuration
 configured_in builder surroundings store =
-    record (configured builder surroundings.use_unicode surroundings.is_terminal surroundings.is_ci surroundings.display_empty_outputs) { store = store }
+    record
+    (configured builder surroundings.use_unicode surroundings.is_terminal surroundings.is_ci
+    surroundings.display_empty_outputs)
+    { store = store }
 
 -- a configuration with a store
 abbrev pub configured_with_store : StoreConfig → DisplayReporterBuilder → Bool → Bool → Bool → Bool → Configuration

@@ -1,13 +1,17 @@
 -- What a reporter holds after a past.
 use Rattle.std.specs.Prelude.{◌≡◌, ℕ, List, Bool, true, false, IsTrue, slice_get}
-use Rattle.{std.specs.Option.option_map_or, run_names.specs.Levels.reason_rank, reporter_state.specs.declared.state.ReporterState.ReporterState, text_parts.specs.Names.TestEvent, text_parts.specs.Names.ReportCall}
-use Rattle.console_reporter.specs.{Configuration.Configuration, Configuration.settings_of, Report.Known, Report.past_at, OptionalStore.config_of, declared.imp.reporter.DisplayReporter.DisplayReporter}
+use Rattle.{std.specs.Option.option_map_or, run_names.specs.Levels.reason_rank}
+use Rattle.{reporter_state.specs.declared.state.ReporterState.ReporterState, text_parts.specs.Names.TestEvent}
+use Rattle.{text_parts.specs.Names.ReportCall}
+use Rattle.console_reporter.specs.{Configuration.Configuration, Configuration.settings_of, Report.Known, Report.past_at}
+use Rattle.console_reporter.specs.{OptionalStore.config_of, declared.imp.reporter.DisplayReporter.DisplayReporter}
 use Rattle.reporter_state.specs.Names.{may_grow_for, cancel, final_order, kept, prefix, Settings}
 use Rattle.run_model.specs.declared.call.ReportCall.TheVariants.{Event, Header, Prefix}
 
--- the reporter works, and holds what the texts after this past need: its entries are in their final order; and its store, if it
--- has one, keeps what the configuration says
-pub record StandsAfter {W S : Type 0} (config : Configuration) (past : List ReportCall) (reporter : DisplayReporter W S) : Type 0 where
+-- the reporter works, and holds what the texts after this past need: its entries are in their final order; and its
+-- store, if it has one, keeps what the configuration says
+pub record StandsAfter {W S : Type 0} (config : Configuration) (past : List ReportCall) (reporter : DisplayReporter W S)
+    : Type 0 where
   pub settings : reporter.state.settings ≡ settings_of config
   pub prefix : reporter.state.unique_prefix ≡ prefix past
   pub reason : reason_rank reporter.state.cancel_status ≡ cancel past
@@ -32,7 +36,8 @@ known_by state = record {
 
 -- the reporter may allocate for the event
 abbrev pub MayGrow : {W S : Type 0} → DisplayReporter W S → TestEvent → Type 0
-MayGrow reporter event = IsTrue (may_grow_for reporter.state.settings (reason_rank reporter.state.cancel_status) event.kind)
+MayGrow reporter event = IsTrue
+    (may_grow_for reporter.state.settings (reason_rank reporter.state.cancel_status) event.kind)
 
 -- the reporter may allocate for a call: for an event in a run with this reason before, or to copy a prefix
 abbrev pub may_grow_in : Settings → ℕ → ReportCall → Bool
@@ -45,4 +50,5 @@ MayGrowIn reporter call = IsTrue (may_grow_in reporter.state.settings (reason_ra
 
 -- like `may_grow_in`, for the call at an index; past the end there is no call
 abbrev pub MayGrowAt : Configuration → List ReportCall → ℕ → Type 0
-MayGrowAt config calls i = IsTrue (option_map_or (may_grow_in (settings_of config) (cancel (past_at calls i))) (slice_get calls i) false)
+MayGrowAt config calls i = IsTrue
+    (option_map_or (may_grow_in (settings_of config) (cancel (past_at calls i))) (slice_get calls i) false)

@@ -1,6 +1,8 @@
 -- A store that may be absent, as a writer: an absent one takes every text and keeps none.
 use Rattle.std.specs.Prelude.{◌≡◌, ℕ, List, [], Option, None, Some}
-use Rattle.{styled_text.specs.Names.Meaning, styled_text.specs.Names.WriteFault, store_text.specs.declared.config.StoreConfig.StoreConfig, console_reporter.specs.declared.imp.store.Store.Store}
+use Rattle.{styled_text.specs.Names.Meaning, styled_text.specs.Names.WriteFault}
+use Rattle.{store_text.specs.declared.config.StoreConfig.StoreConfig}
+use Rattle.{console_reporter.specs.declared.imp.store.Store.Store}
 
 -- the store did not change its writer and what it keeps, or is absent before and after
 abbrev pub IsSameStore : {S : Type 0} → Option (Store S) → Option (Store S) → Type 0

@@ -1,9 +1,11 @@
 -- How a call of a reporter ends.
 use Rattle.std.specs.Prelude.{◌≡◌, ◌++◌, ◌⊎◌, Option, None, Result, Ok, Err}
 use Rattle.styled_text.specs.Names.{Text, Meaning, WriteFault}
-use Rattle.{reporter_state.specs.Refusals.refusal_in, reporter_state.specs.declared.faults.WriteEventError.WriteEventError}
+use Rattle.{reporter_state.specs.Refusals.refusal_in}
+use Rattle.{reporter_state.specs.declared.faults.WriteEventError.WriteEventError}
 use Rattle.writers.specs.declared.write_str.WriteFault.TheVariants.{Device, Memory as RefusedMemory}
-use Rattle.reporter_state.specs.declared.faults.WriteEventError.TheVariants.{RetriedSuccess, OutputNotLoaded, Io, Memory, Failed, StoreIo}
+use Rattle.reporter_state.specs.declared.faults.WriteEventError.TheVariants.{RetriedSuccess, OutputNotLoaded, Io}
+use Rattle.reporter_state.specs.declared.faults.WriteEventError.TheVariants.{Memory, Failed, StoreIo}
 
 -- a prefix of the text was accepted
 pub record HasFront {S : Type 0} (m : Meaning S) (old : S) (text : Text) (new : S) : Type 0 where

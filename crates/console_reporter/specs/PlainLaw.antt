@@ -1,7 +1,8 @@
 -- The law of plain reports: captured output brings no escape character into them.
 use Rattle.std.specs.Prelude.{◌≡◌, ℕ, List, false, reverse}
 use Rattle.{styled_text.specs.Escapes.HasNoEscape, run_model.specs.declared.call.ReportCall.ReportCall}
-use Rattle.console_reporter.specs.{Configuration.Configuration, Report.report, Report.text_at, PlainCalls.ArePlain, PlainCalls.IsPlainConfiguration}
+use Rattle.console_reporter.specs.{Configuration.Configuration, Report.report, Report.text_at, PlainCalls.ArePlain}
+use Rattle.console_reporter.specs.{PlainCalls.IsPlainConfiguration}
 
 -- no escape character is in the text of any call, nor in the whole report
 pub record IsPlainReport (config : Configuration) (calls : List ReportCall) : Type 0 where
@@ -10,4 +11,5 @@ pub record IsPlainReport (config : Configuration) (calls : List ReportCall) : Ty
 
 -- this holds without colour if no given text holds one, except captured outputs, which may hold anything
 abbrev pub PlainLaw : Configuration → List ReportCall → Type 0
-PlainLaw config calls = config.builder.should_colorize ≡ false → IsPlainConfiguration config → ArePlain false calls → IsPlainReport config calls
+PlainLaw config calls = config.builder.should_colorize ≡ false → IsPlainConfiguration config → ArePlain false calls
+    → IsPlainReport config calls

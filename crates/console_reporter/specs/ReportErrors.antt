@@ -1,6 +1,8 @@
 -- The one error that a program has for each fault.
-use Rattle.{styled_text.specs.Names.ErrorKind, styled_text.specs.Names.WriteFault, reporter_state.specs.declared.faults.RunFault.RunFault}
-use Rattle.console_reporter.specs.declared.error.ReportError.{ReportError, TheVariants.OutOfMemory, TheVariants.Io, TheVariants.Run}
+use Rattle.{styled_text.specs.Names.ErrorKind, styled_text.specs.Names.WriteFault}
+use Rattle.{reporter_state.specs.declared.faults.RunFault.RunFault}
+use Rattle.console_reporter.specs.declared.error.ReportError.{ReportError, TheVariants.OutOfMemory, TheVariants.Io}
+use Rattle.console_reporter.specs.declared.error.ReportError.{TheVariants.Run}
 use Rattle.std.specs.declared.io.ErrorKind.TheVariants as kind
 use Rattle.writers.specs.declared.write_str.WriteFault.TheVariants as write
 

@@ -1,6 +1,7 @@
 -- What a store keeps of a run: the record of each finished test, whatever the cancel reasons.
 use Rattle.std.specs.Prelude.{ℕ, List, [], ◌∷◌, ◌++◌, Option, None, Some, map, slice_get}
-use Rattle.{styled_text.specs.Names.option_map_or, styled_text.specs.Names.Text, text_parts.specs.Names.TestEventKind, text_parts.specs.Names.ReportCall, run_model.specs.declared.event.TestEventKind.TheVariants.TestFinished}
+use Rattle.{styled_text.specs.Names.option_map_or, styled_text.specs.Names.Text, text_parts.specs.Names.TestEventKind}
+use Rattle.{text_parts.specs.Names.ReportCall, run_model.specs.declared.event.TestEventKind.TheVariants.TestFinished}
 use Rattle.run_model.specs.declared.call.ReportCall.TheVariants.{Event, Header, Prefix}
 use Rattle.{reporter_state.specs.Names.record_text, reporter_state.specs.Names.StoreConfig}
 

@@ -1,7 +1,9 @@
 -- Uninterrupted calls, and the end of a run.
 use Rattle.std.specs.Prelude.{◌≡◌, ℕ, ◌<◌, Bool, true, false, List, [], ◌∷◌, ◌++◌, Some}
 use Rattle.text_parts.specs.Names.{TestEvent, TestEventKind, ReportCall}
-use Rattle.{std.specs.List.AllByRecursion, run_names.specs.Levels.reason_rank, run_model.specs.declared.event.TestEventKind.TheVariants.RunFinished, reporter_state.specs.Effects.effect_of}
+use Rattle.{std.specs.List.AllByRecursion, run_names.specs.Levels.reason_rank}
+use Rattle.{run_model.specs.declared.event.TestEventKind.TheVariants.RunFinished}
+use Rattle.{reporter_state.specs.Effects.effect_of}
 use Rattle.run_model.specs.declared.call.ReportCall.TheVariants.{Event, Header, Prefix}
 use Rattle.run_names.specs.declared.level.CancelReason.TheVariants as cause
 
@@ -13,7 +15,8 @@ carried_reason (Prefix p) = 0
 
 -- each reason that the calls carry is below the immediate end of a failed run
 abbrev pub AreUninterrupted : List ReportCall → Type 0
-AreUninterrupted calls = AllByRecursion (λ call. carried_reason call < reason_rank (Some cause.TestFailureImmediate)) calls
+AreUninterrupted calls = AllByRecursion (λ call. carried_reason call < reason_rank (Some cause.TestFailureImmediate))
+    calls
 
 -- the event is the end of a run
 abbrev pub is_end_of_run : TestEventKind → Bool
@@ -22,4 +25,5 @@ is_end_of_run _ = false
 
 -- the last of the calls is the end of a run
 abbrev pub EndsRun : List ReportCall → Type 0
-EndsRun calls = (front : List ReportCall) × (end : TestEvent) × (calls ≡ front ++ Event end ∷ []) × (is_end_of_run end.kind ≡ true)
+EndsRun calls = (front : List ReportCall) × (end : TestEvent) × (calls ≡ front ++ Event end ∷ [])
+    × (is_end_of_run end.kind ≡ true)

@@ -10,7 +10,8 @@ use std::io;
 use thiserror::Error;
 use writers::write_str::WriteFault;
 
-/// Why a program could not make its report. Each fault of this library converts into it with `?`, so a `main` can have it as its error.
+/// Why a program could not make its report. Each fault of this library converts into it with `?`, so a `main` can have
+/// it as its error.
 ///
 /// ```
 /// use std::io;

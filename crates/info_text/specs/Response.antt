@@ -1,14 +1,23 @@
 -- The response of a unit that is asked for its state.
-use Rattle.std.specs.Prelude.{◌≡◌, ℕ, ◌+◌, ◌-◌, ◌==◌, Bool, true, false, ◌&&◌, ◌||◌, Option, None, Some, [], ◌++◌, length, codes, nat_lt, if◌then◌else◌, refl}
+use Rattle.std.specs.Prelude.{◌≡◌, ℕ, ◌+◌, ◌-◌, ◌==◌, Bool, true, false, ◌&&◌, ◌||◌, Option, None, Some, [], ◌++◌}
+use Rattle.std.specs.Prelude.{length, codes, nat_lt, if◌then◌else◌, refl}
 use Rattle.styled_text.specs.Names.{decimal, HasNoEscape, plain, Text, spaces}
 use Rattle.styled_text.{proofs.lemmas.Closed.spaces_free, proofs.lemmas.Widths.free_both}
-use Rattle.report_words.specs.Names.{Styles, Parts, Fixed, Line, Lines, Open, Count, none, words, Word, Verbatim, number, ◌⧺◌, choice, indented_line, drawn_given_line, hbar_text}
+use Rattle.report_words.specs.Names.{Styles, Parts, Fixed, Line, Lines, Open, Count, none, words, Word, Verbatim}
+use Rattle.report_words.specs.Names.{number, ◌⧺◌, choice, indented_line, drawn_given_line, hbar_text}
 use Rattle.run_model.specs.Names.{has_valid_output, has_errors, has_loaded_output, UnitKind, Written}
-use Rattle.run_model.specs.{declared.info.InfoResponse.TheVariants.SetupScript, declared.info.InfoResponse.TheVariants.Test}
-use Rattle.text_parts.specs.Names.{InfoResponse, SetupScriptInfoResponse, TestInfoResponse, UnitState, RetryData, ThemeCharacters, OutputLayout, execution_output, instance_end, Script, shown_script}
-use Rattle.{text_parts.specs.declared.instance.CountedInstance.CountedInstance, text_parts.specs.declared.settings.Settings.Settings, report_words.proofs.lemmas.FreeWords.free-hbar_text, report_words.proofs.lemmas.FreeWords.free-if}
-use Rattle.run_model.specs.declared.info.UnitState.TheVariants.{Running, Exiting, Terminating, Exited, DelayBeforeNextAttempt}
-use Rattle.{unit_report.proofs.lemmas.UnitColourPairs.ends-execution_output, unit_report.specs.declared.unit_output.header.OutputHeader.TheVariants.Label, info_text.specs.State.state_text, info_text.specs.declared.state.InfoUnit.InfoUnit}
+use Rattle.run_model.specs.{declared.info.InfoResponse.TheVariants.SetupScript}
+use Rattle.run_model.specs.{declared.info.InfoResponse.TheVariants.Test}
+use Rattle.text_parts.specs.Names.{InfoResponse, SetupScriptInfoResponse, TestInfoResponse, UnitState, RetryData}
+use Rattle.text_parts.specs.Names.{ThemeCharacters, OutputLayout, execution_output, instance_end, Script, shown_script}
+use Rattle.{text_parts.specs.declared.instance.CountedInstance.CountedInstance}
+use Rattle.{text_parts.specs.declared.settings.Settings.Settings, report_words.proofs.lemmas.FreeWords.free-hbar_text}
+use Rattle.{report_words.proofs.lemmas.FreeWords.free-if}
+use Rattle.run_model.specs.declared.info.UnitState.TheVariants.{Running, Exiting, Terminating, Exited}
+use Rattle.run_model.specs.declared.info.UnitState.TheVariants.{DelayBeforeNextAttempt}
+use Rattle.{unit_report.proofs.lemmas.UnitColourPairs.ends-execution_output}
+use Rattle.{unit_report.specs.declared.unit_output.header.OutputHeader.TheVariants.Label}
+use Rattle.{info_text.specs.State.state_text, info_text.specs.declared.state.InfoUnit.InfoUnit}
 use Rattle.run_names.specs.declared.unit.UnitKind.TheVariants as unit
 use Rattle.unit_report.specs.declared.unit_output.header.OutputName.TheVariants as name
 
@@ -18,7 +27,8 @@ separator theme index = if index == 0 then [] else hbar_text theme.is_unicode 8 
 
 pub free-separator : (theme : ThemeCharacters) (index : ℕ) → HasNoEscape (separator theme index)
 unfolding separator plain
-free-separator theme index = free-if (index == 0) [] _ refl (free_both (hbar_text theme.is_unicode 8) (codes "\n") (free-hbar_text theme.is_unicode 8) refl)
+free-separator theme index = free-if (index == 0) [] _ refl
+    (free_both (hbar_text theme.is_unicode 8) (codes "\n") (free-hbar_text theme.is_unicode 8) refl)
 
 -- the spaces after the number of a response, which is as wide as the word before a state, if it has room
 abbrev pub number_padding : ℕ → ℕ → Text
@@ -55,7 +65,8 @@ HasValidOutput state output = has_valid_output state ≡ true → has_loaded_out
 -- the output as the response shows it
 abbrev pub told_output : Settings → UnitKind → Written → Parts false Line
 told_output s kind output =
-    drawn_given_line (λ t. execution_output s.unit_output t (info_layout t kind) output) (λ t. ends-execution_output s.unit_output t (info_layout t kind) output)
+    drawn_given_line (λ t. execution_output s.unit_output t (info_layout t kind) output)
+    (λ t. ends-execution_output s.unit_output t (info_layout t kind) output)
 
 -- the output, unless it is that of the attempt before
 unfoldable pub valid_output : Settings → UnitKind → UnitState → Written → Parts false Lines
@@ -67,14 +78,20 @@ unit_answer s u state output = state_text s.mode u state ⧺ valid_output s u.ki
 
 -- a setup script for the first line of its response, and for the lines of its state
 abbrev pub answering_script : SetupScriptInfoResponse → Script
-answering_script x = record { stress_index = x.stress_index; script_id = x.script_id; program = x.program; args = x.args }
+answering_script x = record {
+  stress_index = x.stress_index;
+  script_id = x.script_id;
+  program = x.program;
+  args = x.args;
+}
 
 abbrev pub script_unit : SetupScriptInfoResponse → InfoUnit
 script_unit x = record { kind = unit.Script; attempt = None; has_errors = has_errors x.output }
 
 -- the response of a setup script
 unfoldable pub script_answer : Settings → SetupScriptInfoResponse → Parts false Open
-script_answer s x = shown_script (answering_script x) ⧺ words (codes "\n") ⧺ unit_answer s (script_unit x) x.state x.output
+script_answer s x = shown_script (answering_script x) ⧺ words (codes "\n") ⧺ unit_answer s (script_unit x) x.state
+    x.output
 
 -- the next attempt waits
 abbrev pub is_delay : UnitState → Bool

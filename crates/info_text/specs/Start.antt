@@ -16,7 +16,8 @@ info_started_text theme elapsed total stats =
 
 -- how many have not responded
 unfoldable pub missing_line : ℕ → Fixed Line
-missing_line missing = toned Skip (codes "info") ⧺ words (codes ": missing ") ⧺ number Count missing ⧺ words (codes " responses\n")
+missing_line missing = toned Skip (codes "info") ⧺ words (codes ": missing ") ⧺ number Count missing ⧺ words
+    (codes " responses\n")
 
 -- how many have not responded, if any
 unfoldable pub missing_note : ℕ → Fixed Lines

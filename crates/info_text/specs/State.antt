@@ -1,18 +1,26 @@
 -- The state of a unit, in the lines of its response.
 use Rattle.std.specs.Prelude.{ℕ, Bool, false, Option, None, Some, [], ◌++◌, codes, nat_lt, if◌then◌else◌, refl}
 use Rattle.styled_text.specs.Names.{decimal, is_some, option_map, HasNoEscape, seconds, plain, Text}
-use Rattle.run_model.specs.{Names.terminate_reason_text, Names.NextestRunMode, Names.Nanos, declared.info.UnitTerminateMethod.TheVariants.Signal}
-use Rattle.text_parts.specs.Names.{UnitState, UnitTerminateMethod, UnitTerminateReason, UnitTerminatingState, ExecutionResultDescription, RetryData, unit_part, info_text}
-use Rattle.run_model.specs.declared.info.UnitState.TheVariants.{Running, Exiting, Terminating, Exited, DelayBeforeNextAttempt}
-use Rattle.{styled_text.proofs.lemmas.Closed.decimal_free, styled_text.proofs.lemmas.Widths.free_both, report_words.proofs.lemmas.FreeWords.free-seconds, info_text.specs.Seconds.seconds_between, info_text.specs.Seconds.seconds_part, info_text.specs.declared.state.InfoUnit.InfoUnit}
-use Rattle.report_words.specs.Parts.{Parts, Fixed, Line, Lines, Open, Tone, Count, Fail, Pass, Skip, none, words, Verbatim, toned, Toned, number, given, ◌⧺◌, choice, loosely, openly, plainly}
+use Rattle.run_model.specs.{Names.terminate_reason_text, Names.NextestRunMode, Names.Nanos}
+use Rattle.run_model.specs.{declared.info.UnitTerminateMethod.TheVariants.Signal}
+use Rattle.text_parts.specs.Names.{UnitState, UnitTerminateMethod, UnitTerminateReason, UnitTerminatingState}
+use Rattle.text_parts.specs.Names.{ExecutionResultDescription, RetryData, unit_part, info_text}
+use Rattle.run_model.specs.declared.info.UnitState.TheVariants.{Running, Exiting, Terminating, Exited}
+use Rattle.run_model.specs.declared.info.UnitState.TheVariants.{DelayBeforeNextAttempt}
+use Rattle.{styled_text.proofs.lemmas.Closed.decimal_free, styled_text.proofs.lemmas.Widths.free_both}
+use Rattle.{report_words.proofs.lemmas.FreeWords.free-seconds, info_text.specs.Seconds.seconds_between}
+use Rattle.{info_text.specs.Seconds.seconds_part, info_text.specs.declared.state.InfoUnit.InfoUnit}
+use Rattle.report_words.specs.Parts.{Parts, Fixed, Line, Lines, Open, Tone, Count, Fail, Pass, Skip, none, words}
+use Rattle.report_words.specs.Parts.{Verbatim, toned, Toned, number, given, ◌⧺◌, choice, loosely, openly, plainly}
 use Rattle.run_model.specs.declared.info.UnitTerminateReason.TheVariants as terminate
 
 -- which attempt it is, if that is shown
 unfoldable pub attempt_text : Option RetryData → Text
 attempt_text None = []
 attempt_text (Some r) =
-    plain (codes "(attempt ") ++ (plain (decimal r.attempt) ++ (plain (codes "/") ++ (plain (decimal r.total_attempts) ++ plain (codes ") "))))
+    plain (codes "(attempt ")
+    ++ (plain (decimal r.attempt)
+    ++ (plain (codes "/") ++ (plain (decimal r.total_attempts) ++ plain (codes ") "))))
 
 pub free-attempt_text : (attempt : Option RetryData) → HasNoEscape (attempt_text attempt)
 unfolding attempt_text plain
@@ -23,7 +31,8 @@ free-attempt_text (Some r) =
 
 -- how the line of a state begins
 unfoldable pub status_start : InfoUnit → Fixed Open
-status_start u = toned Count (codes "status") ⧺ words (codes ": ") ⧺ Verbatim (attempt_text u.attempt) (free-attempt_text u.attempt)
+status_start u = toned Count (codes "status") ⧺ words (codes ": ") ⧺ Verbatim (attempt_text u.attempt)
+    (free-attempt_text u.attempt)
 
 -- how it begins with the word for the unit
 unfoldable pub unit_start : NextestRunMode → InfoUnit → Fixed Open
@@ -72,11 +81,14 @@ taken_end taken mark = seconds_between (codes " after ") taken (codes "s") ++ ma
 pub free-taken_end : (taken : ℕ) (mark : Option Nanos) → HasNoEscape (taken_end taken mark)
 unfolding taken_end plain
 free-taken_end taken mark =
-    free_both (seconds 3 taken ++ codes "s") (marked_slow_end (nanos_of mark)) (free_both (seconds 3 taken) (codes "s") (free-seconds 3 taken) refl) (free-marked_slow_end (nanos_of mark))
+    free_both (seconds 3 taken ++ codes "s") (marked_slow_end (nanos_of mark))
+    (free_both (seconds 3 taken) (codes "s") (free-seconds 3 taken) refl) (free-marked_slow_end (nanos_of mark))
 
 -- a process that has ended
-unfoldable pub exited_text : NextestRunMode → InfoUnit → ExecutionResultDescription → ℕ → Option Nanos → Parts false Open
-exited_text mode u result taken mark = unit_start mode u ⧺ info_text (is_some mark) result ⧺ Verbatim (taken_end taken mark) (free-taken_end taken mark)
+unfoldable pub exited_text : NextestRunMode → InfoUnit → ExecutionResultDescription → ℕ → Option Nanos
+    → Parts false Open
+exited_text mode u result taken mark = unit_start mode u ⧺ info_text (is_some mark) result ⧺ Verbatim
+    (taken_end taken mark) (free-taken_end taken mark)
 
 -- the beginning of a note
 unfoldable pub note_start : Fixed Open
@@ -98,11 +110,14 @@ leak_note mode u pid waiting remaining =
 
 -- `leak_note`, from one second on
 unfoldable pub exiting_note : NextestRunMode → InfoUnit → ℕ → ℕ → ℕ → Fixed Lines
-exiting_note mode u pid waiting remaining = choice (nat_lt waiting 1000000000) none (leak_note mode u pid waiting remaining)
+exiting_note mode u pid waiting remaining = choice (nat_lt waiting 1000000000) none
+    (leak_note mode u pid waiting remaining)
 
 -- a process that has ended, and whose handles are waited for
-unfoldable pub exiting_line : NextestRunMode → InfoUnit → Option ExecutionResultDescription → ℕ → Option Nanos → Parts false Open
-exiting_line mode u result taken mark = unit_start mode u ⧺ tentative_info (is_some mark) result ⧺ Verbatim (taken_end taken mark) (free-taken_end taken mark)
+unfoldable pub exiting_line : NextestRunMode → InfoUnit → Option ExecutionResultDescription → ℕ → Option Nanos
+    → Parts false Open
+exiting_line mode u result taken mark = unit_start mode u ⧺ tentative_info (is_some mark) result ⧺ Verbatim
+    (taken_end taken mark) (free-taken_end taken mark)
 
 -- why a process is ended
 pub free-terminate_reason : (x : UnitTerminateReason) → HasNoEscape (terminate_reason_text x)
@@ -164,15 +179,18 @@ state_line mode u (Running pid taken mark) = plainly (running_line mode u pid ta
 state_line mode u (Exiting pid taken mark result waiting remaining) = exiting_line mode u result taken.0 mark
 state_line mode u (Terminating x) = plainly (openly (terminating_line mode u x))
 state_line mode u (Exited result taken mark) = exited_text mode u result taken.0 mark
-state_line mode u (DelayBeforeNextAttempt result is_slow waiting remaining) = openly (waiting_line mode u result is_slow)
+state_line mode u (DelayBeforeNextAttempt result is_slow waiting remaining) = openly
+    (waiting_line mode u result is_slow)
 
 -- the note below it, which says how long something is waited for
 unfoldable pub state_note : NextestRunMode → InfoUnit → UnitState → Parts false Lines
 state_note mode u (Running pid taken mark) = plainly none
-state_note mode u (Exiting pid taken mark result waiting remaining) = plainly (exiting_note mode u pid waiting.0 remaining.0)
+state_note mode u (Exiting pid taken mark result waiting remaining) = plainly
+    (exiting_note mode u pid waiting.0 remaining.0)
 state_note mode u (Terminating x) = loosely (terminating_note mode u x)
 state_note mode u (Exited result taken mark) = plainly none
-state_note mode u (DelayBeforeNextAttempt result is_slow waiting remaining) = plainly (loosely (delay_note mode u waiting.0 remaining.0))
+state_note mode u (DelayBeforeNextAttempt result is_slow waiting remaining) = plainly
+    (loosely (delay_note mode u waiting.0 remaining.0))
 
 -- the state of a unit
 unfoldable pub state_text : NextestRunMode → InfoUnit → UnitState → Parts false Open

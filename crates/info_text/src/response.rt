@@ -1,8 +1,12 @@
 //! The response of a unit that is asked for its state.
 
 ghost use Rattle.std.specs.Prelude.{◌≡◌, ◌+◌, false};
-ghost use Rattle.{text_parts.specs.Names.layout_of, text_parts.specs.Names.script_of, report_words.specs.Parts.paint, styled_text.specs.Names.indent, styled_text.specs.Names.Puts, styled_text.specs.Names.spaces};
-ghost use Rattle.info_text.specs.Response.{HasAnswerOutput, HasValidOutput, answer, answering_script, answering_test, info_layout, info_response_text, is_delay, number_padding, script_answer, script_unit, separator, test_answer, test_unit, told_attempt, unit_answer, valid_output};
+ghost use Rattle.{text_parts.specs.Names.layout_of, text_parts.specs.Names.script_of, report_words.specs.Parts.paint};
+ghost use Rattle.{styled_text.specs.Names.indent, styled_text.specs.Names.Puts, styled_text.specs.Names.spaces};
+ghost use Rattle.info_text.specs.Response.{HasAnswerOutput, HasValidOutput, answer, answering_script, answering_test};
+ghost use Rattle.info_text.specs.Response.{info_layout, info_response_text, is_delay, number_padding, script_answer};
+ghost use Rattle.info_text.specs.Response.{script_unit, separator, test_answer, test_unit, told_attempt, unit_answer};
+ghost use Rattle.info_text.specs.Response.{valid_output};
 
 use crate::state::{InfoUnit, write_state};
 use report_text::helpers::{ThemeCharacters, decimal_char_width};
@@ -36,7 +40,8 @@ pub fn write_info_response<W: WriteStr>(
     response: &InfoResponse<'_>,
 ) -> Result<(), WriteFault>
     requires { HasAnswerOutput response.now }
-    ensures { Puts W.meaning w.old (paint settings.now.styles (info_response_text settings.now index total response.now)) result w.new }
+    ensures { Puts W.meaning w.old
+        (paint settings.now.styles (info_response_text settings.now index total response.now)) result w.new }
 {
     let styles = &settings.styles;
     let number = index as u128 + 1;
@@ -89,7 +94,8 @@ fn write_indented<W: WriteStr>(
     response: &InfoResponse<'_>,
 ) -> Result<(), WriteFault>
     requires { HasAnswerOutput response.now }
-    ensures { Puts W.meaning w.old (indent (spaces 2) false (paint settings.now.styles (answer settings.now response.now))) result w.new }
+    ensures { Puts W.meaning w.old
+        (indent (spaces 2) false (paint settings.now.styles (answer settings.now response.now))) result w.new }
 {
     let mut out = indented(w).with_str("  ").skip_initial();
     let result = write_answer(&mut out, settings, response);
@@ -221,7 +227,8 @@ fn write_unit_answer<W: WriteStr>(
     output: &ChildExecutionOutputDescription<LiveSpec>,
 ) -> Result<(), WriteFault>
     requires { HasValidOutput state.now output.now }
-    ensures { Puts W.meaning w.old (paint settings.now.styles (unit_answer settings.now unit state.now output.now)) result w.new }
+    ensures { Puts W.meaning w.old (paint settings.now.styles (unit_answer settings.now unit state.now output.now))
+        result w.new }
 {
     write_state(w, settings, unit, state)?;
     write_valid_output(w, settings, unit.kind, state, output)
@@ -237,7 +244,8 @@ fn write_valid_output<W: WriteStr>(
     output: &ChildExecutionOutputDescription<LiveSpec>,
 ) -> Result<(), WriteFault>
     requires { HasValidOutput state.now output.now }
-    ensures { Puts W.meaning w.old (paint settings.now.styles (valid_output settings.now kind state.now output.now)) result w.new }
+    ensures { Puts W.meaning w.old (paint settings.now.styles (valid_output settings.now kind state.now output.now))
+        result w.new }
 {
     if !state.has_valid_output() {
         return Ok(());

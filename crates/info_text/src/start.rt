@@ -1,6 +1,7 @@
 //! All units are asked for their state, and no further responses are waited for.
 
-ghost use Rattle.{writers.specs.Writer.Puts, report_words.specs.Parts.paint, info_text.specs.Start.info_finished_text, info_text.specs.Start.info_started_text};
+ghost use Rattle.{writers.specs.Writer.Puts, report_words.specs.Parts.paint, info_text.specs.Start.info_finished_text};
+ghost use Rattle.{info_text.specs.Start.info_started_text};
 
 use run_model::stats::RunStats;
 use run_model::time::Nanos;
@@ -24,7 +25,9 @@ pub fn write_info_started<W: WriteStr>(
     total: usize,
     stats: &RunStats,
 ) -> Result<(), WriteFault>
-    ensures { Puts W.meaning w.old (paint settings.now.styles (info_started_text settings.now.theme_characters elapsed.0 total stats.now)) result w.new }
+    ensures { Puts W.meaning w.old
+        (paint settings.now.styles (info_started_text settings.now.theme_characters elapsed.0 total stats.now)) result
+        w.new }
 {
     let styles = &settings.styles;
     let word = Toned(failure_style(styles, stats), "info");
@@ -54,7 +57,8 @@ pub fn write_info_finished<W: WriteStr>(
     settings: &Settings,
     missing: usize,
 ) -> Result<(), WriteFault>
-    ensures { Puts W.meaning w.old (paint settings.now.styles (info_finished_text settings.now.theme_characters missing)) result w.new }
+    ensures { Puts W.meaning w.old
+        (paint settings.now.styles (info_finished_text settings.now.theme_characters missing)) result w.new }
 {
     let styles = &settings.styles;
     let note = (

@@ -1,8 +1,12 @@
 //! The state of a unit, in the lines of its response.
 
-ghost use Rattle.{styled_text.specs.Names.is_some, styled_text.specs.Names.Puts, report_words.specs.Parts.paint, report_words.specs.Parts.style_of};
+ghost use Rattle.{styled_text.specs.Names.is_some, styled_text.specs.Names.Puts, report_words.specs.Parts.paint};
+ghost use Rattle.{report_words.specs.Parts.style_of};
 ghost use Rattle.std.specs.Prelude.{◌≡◌, ◌++◌};
-ghost use Rattle.info_text.specs.State.{attempt_text, delay_note, exited_text, exiting_line, exiting_note, marked_slow_end, nanos_of, running_line, running_tone, signal_of, state_text, status_start, taken_end, tentative_info, terminating_line, terminating_note, unit_start, waiting_line};
+ghost use Rattle.info_text.specs.State.{attempt_text, delay_note, exited_text, exiting_line, exiting_note};
+ghost use Rattle.info_text.specs.State.{marked_slow_end, nanos_of, running_line, running_tone, signal_of, state_text};
+ghost use Rattle.info_text.specs.State.{status_start, taken_end, tentative_info, terminating_line, terminating_note};
+ghost use Rattle.info_text.specs.State.{unit_start, waiting_line};
 
 use run_model::info::{UnitState, UnitTerminateMethod, UnitTerminatingState};
 use run_model::status::{ExecutionResultDescription, RetryData};
@@ -48,7 +52,8 @@ pub fn write_state<W: WriteStr>(
     unit: InfoUnit,
     state: &UnitState,
 ) -> Result<(), WriteFault>
-    ensures { Puts W.meaning w.old (paint settings.now.styles (state_text settings.now.mode unit state.now)) result w.new }
+    ensures { Puts W.meaning w.old (paint settings.now.styles (state_text settings.now.mode unit state.now)) result
+        w.new }
 {
     let start = UnitStart { settings, unit };
     match state {
@@ -121,7 +126,10 @@ impl UnitStart<'_> {
         time_taken: Nanos,
         slow_after: Option<Nanos>,
     ) -> Result<(), WriteFault>
-        ensures { Puts W.meaning w.old (paint self.now.settings.now.styles (running_line self.now.settings.now.mode self.now.unit pid time_taken.0 slow_after)) result w.new }
+        ensures { Puts W.meaning w.old
+            (paint self.now.settings.now.styles
+            (running_line self.now.settings.now.mode self.now.unit pid time_taken.0 slow_after))
+            result w.new }
     {
         let styles = &self.settings.styles;
         let running = running_style(styles, self.unit.has_errors, slow_after.is_some());
@@ -143,7 +151,10 @@ impl UnitStart<'_> {
         time_taken: Nanos,
         slow_after: Option<Nanos>,
     ) -> Result<(), WriteFault>
-        ensures { Puts W.meaning w.old (paint self.now.settings.now.styles (exiting_line self.now.settings.now.mode self.now.unit outcome.now time_taken.0 slow_after)) result w.new }
+        ensures { Puts W.meaning w.old
+            (paint self.now.settings.now.styles
+            (exiting_line self.now.settings.now.mode self.now.unit outcome.now time_taken.0 slow_after))
+            result w.new }
     {
         let info = TentativeInfo {
             styles: &self.settings.styles,
@@ -161,7 +172,10 @@ impl UnitStart<'_> {
         waited: Nanos,
         remaining: Nanos,
     ) -> Result<(), WriteFault>
-        ensures { Puts W.meaning w.old (paint self.now.settings.now.styles (exiting_note self.now.settings.now.mode self.now.unit pid waited.0 remaining.0)) result w.new }
+        ensures { Puts W.meaning w.old
+            (paint self.now.settings.now.styles
+            (exiting_note self.now.settings.now.mode self.now.unit pid waited.0 remaining.0))
+            result w.new }
     {
         let count = self.settings.styles.count;
         let note = (
@@ -182,7 +196,12 @@ impl UnitStart<'_> {
         w: &mut W,
         state: &UnitTerminatingState,
     ) -> Result<(), WriteFault>
-        ensures { Puts W.meaning w.old (paint self.now.settings.now.styles (terminating_line self.now.settings.now.mode self.now.unit state.now) ++ paint self.now.settings.now.styles (terminating_note self.now.settings.now.mode self.now.unit state.now)) result w.new }
+        ensures { Puts W.meaning w.old
+            (paint self.now.settings.now.styles (terminating_line self.now.settings.now.mode self.now.unit
+            state.now)
+            ++ paint self.now.settings.now.styles (terminating_note self.now.settings.now.mode self.now.unit
+            state.now))
+            result w.new }
     {
         let UnitStart { settings, unit } = *self;
         let styles = &settings.styles;
@@ -226,7 +245,10 @@ impl UnitStart<'_> {
         time_taken: Nanos,
         slow_after: Option<Nanos>,
     ) -> Result<(), WriteFault>
-        ensures { Puts W.meaning w.old (paint self.now.settings.now.styles (exited_text self.now.settings.now.mode self.now.unit outcome.now time_taken.0 slow_after)) result w.new }
+        ensures { Puts W.meaning w.old
+            (paint self.now.settings.now.styles
+            (exited_text self.now.settings.now.mode self.now.unit outcome.now time_taken.0 slow_after))
+            result w.new }
     {
         let info = InfoResult(&self.settings.styles, slow_after.is_some(), outcome);
         (*self, info, TakenEnd(time_taken, slow_after)).write_to(w)
@@ -239,7 +261,10 @@ impl UnitStart<'_> {
         previous: &ExecutionResultDescription,
         was_slow: bool,
     ) -> Result<(), WriteFault>
-        ensures { Puts W.meaning w.old (paint self.now.settings.now.styles (waiting_line self.now.settings.now.mode self.now.unit previous.now was_slow)) result w.new }
+        ensures { Puts W.meaning w.old
+            (paint self.now.settings.now.styles
+            (waiting_line self.now.settings.now.mode self.now.unit previous.now was_slow))
+            result w.new }
     {
         let styles = &self.settings.styles;
         let info = InfoResult(styles, was_slow, previous);
@@ -254,7 +279,10 @@ impl UnitStart<'_> {
         waited: Nanos,
         remaining: Nanos,
     ) -> Result<(), WriteFault>
-        ensures { Puts W.meaning w.old (paint self.now.settings.now.styles (delay_note self.now.settings.now.mode self.now.unit waited.0 remaining.0)) result w.new }
+        ensures { Puts W.meaning w.old
+            (paint self.now.settings.now.styles
+            (delay_note self.now.settings.now.mode self.now.unit waited.0 remaining.0))
+            result w.new }
     {
         let left = Seconds(remaining.0);
         (

@@ -1,9 +1,11 @@
 -- What was captured of a stored output, and how many bytes are read for it.
 use Rattle.std.specs.Prelude.{◌≡◌, ℕ, List, [], true, Option, None, Some, Result, Ok, Err, ⊤}
-use Rattle.{std.specs.Option.is_some, std.specs.Option.option_map, recorded.specs.declared.outputs.LoadFault.LoadFault, recorded.specs.declared.outputs.StreamFault.StreamFault}
+use Rattle.{std.specs.Option.is_some, std.specs.Option.option_map, recorded.specs.declared.outputs.LoadFault.LoadFault}
+use Rattle.{recorded.specs.declared.outputs.StreamFault.StreamFault}
 use Rattle.scene_reader.specs.Names.{ChildOutputDescription, stream_in_field, StoredOutput, StoredStream, StreamField}
 use Rattle.recorded.specs.Outputs.{IsCounted, IsLoaded, counted, stream_at}
-use Rattle.scene_fields.specs.declared.stored.{StoredOutput.TheVariants.Split, StoredOutput.TheVariants.Combined, StreamField.TheVariants.First, StreamField.TheVariants.Second}
+use Rattle.scene_fields.specs.declared.stored.{StoredOutput.TheVariants.Split, StoredOutput.TheVariants.Combined}
+use Rattle.scene_fields.specs.declared.stored.{StreamField.TheVariants.First, StreamField.TheVariants.Second}
 use Rattle.scene_fields.specs.declared.stored.StoredStream.TheVariants.{NotCaptured, Empty, At}
 use Rattle.run_model.specs.declared.output.ChildOutputDescription.TheVariants as captured
 
@@ -41,7 +43,8 @@ IsCapturedStream all stream (Err fault) = IsStreamFault all stream fault
 
 abbrev pub IsCaptured : List ℕ → StoredOutput → Result ChildOutputDescription StreamFault → Type 0
 IsCaptured all output (Ok loaded) = captured_at all output ≡ Some loaded
-IsCaptured all output (Err f) = IsStreamFault all (stream_in_field f.stream output) f.fault × IsWholeBefore all f.stream output
+IsCaptured all output (Err f) = IsStreamFault all (stream_in_field f.stream output) f.fault
+    × IsWholeBefore all f.stream output
 
 -- a count of bytes once the bytes of a stream, or of an output, are read: those of its references
 abbrev pub counted_stream : ℕ → StoredStream → ℕ
@@ -72,4 +75,5 @@ IsCountedOfStream before stream (Err fault) after = IsCountedFault before stream
 
 abbrev pub IsCountedOf : ℕ → StoredOutput → Result ChildOutputDescription StreamFault → ℕ → Type 0
 IsCountedOf before output (Ok loaded) after = after ≡ counted_output before output
-IsCountedOf before output (Err f) after = IsCountedFault (counted_before f.stream before output) (stream_in_field f.stream output) f.fault after
+IsCountedOf before output (Err f) after = IsCountedFault (counted_before f.stream before output)
+    (stream_in_field f.stream output) f.fault after

@@ -1,10 +1,15 @@
 -- The event that a replay makes of one whose outputs are stored.
-use Rattle.std.specs.Prelude.{◌≡◌, ◌==◌, ℕ, ◌+◌, List, [], ◌∷◌, length, Bool, true, not, nat_le, if◌then◌else◌, Option, None, Some, Result, Ok, Err, ⊤}
-use Rattle.{scene_fields.specs.declared.fault.LineFault.TheVariants.BadField, std.specs.Option.is_some, std.specs.Option.option_or, console_reporter.specs.Names.OutputLoadDecider}
-use Rattle.scene_reader.specs.Names.{ChildOutputDescription, end_of, field_of, stream_in_field, PlacedOutput, StoredOutput, StoredStream, StreamField, event_with, SceneEvent, LineFault}
-use Rattle.recorded.specs.{Outputs.bytes_at, Captured.captured_stream_at, Skips.skips, declared.outputs.LoadFault.LoadFault, declared.events.LoadEventFault.LoadEventFault}
+use Rattle.std.specs.Prelude.{◌≡◌, ◌==◌, ℕ, ◌+◌, List, [], ◌∷◌, length, Bool, true, not, nat_le, if◌then◌else◌, Option}
+use Rattle.std.specs.Prelude.{None, Some, Result, Ok, Err, ⊤}
+use Rattle.{scene_fields.specs.declared.fault.LineFault.TheVariants.BadField, std.specs.Option.is_some}
+use Rattle.{std.specs.Option.option_or, console_reporter.specs.Names.OutputLoadDecider}
+use Rattle.scene_reader.specs.Names.{ChildOutputDescription, end_of, field_of, stream_in_field, PlacedOutput}
+use Rattle.scene_reader.specs.Names.{StoredOutput, StoredStream, StreamField, event_with, SceneEvent, LineFault}
+use Rattle.recorded.specs.{Outputs.bytes_at, Captured.captured_stream_at, Skips.skips}
+use Rattle.recorded.specs.{declared.outputs.LoadFault.LoadFault, declared.events.LoadEventFault.LoadEventFault}
 use Rattle.recorded.specs.declared.outputs.LoadFault.TheVariants.{CannotRead, PastEnd, WrongSum, OutOfMemory}
-use Rattle.scene_fields.specs.declared.stored.{StoredOutput.TheVariants.Split, StoredOutput.TheVariants.Combined, StreamField.TheVariants.First, StreamField.TheVariants.Second}
+use Rattle.scene_fields.specs.declared.stored.{StoredOutput.TheVariants.Split, StoredOutput.TheVariants.Combined}
+use Rattle.scene_fields.specs.declared.stored.{StreamField.TheVariants.First, StreamField.TheVariants.Second}
 use Rattle.scene_fields.specs.declared.stored.StoredStream.TheVariants.{NotCaptured, Empty, At}
 use Rattle.run_model.specs.declared.output.ChildOutputDescription.TheVariants as captured
 use Rattle.scene_events.specs.declared.scene.event.SceneEvent.TheVariants as scene
@@ -65,8 +70,8 @@ abbrev pub unless_bad : Option ℕ → Result SceneEvent LineFault → Result Sc
 unless_bad (Some field) event = Err (BadField field)
 unless_bad None event = event
 
--- The place whose output alone a replay loads: of a test that has finished that of its last attempt, since no report and no record depends on
--- what the attempts before it wrote. Of another event it loads all outputs.
+-- The place whose output alone a replay loads: of a test that has finished that of its last attempt, since no report
+-- and no record depends on what the attempts before it wrote. Of another event it loads all outputs.
 abbrev pub only_place : SceneEvent → Option ℕ
 only_place (scene.TestFinished e) = Some (length e.attempts.earlier)
 only_place other = None
@@ -83,15 +88,18 @@ wanted only (p ∷ ps) = if is_wanted only p then p ∷ wanted only ps else want
 abbrev pub wanted_of : SceneEvent → List PlacedOutput → List PlacedOutput
 wanted_of event stored = wanted (only_place event) stored
 
--- What a replay makes of an event: its outputs must all be there. Where its report shows them, those that it loads are in it, and must be
--- those that were recorded.
-unfoldable pub event_replayed : List ℕ → OutputLoadDecider → List PlacedOutput → SceneEvent → Result SceneEvent LineFault
+-- What a replay makes of an event: its outputs must all be there. Where its report shows them, those that it loads are
+-- in it, and must be those that were recorded.
+unfoldable pub event_replayed : List ℕ → OutputLoadDecider → List PlacedOutput → SceneEvent
+    → Result SceneEvent LineFault
 event_replayed all d stored event =
     unless_bad (first_field_not (is_there all) stored)
-    (if skips d event then Ok event else unless_bad (first_field_not (is_undamaged all) (wanted_of event stored)) (Ok (event_inline all (wanted_of event stored) event)))
+    (if skips d event then Ok event else unless_bad (first_field_not (is_undamaged all) (wanted_of event stored))
+    (Ok (event_inline all (wanted_of event stored) event)))
 
 -- that was made, or is the fault, unless the outputs cannot be read or memory was refused
-abbrev pub IsReplayed : List ℕ → OutputLoadDecider → List PlacedOutput → SceneEvent → Result ⊤ LoadEventFault → SceneEvent → Type 0
+abbrev pub IsReplayed : List ℕ → OutputLoadDecider → List PlacedOutput → SceneEvent → Result ⊤ LoadEventFault
+    → SceneEvent → Type 0
 IsReplayed all d stored old (Ok x) new = event_replayed all d stored old ≡ Ok new
 IsReplayed all d stored old (Err f) new = IfDamaged f.fault (event_replayed all d stored old ≡ Err (BadField f.field))
 

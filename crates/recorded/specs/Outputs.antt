@@ -1,5 +1,6 @@
 -- What is loaded of a file of outputs.
-use Rattle.std.specs.Prelude.{◌≡◌, ℕ, ◌+◌, ◌-◌, ◌^◌, ◌≤◌, ◌<◌, ◌&&◌, ◌⊎◌, min, nat_le, bytes_eq, if◌then◌else◌, List, length, take, drop, Option, None, Some, Result, Ok, Err, ⊤}
+use Rattle.std.specs.Prelude.{◌≡◌, ℕ, ◌+◌, ◌-◌, ◌^◌, ◌≤◌, ◌<◌, ◌&&◌, ◌⊎◌, min, nat_le, bytes_eq, if◌then◌else◌, List}
+use Rattle.std.specs.Prelude.{length, take, drop, Option, None, Some, Result, Ok, Err, ⊤}
 use Rattle.scene_reader.specs.Names.{Reference, end_of, sum_of}
 use Rattle.recorded.specs.declared.outputs.LoadFault.TheVariants.{CannotRead, PastEnd, WrongSum, OutOfMemory}
 use Rattle.recorded.specs.declared.outputs.LoadFault.{LoadFault}
@@ -10,9 +11,11 @@ bytes_at all r = take r.len (drop r.offset all)
 
 -- the stream that a reference names: its bytes, if they are all there and have its sum
 unfoldable pub stream_at : List ℕ → Reference → Option (List ℕ)
-stream_at all r = if nat_le (end_of r) (length all) && bytes_eq (sum_of (bytes_at all r)) r.sum then Some (bytes_at all r) else None
+stream_at all r = if nat_le (end_of r) (length all) && bytes_eq (sum_of (bytes_at all r)) r.sum then Some
+    (bytes_at all r) else None
 
--- what is loaded is the stream that the reference names; what is damaged is none; and memory is only asked for where all bytes are there
+-- what is loaded is the stream that the reference names; what is damaged is none; and memory is only asked for where
+-- all bytes are there
 abbrev pub IsLoaded : List ℕ → Reference → Result (List ℕ) LoadFault → Type 0
 IsLoaded all r (Ok bytes) = stream_at all r ≡ Some bytes
 IsLoaded all r (Err (CannotRead kind)) = ⊤

@@ -1,8 +1,10 @@
 -- A recorded run as lines of a run: as they are replayed, and with every output in its place.
 use Rattle.std.specs.Prelude.{ℕ, ◌+◌, List, [], ◌∷◌, map, true, Result, Ok, Err}
 use Rattle.recorded.specs.Events.{event_inline, event_replayed, needed_of}
-use Rattle.{scenes.specs.Names.Options, scenes.specs.Names.decider_for, scene_reader.specs.declared.reader.ParsedLine.ParsedLine}
-use Rattle.scene_reader.specs.Names.{split_on, LineFault, PlacedOutput, LinesBefore, RecordedLine, RunLine, lines_before, no_lines, recorded_line}
+use Rattle.{scenes.specs.Names.Options, scenes.specs.Names.decider_for}
+use Rattle.{scene_reader.specs.declared.reader.ParsedLine.ParsedLine}
+use Rattle.scene_reader.specs.Names.{split_on, LineFault, PlacedOutput, LinesBefore, RecordedLine, RunLine}
+use Rattle.scene_reader.specs.Names.{lines_before, no_lines, recorded_line}
 use Rattle.scene_reader.specs.declared.reader.ParsedLine.TheVariants.{ConfigLine, EventLine, NoEvent}
 
 -- options that show a recorded run
@@ -20,7 +22,8 @@ ended_lines text = without_last (split_on 10 text)
 
 -- a line as it is replayed: with the outputs that its report shows
 abbrev pub line_replayed : Options → List ℕ → List ℕ → RunLine
-line_replayed options all t = RecordedLine t (λ before stored e. event_replayed all (decider_for options before.config) stored e)
+line_replayed options all t = RecordedLine t
+    (λ before stored e. event_replayed all (decider_for options before.config) stored e)
 
 abbrev pub lines_replayed : Options → List ℕ → List ℕ → List RunLine
 lines_replayed options all text = map (line_replayed options all) (ended_lines text)
@@ -55,7 +58,8 @@ needed_for options before (Err f) = 0
 -- how many the lines behind these need: the lengths of what their report shows. No output is looked at
 unfoldable pub needed : Options → LinesBefore → List (List ℕ) → ℕ
 needed options before [] = 0
-needed options before (t ∷ ts) = needed_for options before (recorded_line before t) + needed options (before_rest before (recorded_line before t)) ts
+needed options before (t ∷ ts) = needed_for options before (recorded_line before t)
+    + needed options (before_rest before (recorded_line before t)) ts
 
 abbrev pub needed_bytes : Options → List ℕ → ℕ
 needed_bytes options text = needed options (lines_before no_lines) (ended_lines text)

@@ -5,7 +5,8 @@ use Rattle.{command_line.specs.declared.args.Options.Options, recorded.specs.Out
 use Rattle.scene_reader.specs.SceneTexts.{ParsedLines, RunLine, lines_before}
 
 -- These lines are left after those before. `total` bytes of outputs are read once these lines are read.
-pub record IsLeft (total : ℕ) (options : Options) (recorded remaining : Option (List ℕ)) (bytes_read : ℕ) (before : ParsedLines) (lines : List RunLine) : Type 0 where
+pub record IsLeft (total : ℕ) (options : Options) (recorded remaining : Option (List ℕ)) (bytes_read : ℕ)
+    (before : ParsedLines) (lines : List RunLine) : Type 0 where
   pub all : List ℕ
   pub text : List ℕ
   pub outputs : recorded ≡ Some all

@@ -1,6 +1,7 @@
 -- A recorded run as the text of a scene, in which every output is spelled out.
 use Rattle.std.specs.Prelude.{ℕ, ◌/◌, ◌%◌, ◌<◌, List, [], ◌∷◌, ◌++◌, map, codes, slice_index, ⊤}
-use Rattle.{std.specs.Option.option_map_or, hex.specs.Hex.lower_digits, recorded.specs.Outputs.bytes_at, recorded.specs.Runs.ended_lines}
+use Rattle.{std.specs.Option.option_map_or, hex.specs.Hex.lower_digits, recorded.specs.Outputs.bytes_at}
+use Rattle.{recorded.specs.Runs.ended_lines}
 use Rattle.scene_reader.specs.Names.{reference_in, split_on}
 
 -- each number is a byte

@@ -1,6 +1,8 @@
 //! The stored outputs of an event, loaded where the report shows them.
 
-ghost use Rattle.recorded.specs.Names.{counted, IsFirstBad, IsReplayed, event_inline, field_not, first_field_not, is_there, is_undamaged, is_wanted, needed_of, only_place, output_inline, output_len};
+ghost use Rattle.recorded.specs.Names.{counted, IsFirstBad, IsReplayed, event_inline, field_not, first_field_not};
+ghost use Rattle.recorded.specs.Names.{is_there, is_undamaged, is_wanted, needed_of, only_place, output_inline};
+ghost use Rattle.recorded.specs.Names.{output_len};
 ghost use Rattle.std.specs.Prelude.{◌≡◌, ◌≤◌, ◌-◌, ◌^◌, IfOk, IfSome, OnOk};
 ghost use Rattle.recorded.specs.Names.{outputs_len, stream_field_not, wanted, skips};
 ghost use Rattle.scene_events.specs.Loads.{event_with};
@@ -51,10 +53,14 @@ pub fn load_outputs<O: ReadAt + Drop>(
     outputs: &mut RecordedOutputs<O>,
     event: &mut SceneEvent,
 ) -> Result<(), LoadEventFault>
-    ensures loaded { IfSome (O.recorded outputs.old.source) (λ all. IsReplayed all decider.now stored.now event.old result event.new) }
+    ensures loaded { IfSome (O.recorded outputs.old.source)
+        (λ all. IsReplayed all decider.now stored.now event.old result event.new) }
     ensures kept { O.recorded outputs.new.source ≡ O.recorded outputs.old.source }
-    ensures count { OnOk result (O.count outputs.new.source ≡ counted (O.count outputs.old.source) (needed_of decider.now event.old stored.now)) }
-    ensures most { O.count outputs.new.source ≤ counted (O.count outputs.old.source) (needed_of decider.now event.old stored.now) }
+    ensures count { OnOk result
+        (O.count outputs.new.source
+        ≡ counted (O.count outputs.old.source) (needed_of decider.now event.old stored.now)) }
+    ensures most { O.count outputs.new.source
+        ≤ counted (O.count outputs.old.source) (needed_of decider.now event.old stored.now) }
 {
     let _count = outputs.bytes_read(); // it is a `u64`, which a proof learns by reading it
     check_all_there(stored, outputs)?;
@@ -65,7 +71,8 @@ pub fn load_outputs<O: ReadAt + Drop>(
     load_wanted(alloc, stored, only, outputs, event)
 }
 
-// The place whose output alone is loaded: of a test that has finished that of its last attempt. Of another event all are loaded.
+// The place whose output alone is loaded: of a test that has finished that of its last attempt. Of another event all
+// are loaded.
 fn only_place(event: &SceneEvent) -> Option<usize>
     ensures { result ≡ only_place event.now }
 {
@@ -75,7 +82,8 @@ fn only_place(event: &SceneEvent) -> Option<usize>
     }
 }
 
-// Whether the decider skips the outputs of an event, from its metadata. It is not asked about others, such as the response of a unit.
+// Whether the decider skips the outputs of an event, from its metadata. It is not asked about others, such as the
+// response of a unit.
 #[tactic(auto, using(crate::proofs::lemmas::Skips::loads_by_last))]
 fn skips(decider: &OutputLoadDecider, event: &SceneEvent) -> bool
     ensures { result ≡ skips decider.now event.now }
@@ -107,7 +115,8 @@ fn check_all_there<O: ReadAt + Drop>(
     stored: &[PlacedOutput],
     outputs: &mut RecordedOutputs<O>,
 ) -> Result<(), LoadEventFault>
-    ensures there { IfSome (O.recorded outputs.old.source) (λ all. IsFirstBad (first_field_not (is_there all) stored.now) result) }
+    ensures there { IfSome (O.recorded outputs.old.source)
+        (λ all. IsFirstBad (first_field_not (is_there all) stored.now) result) }
     ensures kept { O.recorded outputs.new.source ≡ O.recorded outputs.old.source }
     ensures count { O.count outputs.new.source ≡ O.count outputs.old.source }
 {
@@ -122,7 +131,8 @@ fn check_output_there<O: ReadAt + Drop>(
     placed: &PlacedOutput,
     outputs: &mut RecordedOutputs<O>,
 ) -> Result<(), LoadEventFault>
-    ensures there { IfSome (O.recorded outputs.old.source) (λ all. IsFirstBad (field_not (is_there all) placed.now) result) }
+    ensures there { IfSome (O.recorded outputs.old.source)
+        (λ all. IsFirstBad (field_not (is_there all) placed.now) result) }
     ensures kept { O.recorded outputs.new.source ≡ O.recorded outputs.old.source }
     ensures count { O.count outputs.new.source ≡ O.count outputs.old.source }
 {
@@ -136,7 +146,8 @@ fn check_stream_there<O: ReadAt + Drop>(
     stream: StreamField,
     outputs: &mut RecordedOutputs<O>,
 ) -> Result<(), LoadEventFault>
-    ensures there { IfSome (O.recorded outputs.old.source) (λ all. IsFirstBad (stream_field_not (is_there all) placed.now stream) result) }
+    ensures there { IfSome (O.recorded outputs.old.source)
+        (λ all. IsFirstBad (stream_field_not (is_there all) placed.now stream) result) }
     ensures kept { O.recorded outputs.new.source ≡ O.recorded outputs.old.source }
     ensures count { O.count outputs.new.source ≡ O.count outputs.old.source }
 {
@@ -173,11 +184,15 @@ fn load_wanted<O: ReadAt + Drop>(
     event: &mut SceneEvent,
 ) -> Result<(), LoadEventFault>
     requires { O.count outputs.old.source ≤ 2 ^ 64 - 1 }
-    ensures undamaged { IfSome (O.recorded outputs.old.source) (λ all. IsFirstBad (first_field_not (is_undamaged all) (wanted only stored.now)) result) }
-    ensures loaded { IfSome (O.recorded outputs.old.source) (λ all. OnOk result (event.new ≡ event_inline all (wanted only stored.now) event.old)) }
+    ensures undamaged { IfSome (O.recorded outputs.old.source)
+        (λ all. IsFirstBad (first_field_not (is_undamaged all) (wanted only stored.now)) result) }
+    ensures loaded { IfSome (O.recorded outputs.old.source)
+        (λ all. OnOk result (event.new ≡ event_inline all (wanted only stored.now) event.old)) }
     ensures kept { O.recorded outputs.new.source ≡ O.recorded outputs.old.source }
-    ensures count { OnOk result (O.count outputs.new.source ≡ counted (O.count outputs.old.source) (outputs_len (wanted only stored.now))) }
-    ensures most { O.count outputs.new.source ≤ counted (O.count outputs.old.source) (outputs_len (wanted only stored.now)) }
+    ensures count { OnOk result
+        (O.count outputs.new.source ≡ counted (O.count outputs.old.source) (outputs_len (wanted only stored.now))) }
+    ensures most { O.count outputs.new.source
+        ≤ counted (O.count outputs.old.source) (outputs_len (wanted only stored.now)) }
 {
     for placed in stored {
         if is_wanted(only, placed) {
@@ -205,10 +220,13 @@ fn load_placed<O: ReadAt + Drop>(
     event: &mut SceneEvent,
 ) -> Result<(), LoadEventFault>
     requires { O.count outputs.old.source ≤ 2 ^ 64 - 1 }
-    ensures undamaged { IfSome (O.recorded outputs.old.source) (λ all. IsFirstBad (field_not (is_undamaged all) placed.now) result) }
-    ensures loaded { IfSome (O.recorded outputs.old.source) (λ all. OnOk result (event.new ≡ event_with placed.now.place (output_inline all placed.now.output) event.old)) }
+    ensures undamaged { IfSome (O.recorded outputs.old.source)
+        (λ all. IsFirstBad (field_not (is_undamaged all) placed.now) result) }
+    ensures loaded { IfSome (O.recorded outputs.old.source)
+        (λ all. OnOk result (event.new ≡ event_with placed.now.place (output_inline all placed.now.output) event.old)) }
     ensures kept { O.recorded outputs.new.source ≡ O.recorded outputs.old.source }
-    ensures count { OnOk result (O.count outputs.new.source ≡ counted (O.count outputs.old.source) (output_len placed.now.output)) }
+    ensures count { OnOk result
+        (O.count outputs.new.source ≡ counted (O.count outputs.old.source) (output_len placed.now.output)) }
     ensures most { O.count outputs.new.source ≤ counted (O.count outputs.old.source) (output_len placed.now.output) }
 {
     match outputs.load_output(alloc, &placed.output) {

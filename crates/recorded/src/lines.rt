@@ -1,8 +1,10 @@
 //! The lines of a recorded run. One is read at a time, with the outputs that its report shows.
 
 ghost use Rattle.std.specs.Prelude.{◌≡◌, ℕ, List, [], ◌∷◌, Some, IfErr, IfOk, Ok, OnOk};
-ghost use Rattle.{std.specs.Io.Buffered.reader_buffer, std.specs.Io.Buffered.reader_remaining, scenes.specs.Names.IsJudgeFault, scenes.specs.Names.IsUnread};
-ghost use Rattle.recorded.specs.Names.{CountsLine, CountsMore, IsFaultOfLoad, IsLineFault, IsNextLine, LeavesLine, TakesOf, line_replayed, needed_by, value_replayed};
+ghost use Rattle.{std.specs.Io.Buffered.reader_buffer, std.specs.Io.Buffered.reader_remaining};
+ghost use Rattle.{scenes.specs.Names.IsJudgeFault, scenes.specs.Names.IsUnread};
+ghost use Rattle.recorded.specs.Names.{CountsLine, CountsMore, IsFaultOfLoad, IsLineFault, IsNextLine, LeavesLine};
+ghost use Rattle.recorded.specs.Names.{TakesOf, line_replayed, needed_by, value_replayed};
 ghost use Rattle.scene_reader.specs.Names.{ReadsLines, before_next};
 
 use super::events::{LoadEventFault, load_outputs};
@@ -17,14 +19,16 @@ use scenes::reporter::decider_of;
 use std::alloc::Global;
 use std::io::{BufRead, BufReader, ErrorKind, Read};
 
-/// Reads the next line into the buffer, without the line feed that ends it. It returns whether there is one: what follows the last line
-/// feed is none.
+/// Reads the next line into the buffer, without the line feed that ends it. It returns whether there is one: what
+/// follows the last line feed is none.
 pub(crate) fn next_line<'a, R: Read>(
     file: &'a str,
     reader: &mut BufReader<R>,
     line: &mut Vec<u8>,
 ) -> Result<bool, Fault<'a>>
-    ensures line { IfOk result (λ is_whole. (text : List ℕ) → reader_remaining R.remaining reader.old ≡ Some text → IsNextLine text is_whole line.new.items (reader_remaining R.remaining reader.new)) }
+    ensures line { IfOk result
+        (λ is_whole. (text : List ℕ) → reader_remaining R.remaining reader.old ≡ Some text
+        → IsNextLine text is_whole line.new.items (reader_remaining R.remaining reader.new)) }
     ensures err { IfErr result (IsUnread file.now) }
 {
     line.clear();
@@ -60,7 +64,10 @@ fn take_at_hand<R: Read>(
     reader: &mut BufReader<R>,
     line: &mut Vec<u8>,
 ) -> Result<Taken, OutOfMemory>
-    ensures { IfOk result (λ taken. (text : List ℕ) → reader_remaining R.remaining reader.old ≡ Some text → TakesOf taken (reader_buffer reader.old) text line.old.items line.new.items (reader_remaining R.remaining reader.new)) }
+    ensures { IfOk result
+        (λ taken. (text : List ℕ) → reader_remaining R.remaining reader.old ≡ Some text
+        → TakesOf taken (reader_buffer reader.old) text line.old.items line.new.items (reader_remaining
+        R.remaining reader.new)) }
 {
     let at_hand = reader.buffer();
     match memchr(b'\n', at_hand) {
@@ -79,8 +86,8 @@ fn take_at_hand<R: Read>(
     }
 }
 
-/// Reads a line behind those that were read, with the outputs that its report shows. Nothing of a line that is wrong is added, so its event
-/// is not reported.
+/// Reads a line behind those that were read, with the outputs that its report shows. Nothing of a line that is wrong is
+/// added, so its event is not reported.
 pub(crate) fn read_line<'a, O: ReadAt + Drop>(
     alloc: Global,
     file: &'a str,
@@ -89,11 +96,16 @@ pub(crate) fn read_line<'a, O: ReadAt + Drop>(
     outputs: &mut RecordedOutputs<O>,
     read: &mut LinesRead,
 ) -> Result<(), Fault<'a>>
-    ensures read { OnOk result ((all : List ℕ) → O.recorded outputs.old.source ≡ Some all → ReadsLines read.old read.new (line_replayed options.now all line.now ∷ [])) }
-    ensures left { IfErr result (λ fault. (all : List ℕ) → O.recorded outputs.old.source ≡ Some all → LeavesLine file.now read.old read.new (line_replayed options.now all line.now) fault) }
+    ensures read { OnOk result
+        ((all : List ℕ) → O.recorded outputs.old.source ≡ Some all
+        → ReadsLines read.old read.new (line_replayed options.now all line.now ∷ [])) }
+    ensures left { IfErr result
+        (λ fault. (all : List ℕ) → O.recorded outputs.old.source ≡ Some all
+        → LeavesLine file.now read.old read.new (line_replayed options.now all line.now) fault) }
     ensures fault { IfErr result (IsJudgeFault file.now) }
     ensures kept { O.recorded outputs.new.source ≡ O.recorded outputs.old.source }
-    ensures count { OnOk result (CountsLine options.now read.old line.now (O.count outputs.old.source) (O.count outputs.new.source)) }
+    ensures count { OnOk result
+        (CountsLine options.now read.old line.now (O.count outputs.old.source) (O.count outputs.new.source)) }
 {
     let mut value = read.read_recorded(alloc, line)?;
     load_shown(alloc, file, options, read, outputs, &mut value)?;
@@ -110,11 +122,17 @@ fn load_shown<'a, O: ReadAt + Drop>(
     outputs: &mut RecordedOutputs<O>,
     value: &mut ParsedLine,
 ) -> Result<(), Fault<'a>>
-    ensures loaded { OnOk result ((all : List ℕ) → O.recorded outputs.old.source ≡ Some all → value_replayed options.now all read.now value.old ≡ Ok value.new) }
-    ensures left { IfErr result (λ fault. (all : List ℕ) → O.recorded outputs.old.source ≡ Some all → IsLineFault file.now read.now (value_replayed options.now all read.now value.old) fault) }
+    ensures loaded { OnOk result
+        ((all : List ℕ) → O.recorded outputs.old.source ≡ Some all
+        → value_replayed options.now all read.now value.old ≡ Ok value.new) }
+    ensures left { IfErr result
+        (λ fault. (all : List ℕ) → O.recorded outputs.old.source ≡ Some all
+        → IsLineFault file.now read.now (value_replayed options.now all read.now value.old) fault) }
     ensures fault { IfErr result (IsJudgeFault file.now) }
     ensures kept { O.recorded outputs.new.source ≡ O.recorded outputs.old.source }
-    ensures count { OnOk result (CountsMore (needed_by options.now (before_next read.now) read.now.stored.items value.old) (O.count outputs.old.source) (O.count outputs.new.source)) }
+    ensures count { OnOk result
+        (CountsMore (needed_by options.now (before_next read.now) read.now.stored.items value.old)
+        (O.count outputs.old.source) (O.count outputs.new.source)) }
 {
     let ParsedLine::EventLine(event) = value else {
         return Ok(());

@@ -1,9 +1,10 @@
-//! The outputs of a recorded run. A stream is loaded by its reference, and an output by what is stored of it: none but their bytes are read,
-//! which are never spelled as text.
+//! The outputs of a recorded run. A stream is loaded by its reference, and an output by what is stored of it: none but
+//! their bytes are read, which are never spelled as text.
 
 ghost use Rattle.std.specs.Prelude.{◌≡◌, ◌≤◌, ◌↔◌, IsTrue, IfOk, IfSome, OnOk, if◌then◌else◌, is_ok, length, vec_len};
 ghost use Rattle.{std.specs.Option.ForSome, scene_fields.specs.References.end_of};
-ghost use Rattle.recorded.specs.Names.{IsCaptured, IsCapturedStream, IsCountedOf, IsCountedOfStream, HasSum, IsCounted, IsLoaded, counted, HasRead};
+ghost use Rattle.recorded.specs.Names.{IsCaptured, IsCapturedStream, IsCountedOf, IsCountedOfStream, HasSum, IsCounted};
+ghost use Rattle.recorded.specs.Names.{IsLoaded, counted, HasRead};
 
 use super::read_at::ReadAt;
 use bytes::Bytes;
@@ -102,7 +103,8 @@ impl<O: ReadAt + Drop> RecordedOutputs<O> {
     ///
     /// The error of the request for the length.
     pub fn holds(&mut self, reference: &Reference) -> io::Result<bool>
-        ensures holds { IfSome (O.recorded self.old.source) (λ all. IfOk result (λ holds. IsTrue holds ↔ (end_of reference.now ≤ length all))) }
+        ensures holds { IfSome (O.recorded self.old.source)
+            (λ all. IfOk result (λ holds. IsTrue holds ↔ (end_of reference.now ≤ length all))) }
         ensures kept { O.recorded self.new.source ≡ O.recorded self.old.source }
         ensures count { O.count self.new.source ≡ O.count self.old.source }
     {
@@ -151,7 +153,9 @@ impl<O: ReadAt + Drop> RecordedOutputs<O> {
         ensures read { OnOk result (IfSome (O.recorded self.old.source) (HasRead offset bytes.new.items)) }
         ensures len { OnOk result (vec_len bytes.new ≡ vec_len bytes.old) }
         ensures kept { O.recorded self.new.source ≡ O.recorded self.old.source }
-        ensures count { O.count self.new.source ≡ (if is_ok result then counted (O.count self.old.source) (vec_len bytes.old) else O.count self.old.source) }
+        ensures count { O.count self.new.source
+            ≡ (if is_ok result then counted (O.count self.old.source) (vec_len bytes.old) else O.count
+            self.old.source) }
     {
         self.source.read_at(offset, bytes.as_mut_slice())
     }

@@ -1,9 +1,10 @@
 //! Bytes that are read at their position, and a meter that counts them.
 //!
-//! The kit's `Read` and `Seek` do not say that what is read after a seek is at the position that was sought; [`Source`] says so. What is read
-//! through [`ReadAt`] is counted as well: [`Metered`] is the meter, and wraps any source.
+//! The kit's `Read` and `Seek` do not say that what is read after a seek is at the position that was sought; [`Source`]
+//! says so. What is read through [`ReadAt`] is counted as well: [`Metered`] is the meter, and wraps any source.
 
-ghost use Rattle.std.specs.Prelude.{◌≡◌, ℕ, List, Option, None, Some, IfOk, IfSome, OnOk, ⊤, if◌then◌else◌, is_ok, length};
+ghost use Rattle.std.specs.Prelude.{◌≡◌, ℕ, List, Option, None, Some, IfOk, IfSome, OnOk, ⊤, if◌then◌else◌, is_ok};
+ghost use Rattle.std.specs.Prelude.{length};
 ghost use Rattle.{std.specs.Io.Cursor.cursor_inner, recorded.specs.Names.counted, recorded.specs.Names.HasRead};
 
 use std::fs::File;
@@ -129,7 +130,8 @@ pub trait ReadAt {
         ensures once { read_once offset (length buffer.old) self.old self.new }
         ensures kept { recorded self.new ≡ recorded self.old }
         ensures read { OnOk result (IfSome (recorded self.old) (HasRead offset buffer.new)) }
-        ensures count { count self.new ≡ (if is_ok result then counted (count self.old) (length buffer.old) else count self.old) };
+        ensures count { count self.new
+            ≡ (if is_ok result then counted (count self.old) (length buffer.old) else count self.old) };
 
     /// How many bytes were read. The count saturates at `u64::MAX`.
     fn bytes_read(&self) -> u64

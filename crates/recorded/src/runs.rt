@@ -2,7 +2,8 @@
 
 ghost use Rattle.std.specs.Prelude.{◌≡◌, ℕ, List, None, Some, IfErr, IfOk};
 ghost use Rattle.std.specs.Io.Buffered.{reader_remaining};
-ghost use Rattle.recorded.specs.Names.{counted, lines_inline, lines_replayed, needed_bytes, replayed, IsLeft, AreBytes, scene_spelled};
+ghost use Rattle.recorded.specs.Names.{counted, lines_inline, lines_replayed, needed_bytes, replayed, IsLeft, AreBytes};
+ghost use Rattle.recorded.specs.Names.{scene_spelled};
 ghost use Rattle.scenes.specs.Names.{StopsBy, OfLines, OfText, Begins, Prints, PrintsFollowed, device};
 
 use super::lines::{next_line, read_line};
@@ -103,16 +104,28 @@ impl<'a, R: Read + Drop, O: ReadAt + Drop> RecordedRun<'a, R, O> {
         writer: W,
         store_writer: S,
     ) -> (Result<RunOutcome, Fault<'a>>, W, S)
-        ensures ok { (text all : List ℕ) → reader_remaining R.remaining self.old.reader ≡ Some text → O.recorded self.old.outputs.source ≡ Some all → IfOk result.0 (λ come_to.
-            OfLines (lines_inline all text) (PrintsFollowed device device self.old.options (W.contents writer, S.contents store_writer) (W.contents result.1, S.contents result.2) come_to)) }
+        ensures ok { (text all : List ℕ) → reader_remaining R.remaining self.old.reader ≡ Some text
+            → O.recorded self.old.outputs.source ≡ Some all
+            → IfOk result.0 (λ come_to. OfLines (lines_inline all text)
+            (PrintsFollowed device device self.old.options (W.contents writer, S.contents store_writer)
+            (W.contents result.1, S.contents result.2) come_to)) }
         // What a proof knows of the outputs are numbers, and those of all outputs are bytes.
-        ensures spelled { (text all : List ℕ) → reader_remaining R.remaining self.old.reader ≡ Some text → O.recorded self.old.outputs.source ≡ Some all → AreBytes all → IfOk result.0 (λ come_to.
-            OfText (scene_spelled all text) (PrintsFollowed device device self.old.options (W.contents writer, S.contents store_writer) (W.contents result.1, S.contents result.2) come_to)) }
-        ensures err { (text all : List ℕ) → reader_remaining R.remaining self.old.reader ≡ Some text → O.recorded self.old.outputs.source ≡ Some all → IfErr result.0 (StopsBy self.old.options (lines_replayed self.old.options all text)
-            (Prints device device self.old.options (W.contents writer, S.contents store_writer) (W.contents result.1, S.contents result.2))
-            (Begins device device self.old.options (W.contents writer, S.contents store_writer) (W.contents result.1, S.contents result.2))) }
-        ensures reads { (text all : List ℕ) → reader_remaining R.remaining self.old.reader ≡ Some text → O.recorded self.old.outputs.source ≡ Some all → IfOk result.0 (λ _.
-            O.count self.new.outputs.source ≡ counted (O.count self.old.outputs.source) (needed_bytes self.old.options text)) }
+        ensures spelled { (text all : List ℕ) → reader_remaining R.remaining self.old.reader ≡ Some text
+            → O.recorded self.old.outputs.source ≡ Some all → AreBytes all
+            → IfOk result.0 (λ come_to. OfText (scene_spelled all text)
+            (PrintsFollowed device device self.old.options (W.contents writer, S.contents store_writer)
+            (W.contents result.1, S.contents result.2) come_to)) }
+        ensures err { (text all : List ℕ) → reader_remaining R.remaining self.old.reader ≡ Some text
+            → O.recorded self.old.outputs.source ≡ Some all
+            → IfErr result.0 (StopsBy self.old.options (lines_replayed self.old.options all text)
+            (Prints device device self.old.options (W.contents writer, S.contents store_writer)
+            (W.contents result.1, S.contents result.2))
+            (Begins device device self.old.options (W.contents writer, S.contents store_writer)
+            (W.contents result.1, S.contents result.2))) }
+        ensures reads { (text all : List ℕ) → reader_remaining R.remaining self.old.reader ≡ Some text
+            → O.recorded self.old.outputs.source ≡ Some all
+            → IfOk result.0 (λ _. O.count self.new.outputs.source
+            ≡ counted (O.count self.old.outputs.source) (needed_bytes self.old.options text)) }
         ensures no_store { self.old.options.store ≡ None → result.2 ≡ store_writer }
     {
         let options = self.options;
@@ -123,7 +136,8 @@ impl<'a, R: Read + Drop, O: ReadAt + Drop> RecordedRun<'a, R, O> {
 }
 
 impl<'o, R: Read, O: ReadAt + Drop> RunSource for RecordedRun<'o, R, O> {
-    ghost left = { λ total run. IsLeft total run.options (O.recorded run.outputs.source) (reader_remaining R.remaining run.reader) (O.count run.outputs.source) };
+    ghost left = { λ total run. IsLeft total run.options (O.recorded run.outputs.source)
+        (reader_remaining R.remaining run.reader) (O.count run.outputs.source) };
 
     fn read_next<'a>(
         &mut self,
@@ -147,7 +161,8 @@ impl<'o, R: Read, O: ReadAt + Drop> RunSource for RecordedRun<'o, R, O> {
         }
     }
 
-    // Where the next line is buffered already. It stops after a line with outputs, so that those of one line at most are held.
+    // Where the next line is buffered already. It stops after a line with outputs, so that those of one line at most
+    // are held.
     fn reads_on(&self) -> bool {
         !self.has_loaded && memchr(b'\n', self.reader.buffer()).is_some()
     }

@@ -1,8 +1,11 @@
 -- The outcomes of `norigully_report`.
-use Rattle.std.specs.Prelude.{◌≡◌, ◌==◌, ℕ, ◌<◌, ◌≤◌, if◌then◌else◌, List, [], ◌++◌, length, drop, Option, None, Some, Err, false, ⊤}
+use Rattle.std.specs.Prelude.{◌≡◌, ◌==◌, ℕ, ◌<◌, ◌≤◌, if◌then◌else◌, List, [], ◌++◌, length, drop, Option, None, Some}
+use Rattle.std.specs.Prelude.{Err, false, ⊤}
 use Rattle.run_names.specs.declared.level.StatusLevel.{StatusLevel}
 use Rattle.run_names.specs.declared.level.StatusLevel.TheVariants as level
-use Rattle.{scene_fields.specs.declared.fault.LineFault.LineFault, scene_fields.specs.declared.fault.ReadFault.ReadFault, report_c.specs.declared.NorigullyOptions.NorigullyOptions}
+use Rattle.{scene_fields.specs.declared.fault.LineFault.LineFault}
+use Rattle.{scene_fields.specs.declared.fault.ReadFault.ReadFault}
+use Rattle.{report_c.specs.declared.NorigullyOptions.NorigullyOptions}
 use Rattle.scene_fields.specs.declared.fault.ReadFault.TheVariants as read
 use Rattle.scenes.specs.Names.{IsJudged, OfText, Prints, device, Fault, Options}
 use Rattle.command_line.specs.declared.fault.Fault.TheVariants as fault

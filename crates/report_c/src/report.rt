@@ -56,7 +56,8 @@ fn read_level(number: u32) -> Option<StatusLevel>
 ///
 /// The first line that is wrong or whose event is refused, or `OutOfMemory`.
 pub fn report_of(alloc: Global, options: &Options<'_>, text: &[u8]) -> Result<Vec<u8>, ReadFault>
-    ensures report { IfOk result (λ report. OfText text.now (Prints device device options.now (Some [], None) (Some report.items, None))) }
+    ensures report { IfOk result
+        (λ report. OfText text.now (Prints device device options.now (Some [], None) (Some report.items, None))) }
     ensures fault { IfErr result (IsUnreported options.now text.now) }
 {
     let (outcome, report, _unstored) = report_scene(

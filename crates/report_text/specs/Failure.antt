@@ -1,7 +1,9 @@
 -- How a process ended, as text.
-use Rattle.std.specs.Prelude.{ℕ, zero, suc, ◌+◌, ◌/◌, ◌%◌, ℤ, [], ◌∷◌, ◌++◌, Option, None, Some, nat_lt, if◌then◌else◌, codes}
+use Rattle.std.specs.Prelude.{ℕ, zero, suc, ◌+◌, ◌/◌, ◌%◌, ℤ, [], ◌∷◌, ◌++◌, Option, None, Some, nat_lt, if◌then◌else◌}
+use Rattle.std.specs.Prelude.{codes}
 use Rattle.styled_text.specs.Names.{signed_decimal, cast_unsigned, w32, Text, plain}
-use Rattle.{run_names.specs.declared.abort.AbortDescription.AbortDescription, report_text.specs.declared.helpers.failure.ExitDescription.ExitDescription}
+use Rattle.{run_names.specs.declared.abort.AbortDescription.AbortDescription}
+use Rattle.{report_text.specs.declared.helpers.failure.ExitDescription.ExitDescription}
 use Rattle.run_names.specs.declared.abort.AbortDescription.TheVariants.{UnixSignal, WindowsNtStatus, WindowsJobObject}
 use Rattle.report_text.specs.declared.helpers.failure.ExitDescription.TheVariants as ended
 

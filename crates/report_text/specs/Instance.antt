@@ -1,15 +1,20 @@
 -- Names, iterations and counters as a report shows them.
 use Rattle.std.specs.Prelude.{◌≢◌, ℕ, ◌+◌, List, [], ◌∷◌, ◌++◌, false, Option, None, Some, length, codes, encode_utf8}
-use Rattle.styled_text.specs.Names.{decimal, NonZeroU32, non_zero_u32_get, repeat, Text, right_in, HasNoEscape, shrunk_parts, plain, styled}
+use Rattle.styled_text.specs.Names.{decimal, NonZeroU32, non_zero_u32_get, repeat, Text, right_in, HasNoEscape}
+use Rattle.styled_text.specs.Names.{shrunk_parts, plain, styled}
 use Rattle.report_words.specs.Names.{Style, ListStyles, Parts, Open, drawn_given}
-use Rattle.{run_names.specs.Names.module_path_of, run_names.specs.Names.last_name_of, run_names.specs.declared.name.TestInstanceId.TestInstanceId, run_names.specs.declared.stress.StressIndex.StressIndex}
+use Rattle.{run_names.specs.Names.module_path_of, run_names.specs.Names.last_name_of}
+use Rattle.{run_names.specs.declared.name.TestInstanceId.TestInstanceId}
+use Rattle.{run_names.specs.declared.stress.StressIndex.StressIndex}
 use Rattle.styled_text.specs.declared.style.Style.TheVariants as style
-use Rattle.report_text.specs.declared.helpers.instance.DisplayCounterIndex.{DisplayCounterIndex, TheVariants.Counter, TheVariants.Padded}
+use Rattle.report_text.specs.declared.helpers.instance.DisplayCounterIndex.{DisplayCounterIndex, TheVariants.Counter}
+use Rattle.report_text.specs.declared.helpers.instance.DisplayCounterIndex.{TheVariants.Padded}
 
 -- a name with its module path and its last part
 abbrev pub name_text : ListStyles → Option Text → Text → Text
 name_text s None last = styled s.test_name last
-name_text s (Some path) last = styled s.module_path path ++ (styled s.module_path (codes "::") ++ styled s.test_name last)
+name_text s (Some path) last = styled s.module_path path
+    ++ (styled s.module_path (codes "::") ++ styled s.test_name last)
 
 -- a test's name
 unfoldable pub test_name_text : ListStyles → Text → Text
@@ -19,7 +24,8 @@ test_name_text s name = name_text s (module_path_of name) (last_name_of name)
 abbrev pub numbered_iteration : Style → ℕ → Option NonZeroU32 → Text
 numbered_iteration s number None = styled s (decimal number)
 numbered_iteration s number (Some total) =
-    styled s (right_in (length (decimal (non_zero_u32_get total))) (decimal number)) ++ (plain (codes "/") ++ styled s (decimal (non_zero_u32_get total)))
+    styled s (right_in (length (decimal (non_zero_u32_get total))) (decimal number))
+    ++ (plain (codes "/") ++ styled s (decimal (non_zero_u32_get total)))
 
 -- an iteration of a stress run
 unfoldable pub stress_text : Style → StressIndex → Text
@@ -33,9 +39,13 @@ stress_prefix s (Some i) = plain (codes "[") ++ (stress_text s i ++ plain (codes
 -- a number right in the width of its total, or one character for each column of that
 unfoldable pub counter_text : DisplayCounterIndex → Text
 counter_text (Counter current total) =
-    plain (codes "(") ++ (styled style.Plain (right_in (length (decimal total)) (decimal current)) ++ (plain (codes "/") ++ (plain (decimal total) ++ plain (codes ")"))))
+    plain (codes "(")
+    ++ (styled style.Plain (right_in (length (decimal total)) (decimal current))
+    ++ (plain (codes "/") ++ (plain (decimal total) ++ plain (codes ")"))))
 counter_text (Padded character width) =
-    plain (codes "(") ++ (repeat width (encode_utf8 character) ++ (repeat width (encode_utf8 character) ++ (encode_utf8 character ++ plain (codes ")"))))
+    plain (codes "(")
+    ++ (repeat width (encode_utf8 character)
+    ++ (repeat width (encode_utf8 character) ++ (encode_utf8 character ++ plain (codes ")"))))
 
 -- the counter and a space, if there is one
 unfoldable pub counter_prefix : Option DisplayCounterIndex → Text
@@ -49,22 +59,26 @@ id_prefix s id = styled s id ++ plain (codes " ")
 -- a test: its iteration, its counter, its binary's id with a space and its name
 unfoldable pub test_text : ListStyles → Option StressIndex → Option DisplayCounterIndex → Text → Text → Text
 test_text s stress counter binary_id name =
-    stress_prefix s.count stress ++ (counter_prefix counter ++ (id_prefix s.binary_id binary_id ++ test_name_text s name))
+    stress_prefix s.count stress
+    ++ (counter_prefix counter ++ (id_prefix s.binary_id binary_id ++ test_name_text s name))
 
 -- the parts before its name
 abbrev pub front_parts : ListStyles → Option StressIndex → Option DisplayCounterIndex → Text → List Text
-front_parts s stress counter binary_id = stress_prefix s.count stress ∷ counter_prefix counter ∷ id_prefix s.binary_id binary_id ∷ []
+front_parts s stress counter binary_id = stress_prefix s.count stress ∷ counter_prefix counter
+    ∷ id_prefix s.binary_id binary_id ∷ []
 
 -- a test, cut to a greatest width if there is one: each part gets the columns that the parts before it have left
 abbrev pub shown_text : Option ℕ → ListStyles → Option StressIndex → Option DisplayCounterIndex → Text → Text → Text
 shown_text None s stress counter binary_id name = test_text s stress counter binary_id name
-shown_text (Some width) s stress counter binary_id name = shrunk_parts (front_parts s stress counter binary_id) (test_name_text s name) width
+shown_text (Some width) s stress counter binary_id name = shrunk_parts (front_parts s stress counter binary_id)
+    (test_name_text s name) width
 
 -- a test with borrowed names
 abbrev pub instance_text : ListStyles → Option StressIndex → Option DisplayCounterIndex → TestInstanceId → Text
 instance_text s stress counter i = test_text s stress counter i.binary_id.now i.test_name.now
 
-abbrev pub shown_instance : Option ℕ → ListStyles → Option StressIndex → Option DisplayCounterIndex → TestInstanceId → Text
+abbrev pub shown_instance : Option ℕ → ListStyles → Option StressIndex → Option DisplayCounterIndex → TestInstanceId
+    → Text
 shown_instance width s stress counter i = shown_text width s stress counter i.binary_id.now i.test_name.now
 
 -- no escape character is in the counter's character, the binary's id and the name

@@ -1,7 +1,7 @@
 //! Words, numbers, durations and names as a report shows them: the modules of this crate and of `report_words`.
 //!
-//! Each type with a text has `write_to`, which allocates nothing and has one clause: the text that was written, or a prefix of
-//! it after a fault. Its `Display` shows the same text.
+//! Each type with a text has `write_to`, which allocates nothing and has one clause: the text that was written, or a
+//! prefix of it after a fault. Its `Display` shows the same text.
 //!
 //! ```
 //! let counter = Some(DisplayCounterIndex::new_counter(1, 2));

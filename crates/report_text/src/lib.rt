@@ -2,8 +2,8 @@
 //! ended. Words that need none of these, as plurals and durations, are in the crate `report_words`; captured output
 //! is in `unit_report`.
 //!
-//! Each function that writes takes a [`writers::write_str::WriteStr`] and has one clause: what was written, or a prefix of
-//! it after a fault. No function here allocates while it writes.
+//! Each function that writes takes a [`writers::write_str::WriteStr`] and has one clause: what was written, or a prefix
+//! of it after a fault. No function here allocates while it writes.
 #![tactic(auto)]
 
 pub mod helpers;

@@ -1,8 +1,11 @@
 -- Durations as text. Each is a number of nanoseconds.
-use Rattle.std.specs.Prelude.{ℕ, ◌+◌, ◌/◌, ◌%◌, List, [], ◌∷◌, ◌++◌, Option, None, Some, nat_le, nat_lt, if◌then◌else◌, codes}
+use Rattle.std.specs.Prelude.{ℕ, ◌+◌, ◌/◌, ◌%◌, List, [], ◌∷◌, ◌++◌, Option, None, Some, nat_le, nat_lt, if◌then◌else◌}
+use Rattle.std.specs.Prelude.{codes}
 use Rattle.styled_text.specs.Names.{decimal, Text, last_digits, seconds}
-use Rattle.report_words.specs.declared.durations.{DurationRounding.DurationRounding, DurationRounding.TheVariants.Floor, DurationRounding.TheVariants.Ceiling, TimeUnit.TimeUnit}
-use Rattle.report_words.specs.declared.durations.TimeUnit.TheVariants.{Year, Month, Day, Hour, Minute, Second, Millisecond, Microsecond, Nanosecond}
+use Rattle.report_words.specs.declared.durations.{DurationRounding.DurationRounding, DurationRounding.TheVariants.Floor}
+use Rattle.report_words.specs.declared.durations.{DurationRounding.TheVariants.Ceiling, TimeUnit.TimeUnit}
+use Rattle.report_words.specs.declared.durations.TimeUnit.TheVariants.{Year, Month, Day, Hour, Minute, Second}
+use Rattle.report_words.specs.declared.durations.TimeUnit.TheVariants.{Millisecond, Microsecond, Nanosecond}
 
 -- seconds with two decimals, and above one minute the minutes before them
 unfoldable pub duration_text : ℕ → Text
@@ -22,7 +25,9 @@ leading_zero n = if nat_lt n 10 then codes "0" else []
 -- hours, minutes and seconds, each in at least two digits
 unfoldable pub clock_text : ℕ → Text
 clock_text s =
-    leading_zero (s / 60 / 60) ++ (decimal (s / 60 / 60) ++ (codes ":" ++ (last_digits 2 (s / 60 % 60) ++ (codes ":" ++ last_digits 2 (s % 60)))))
+    leading_zero (s / 60 / 60)
+    ++ (decimal (s / 60 / 60)
+    ++ (codes ":" ++ (last_digits 2 (s / 60 % 60) ++ (codes ":" ++ last_digits 2 (s % 60)))))
 
 -- the nanoseconds of a unit: the year has 365.25 days, the month 30.44
 abbrev pub unit_nanos : TimeUnit → ℕ

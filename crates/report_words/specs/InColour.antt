@@ -7,7 +7,8 @@ pub record IsInColour (c u : Text) : Type 0 where
   pub joins : (rest : Text) → visible (c ++ rest) ≡ visible c ++ visible rest
   pub alike : (rest more : Text) → IsEqualButEndSpaces rest more → IsEqualButEndSpaces (visible c ++ rest) (u ++ more)
 
--- if texts are in colour (the flag), the visible part of the first text is the second; else the second holds no escape character
+-- if texts are in colour (the flag), the visible part of the first text is the second; else the second holds no escape
+-- character
 pub record IsColourPair (k : Bool) (c u : Text) : Type 0 where
   pub coloured : k ≡ true → IsInColour c u
   pub plain : k ≡ false → HasNoEscape u

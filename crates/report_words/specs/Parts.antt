@@ -1,6 +1,8 @@
 -- Texts before they are painted: parts in sequence, each in a style or in none.
-use Rattle.std.specs.Prelude.{◌≡◌, ◌==◌, ◌⊎◌, ℕ, Bool, true, false, ◌&&◌, List, [], ◌∷◌, ◌++◌, IsTrue, refl, if◌then◌else◌, codes}
-use Rattle.styled_text.specs.Names.{decimal, Text, right_in, spaces, indent, flat_map, has_no_escape, HasNoEscape, plain, styled}
+use Rattle.std.specs.Prelude.{◌≡◌, ◌==◌, ◌⊎◌, ℕ, Bool, true, false, ◌&&◌, List, [], ◌∷◌, ◌++◌, IsTrue, refl}
+use Rattle.std.specs.Prelude.{if◌then◌else◌, codes}
+use Rattle.styled_text.specs.Names.{decimal, Text, right_in, spaces, indent, flat_map, has_no_escape, HasNoEscape}
+use Rattle.styled_text.specs.Names.{plain, styled}
 use Rattle.styled_text.specs.declared.style.{Style.Style, Styles.Styles}
 
 -- the text ends in a line feed
@@ -103,7 +105,8 @@ abbrev pub words_if : (t : Text) (b : Bool) → (IsTrue b → HasNoEscape t) →
 words_if t true h = Words t (h refl)
 words_if t false h = tt
 
-abbrev pub open_if : ((t : Text) → HasNoEscape t → Fixed Open) → (t : Text) (b : Bool) → (IsTrue b → HasNoEscape t) → FixedIf b Open
+abbrev pub open_if : ((t : Text) → HasNoEscape t → Fixed Open) → (t : Text) (b : Bool) → (IsTrue b → HasNoEscape t)
+    → FixedIf b Open
 open_if f t true h = f t (h refl)
 open_if f t false h = tt
 

@@ -1,7 +1,8 @@
 -- What must hold no escape character, so that the texts made from it hold none.
 use Rattle.std.specs.Prelude.{Option, None, Some}
 use Rattle.styled_text.specs.Names.{AllByRecursion, HasNoEscape}
-use Rattle.run_names.specs.{ErrorChains.MessageAndCauses, declared.abort.AbortDescription.AbortDescription, declared.name.TestInstanceId.TestInstanceId}
+use Rattle.run_names.specs.{ErrorChains.MessageAndCauses, declared.abort.AbortDescription.AbortDescription}
+use Rattle.run_names.specs.{declared.name.TestInstanceId.TestInstanceId}
 use Rattle.run_names.specs.declared.abort.AbortDescription.TheVariants.{UnixSignal, WindowsNtStatus, WindowsJobObject}
 
 -- what holds of a value, if there is one

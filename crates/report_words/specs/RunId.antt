@@ -1,6 +1,7 @@
 -- The id of a run.
 use Rattle.std.specs.Prelude.{ℕ, List, Option, None, Some, codes, unwrap_or}
-use Rattle.uuid.specs.{Parts.with_variant, Parts.with_version, Text.parsed, declared.Variant.TheVariants.RFC4122, declared.Version.TheVariants.Random}
+use Rattle.uuid.specs.{Parts.with_variant, Parts.with_version, Text.parsed, declared.Variant.TheVariants.RFC4122}
+use Rattle.uuid.specs.{declared.Version.TheVariants.Random}
 use Rattle.styled_text.specs.Texts.{Text}
 
 -- the id that is forced, if there is a text and it parses

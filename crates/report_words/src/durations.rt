@@ -1,7 +1,8 @@
 //! Durations as text, from any number of nanoseconds.
 
 ghost use Rattle.std.specs.Prelude.{◌≡◌, ◌≤◌, ◌++◌, Some, chars, length};
-ghost use Rattle.report_words.specs.Durations.{clock_text, duration_text, leading_zero, relative_text, time_units, unit_name, unit_nanos, unit_within, whole_seconds};
+ghost use Rattle.report_words.specs.Durations.{clock_text, duration_text, leading_zero, relative_text, time_units};
+ghost use Rattle.report_words.specs.Durations.{unit_name, unit_nanos, unit_within, whole_seconds};
 ghost use Rattle.styled_text.specs.Names.{seconds, right_in, Puts};
 
 use itoa::Buffer;

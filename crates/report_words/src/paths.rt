@@ -1,6 +1,7 @@
 //! Paths of files and of the directories that dynamic libraries are searched in.
 
-ghost use Rattle.std.specs.Prelude.{◌≡◌, ◌<◌, ◌∷◌, [], IfOk, IfSome, MatchOption, codes, false, length, map, not, string_bytes};
+ghost use Rattle.std.specs.Prelude.{◌≡◌, ◌<◌, ◌∷◌, [], IfOk, IfSome, MatchOption, codes, false, length, map, not};
+ghost use Rattle.std.specs.Prelude.{string_bytes};
 ghost use Rattle.run_names.specs.Names.{optional_text};
 ghost use Rattle.report_words.specs.Paths.{between_colons, is_absolute, joined_path, search_paths};
 
@@ -49,7 +50,8 @@ fn paths_between_colons(alloc: Global, list: &str) -> Result<Vec<&str>, OutOfMem
 
 // The list cut at its first colon.
 fn split_colon(list: &str) -> Option<(&str, &str)>
-    ensures parts { MatchOption result (between_colons list.now ≡ list.now ∷ []) (λ parts. between_colons list.now ≡ parts.0.now ∷ between_colons parts.1.now) }
+    ensures parts { MatchOption result (between_colons list.now ≡ list.now ∷ [])
+        (λ parts. between_colons list.now ≡ parts.0.now ∷ between_colons parts.1.now) }
     ensures shorter { IfSome result (λ parts. length parts.1.now < length list.now) }
 {
     list.split_once(':')

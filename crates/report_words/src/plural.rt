@@ -4,7 +4,10 @@
 //! including 0, as nextest does. The words are written once, in the contracts' table `Plural`.
 
 ghost use Rattle.std.specs.Prelude.{◌≡◌, true};
-ghost use Rattle.report_words.specs.Plural.{were_word, tests_word, tests_word_if, setup_scripts_word, binaries_word, paths_word, files_word, directories_word, this_crate_word, libraries_word, filters_word, sections_word, iterations_word, runs_word, orphans_word, errors_word, exist_word, end_word, remain_word};
+ghost use Rattle.report_words.specs.Plural.{were_word, tests_word, tests_word_if, setup_scripts_word, binaries_word};
+ghost use Rattle.report_words.specs.Plural.{paths_word, files_word, directories_word, this_crate_word, libraries_word};
+ghost use Rattle.report_words.specs.Plural.{filters_word, sections_word, iterations_word, runs_word, orphans_word};
+ghost use Rattle.report_words.specs.Plural.{errors_word, exist_word, end_word, remain_word};
 
 use run_names::config::NextestRunMode;
 

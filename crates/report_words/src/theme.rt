@@ -1,7 +1,8 @@
 //! The characters of bars and trees, in Unicode if the terminal has it, else in ASCII.
 
 ghost use Rattle.std.specs.Prelude.{◌≡◌, IfOk, codes, string_bytes, true};
-ghost use Rattle.report_words.specs.Theme.{hbar_character, hbar_text, progress_text, tree_branch_text, tree_continuation_text, tree_last_text};
+ghost use Rattle.report_words.specs.Theme.{hbar_character, hbar_text, progress_text, tree_branch_text};
+ghost use Rattle.report_words.specs.Theme.{tree_continuation_text, tree_last_text};
 ghost use Rattle.writers.specs.Writer.{Puts};
 
 use run_names::memory::OutOfMemory;

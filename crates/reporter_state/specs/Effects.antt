@@ -1,11 +1,16 @@
 -- What an event does besides its text: one equation for each kind that does something.
 use Rattle.std.specs.Prelude.{◌≡◌, ℕ, nat_le, Bool, Option, None, Some, if◌then◌else◌}
 use Rattle.styled_text.specs.Names.{Bor, is_some, option_and_then, option_map}
-use Rattle.{run_names.specs.Levels.final_rank, run_names.specs.Levels.reason_rank, test_text.specs.TestFinished.FinishReport, test_text.specs.TestFinished.finish_of, test_text.specs.TestFinished.test_finish}
+use Rattle.{run_names.specs.Levels.final_rank, run_names.specs.Levels.reason_rank}
+use Rattle.{test_text.specs.TestFinished.FinishReport, test_text.specs.TestFinished.finish_of}
+use Rattle.{test_text.specs.TestFinished.test_finish}
 use Rattle.text_parts.specs.Names.{TestEventKind, is_final_wanted, timed_at_end, timed_listed, padded_instance}
 use Rattle.text_parts.specs.{declared.instance.CountedInstance.CountedInstance, declared.settings.Settings.Settings}
-use Rattle.run_model.specs.declared.event.TestEventKind.TheVariants.{TestFinished, TestSkipped, RunBeginCancel, RunBeginKill}
-use Rattle.reporter_state.specs.{KeptTests.kept_test, declared.finished_attempts.FinishedAttempts.FinishedAttempts, declared.final_output.FinalOutput.FinalOutput, declared.final_output.FinalOutputEntry.FinalOutputEntry}
+use Rattle.run_model.specs.declared.event.TestEventKind.TheVariants.{TestFinished, TestSkipped, RunBeginCancel}
+use Rattle.run_model.specs.declared.event.TestEventKind.TheVariants.{RunBeginKill}
+use Rattle.reporter_state.specs.{KeptTests.kept_test, declared.finished_attempts.FinishedAttempts.FinishedAttempts}
+use Rattle.reporter_state.specs.{declared.final_output.FinalOutput.FinalOutput}
+use Rattle.reporter_state.specs.{declared.final_output.FinalOutputEntry.FinalOutputEntry}
 use Rattle.run_names.specs.declared.level.FinalStatusLevel.TheVariants as final
 use Rattle.reporter_state.specs.declared.final_output.FinalOutput.TheVariants as output
 
@@ -16,7 +21,8 @@ pub data TestEnd : Type 0 where
 
 -- what the summary shows of a finished test: its line, and the output of its last attempt if that is shown at the end
 unfoldable pub final_output : FinishReport → FinalOutput
-final_output f = if timed_at_end f.row f.display then output.ExecutedWithOutput f.summary f.last.output else output.Executed f.summary
+final_output f = if timed_at_end f.row f.display then output.ExecutedWithOutput f.summary f.last.output else
+    output.Executed f.summary
 
 -- the entry of a finished test, and below it that of a skipped one
 abbrev pub finished_entry : FinishReport → FinalOutputEntry
@@ -49,15 +55,21 @@ no_effect = record { reason = 0; ended = λ s reason. None }
 
 abbrev pub effect_of : TestEventKind → Effect
 effect_of (TestFinished stress instance success failure statuses stats) =
-    record no_effect { ended = λ s reason. Some (Finished (test_finish s reason stress instance success failure statuses stats)) }
-effect_of (TestSkipped stress instance) = record no_effect { ended = λ s reason. Some (Skipped (padded_instance s stress instance)) }
+    record no_effect {
+      ended = λ s reason. Some
+          (Finished (test_finish s reason stress instance success failure statuses stats));
+    }
+effect_of (TestSkipped stress instance) = record no_effect {
+  ended = λ s reason. Some (Skipped (padded_instance s stress instance));
+}
 effect_of (RunBeginCancel scripts stats running) = record no_effect { reason = reason_rank stats.cancel_reason }
 effect_of (RunBeginKill scripts stats running) = record no_effect { reason = reason_rank stats.cancel_reason }
 effect_of _ = no_effect
 
 -- the test that an event finishes, if it does, in a run with this reason before
 abbrev pub finish_by : Settings → ℕ → TestEventKind → Option FinishReport
-finish_by s reason (TestFinished stress instance success failure statuses stats) = Some (test_finish s reason stress instance success failure statuses stats)
+finish_by s reason (TestFinished stress instance success failure statuses stats) = Some
+    (test_finish s reason stress instance success failure statuses stats)
 finish_by s reason other = None
 
 -- `handed` is the test that the event finishes

@@ -1,12 +1,18 @@
 -- The entries that are kept of the calls, and how the summary lists them.
 use Rattle.std.specs.Prelude.{ℕ, ◌-◌, Bool, false, List, [], ◌∷◌, ◌++◌, Option, Some, None, max}
 use Rattle.styled_text.specs.Names.{option_to_list, Ordering, is_lt, IsSorted, IsStable, Text}
-use Rattle.run_model.specs.Names.{final_rank, reason_rank, final_level_of, stress_key, OwnedTestInstanceId, UniquePrefix, FinalStatusLevel, StressIndex}
-use Rattle.text_parts.specs.{Names.ReportCall, Names.DisplayCounterIndex, Names.attempt_output, declared.instance.CountedInstance.CountedInstance, declared.settings.Settings.Settings}
+use Rattle.run_model.specs.Names.{final_rank, reason_rank, final_level_of, stress_key, OwnedTestInstanceId}
+use Rattle.run_model.specs.Names.{UniquePrefix, FinalStatusLevel, StressIndex}
+use Rattle.text_parts.specs.{Names.ReportCall, Names.DisplayCounterIndex, Names.attempt_output}
+use Rattle.text_parts.specs.{declared.instance.CountedInstance.CountedInstance, declared.settings.Settings.Settings}
 use Rattle.report_text.specs.declared.helpers.instance.DisplayCounterIndex.TheVariants.{Counter, Padded}
 use Rattle.report_words.specs.Parts.{Parts, Line, Lines, ◌⧺◌, each, paint}
-use Rattle.reporter_state.specs.{Effects.effect_of, Effects.entry_of, KeptTests.borrowed_test, declared.kept_test.KeptTest.KeptTest, Order.key_cmp, Order.ordered_by, declared.final_output.FinalOutput.FinalOutput, declared.final_output.FinalOutputEntry.FinalOutputEntry}
-use Rattle.test_text.specs.{TestSkipped.skip_line, StatusLine.status_line, declared.status_line.StatusLineKind.TheVariants.Final}
+use Rattle.reporter_state.specs.{Effects.effect_of, Effects.entry_of, KeptTests.borrowed_test}
+use Rattle.reporter_state.specs.{declared.kept_test.KeptTest.KeptTest, Order.key_cmp, Order.ordered_by}
+use Rattle.reporter_state.specs.{declared.final_output.FinalOutput.FinalOutput}
+use Rattle.reporter_state.specs.{declared.final_output.FinalOutputEntry.FinalOutputEntry}
+use Rattle.test_text.specs.{TestSkipped.skip_line, StatusLine.status_line}
+use Rattle.test_text.specs.{declared.status_line.StatusLineKind.TheVariants.Final}
 use Rattle.run_model.specs.declared.call.ReportCall.TheVariants.{Event, Header, Prefix}
 use Rattle.reporter_state.specs.declared.final_output.FinalOutput.TheVariants.{Executed, ExecutedWithOutput, Skipped}
 use Rattle.run_names.specs.declared.level.CancelReason.TheVariants as cause
@@ -85,10 +91,12 @@ IsFinalOrder entries order = IsSorted entry_cmp order × IsStable entry_cmp entr
 abbrev pub final_order : List FinalOutputEntry → List FinalOutputEntry
 final_order entries = ordered_by is_before entries
 
--- how the summary shows a test: its line, and then the output of its last attempt if that is kept; or that it was skipped
+-- how the summary shows a test: its line, and then the output of its last attempt if that is kept; or that it was
+-- skipped
 unfoldable pub final_text : Settings → CountedInstance → FinalOutput → Parts false Line
 final_text s test (Executed summary) = status_line Final test summary
-final_text s test (ExecutedWithOutput summary output) = status_line Final test summary ⧺ attempt_output s false summary.result output
+final_text s test (ExecutedWithOutput summary output) = status_line Final test summary ⧺ attempt_output s false
+    summary.result output
 final_text s test Skipped = skip_line test
 
 -- how the summary shows an entry

@@ -1,5 +1,7 @@
 -- Kept tests, with their own names.
-use Rattle.{std.specs.Borrow.Bor, std.specs.Prelude.ℕ, std.specs.Prelude.List, text_parts.specs.declared.instance.CountedInstance.CountedInstance, reporter_state.specs.declared.kept_test.KeptTest.KeptTest}
+use Rattle.{std.specs.Borrow.Bor, std.specs.Prelude.ℕ, std.specs.Prelude.List}
+use Rattle.{text_parts.specs.declared.instance.CountedInstance.CountedInstance}
+use Rattle.{reporter_state.specs.declared.kept_test.KeptTest.KeptTest}
 
 -- the copy of a test
 abbrev pub kept_test : CountedInstance → KeptTest

@@ -1,7 +1,10 @@
 -- The keys of kept entries, and what a map of them shows.
 use Rattle.std.specs.Prelude.{◌≡◌, ℕ, ◌<◌, None, List, [], ◌∷◌, map, reverse}
-use Rattle.styled_text.specs.Names.{Ordering, Reverse, nat_cmp, on, then_cmp, IsTotalOrder, then_total, on_total, nat_cmp_total, lists_total, nat_list_cmp_total, AllByRecursion}
-use Rattle.reporter_state.specs.{Entries.level_key, Entries.test_key, Order.key_cmp, declared.kept_test.KeptTest.KeptTest, declared.final_output.FinalOutput.FinalOutput, declared.final_output.FinalOutputEntry.FinalOutputEntry}
+use Rattle.styled_text.specs.Names.{Ordering, Reverse, nat_cmp, on, then_cmp, IsTotalOrder, then_total, on_total}
+use Rattle.styled_text.specs.Names.{nat_cmp_total, lists_total, nat_list_cmp_total, AllByRecursion}
+use Rattle.reporter_state.specs.{Entries.level_key, Entries.test_key, Order.key_cmp}
+use Rattle.reporter_state.specs.{declared.kept_test.KeptTest.KeptTest, declared.final_output.FinalOutput.FinalOutput}
+use Rattle.reporter_state.specs.{declared.final_output.FinalOutputEntry.FinalOutputEntry}
 
 -- the key of an entry: how many levels it is below `All`, its test, and the number of entries kept before it
 pub record Placed : Type 0 where

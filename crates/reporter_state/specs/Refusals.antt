@@ -1,15 +1,24 @@
 -- Which calls a decider refuses: from the call alone, whatever came before.
 use Rattle.std.specs.Prelude.{◌≡◌, ℕ, List, Bool, false, if◌then◌else◌, Option, None, Some, slice_get}
 use Rattle.styled_text.specs.Names.{AllByRecursion, position, is_some, option_and_then}
-use Rattle.{text_parts.specs.Names.TestEventKind, text_parts.specs.Names.ReportCall, text_parts.specs.declared.settings.Settings.Settings}
-use Rattle.{run_model.specs.Statuses.is_success, run_model.specs.declared.event.TestEventKind.TheVariants.TestAttemptFailedWillRetry, store_text.specs.declared.config.StoreConfig.StoreConfig}
-use Rattle.reporter_state.specs.{Loads.lacks_output, declared.decider.OutputLoadDecider.OutputLoadDecider, declared.faults.WriteEventError.WriteEventError}
+use Rattle.{text_parts.specs.Names.TestEventKind, text_parts.specs.Names.ReportCall}
+use Rattle.{text_parts.specs.declared.settings.Settings.Settings}
+use Rattle.{run_model.specs.Statuses.is_success}
+use Rattle.{run_model.specs.declared.event.TestEventKind.TheVariants.TestAttemptFailedWillRetry}
+use Rattle.{store_text.specs.declared.config.StoreConfig.StoreConfig}
+use Rattle.reporter_state.specs.{Loads.lacks_output, declared.decider.OutputLoadDecider.OutputLoadDecider}
+use Rattle.reporter_state.specs.{declared.faults.WriteEventError.WriteEventError}
 use Rattle.run_model.specs.declared.call.ReportCall.TheVariants.{Event, Header, Prefix}
-use Rattle.reporter_state.specs.declared.faults.WriteEventError.TheVariants.{RetriedSuccess, OutputNotLoaded, Io, Memory, Failed, StoreIo}
+use Rattle.reporter_state.specs.declared.faults.WriteEventError.TheVariants.{RetriedSuccess, OutputNotLoaded, Io}
+use Rattle.reporter_state.specs.declared.faults.WriteEventError.TheVariants.{Memory, Failed, StoreIo}
 
 -- the decider for settings, and for what a store keeps
 abbrev pub decider_by : Settings → Option StoreConfig → OutputLoadDecider
-decider_by s store = record { status_level = s.status_levels.status_level; overrides = s.unit_output.overrides; store = store }
+decider_by s store = record {
+  status_level = s.status_levels.status_level;
+  overrides = s.unit_output.overrides;
+  store = store;
+}
 
 -- a successful attempt is followed by another one
 abbrev pub is_retried_success : TestEventKind → Bool
@@ -19,7 +28,8 @@ is_retried_success _ = false
 -- why an event is refused: needed output counts also if a cancel reason would hide it
 abbrev pub event_refusal : OutputLoadDecider → TestEventKind → Option WriteEventError
 event_refusal decider e =
-    if is_retried_success e then Some RetriedSuccess else (if lacks_output decider e then Some OutputNotLoaded else None)
+    if is_retried_success e then Some RetriedSuccess else
+    (if lacks_output decider e then Some OutputNotLoaded else None)
 
 -- the error if it is a refusal, else nothing
 abbrev pub refusal_in : WriteEventError → Option WriteEventError

@@ -1,7 +1,8 @@
 -- A list of calls without the outputs that the decider skips.
 use Rattle.std.specs.Prelude.{Bool, true, false, List, map, Option, None, Some, if◌then◌else◌}
 use Rattle.text_parts.specs.Names.{TestEventKind, LoadOutput, ReportCall}
-use Rattle.{run_model.specs.Unloaded.unloaded_event, reporter_state.specs.Loads.decision, reporter_state.specs.declared.decider.OutputLoadDecider.OutputLoadDecider}
+use Rattle.{run_model.specs.Unloaded.unloaded_event, reporter_state.specs.Loads.decision}
+use Rattle.{reporter_state.specs.declared.decider.OutputLoadDecider.OutputLoadDecider}
 use Rattle.run_model.specs.declared.call.ReportCall.TheVariants.{Event, Header, Prefix}
 use Rattle.run_model.specs.declared.{output_event.LoadOutput.TheVariants.Load, output_event.LoadOutput.TheVariants.Skip}
 

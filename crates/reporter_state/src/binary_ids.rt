@@ -13,7 +13,8 @@ use std::rc::Rc;
 // How many of the last ids are searched for one to share.
 const REMEMBERED: usize = 8;
 
-/// The id of a kept test's binary, which the kept tests of that binary share: a run has few binaries. Contracts see its text.
+/// The id of a kept test's binary, which the kept tests of that binary share: a run has few binaries. Contracts see its
+/// text.
 #[derive(Drop)]
 pub struct KeptBinaryId {
     shared: Rc<RustBinaryId>,

@@ -1,8 +1,12 @@
 //! What a reporter decides about an event from its metadata alone.
 
-ghost use Rattle.reporter_state.specs.Names.{decider_by, event_refusal, first_refused, is_retried_success, refusal_by, refusal_in, HasMetadata, loads_by_metadata, loads_last, decision, is_asked_of, lacks_output, load_if, loads, loads_attempt, loads_finish, loads_script, needed_answer};
+ghost use Rattle.reporter_state.specs.Names.{decider_by, event_refusal, first_refused, is_retried_success, refusal_by};
+ghost use Rattle.reporter_state.specs.Names.{refusal_in, HasMetadata, loads_by_metadata, loads_last, decision};
+ghost use Rattle.reporter_state.specs.Names.{is_asked_of, lacks_output, load_if, loads, loads_attempt, loads_finish};
+ghost use Rattle.reporter_state.specs.Names.{loads_script, needed_answer};
 ghost use Rattle.text_parts.specs.Names.{RecordedOutput, RecordingSpec, OutputEventKind, TestEventKind};
-ghost use Rattle.{run_model.specs.Names.recorded_kind, run_model.specs.Names.summary_of, reporter_state.specs.Names.needed_output, reporter_state.specs.Names.unread_call};
+ghost use Rattle.{run_model.specs.Names.recorded_kind, run_model.specs.Names.summary_of};
+ghost use Rattle.{reporter_state.specs.Names.needed_output, reporter_state.specs.Names.unread_call};
 ghost use Rattle.std.specs.Prelude.{◌≡◌, IfSome, None, Some, false};
 ghost use Rattle.std.specs.{Option.is_some, Option.option_map};
 
@@ -85,8 +89,8 @@ impl OutputLoadDecider {
         OutputLoadDecider::new(settings.status_levels.status_level, overrides, store)
     }
 
-    /// Whether a replay has to load the captured output of a recorded event: a report shows it, immediately or at the end of
-    /// the run, unless a cancel reason hides it, or a store keeps it. It allocates nothing.
+    /// Whether a replay has to load the captured output of a recorded event: a report shows it, immediately or at the
+    /// end of the run, unless a cancel reason hides it, or a store keeps it. It allocates nothing.
     ///
     /// A live event has the same decision as its recorded form.
     ///
@@ -97,7 +101,8 @@ impl OutputLoadDecider {
     /// ```
     pub fn should_load_output(&self, event: &OutputEventKind<RecordingSpec>) -> LoadOutput
         ensures loads { result ≡ load_if (loads self.now event.now) }
-        ensures live { (kind : TestEventKind) → recorded_kind kind ≡ Some event.now → decision self.now kind ≡ Some result }
+        ensures live { (kind : TestEventKind) → recorded_kind kind ≡ Some event.now
+            → decision self.now kind ≡ Some result }
     {
         load_if(match event {
             OutputEventKind::SetupScriptFinished { run_status, .. } => {
@@ -115,8 +120,8 @@ impl OutputLoadDecider {
         })
     }
 
-    /// Whether the captured output of an event with this metadata has to be loaded: what `should_load_output` returns for such an event,
-    /// without the event. It allocates nothing.
+    /// Whether the captured output of an event with this metadata has to be loaded: what `should_load_output` returns
+    /// for such an event, without the event. It allocates nothing.
     ///
     /// ```
     /// let failed = ExecutionResultDescription::ExecFail;
@@ -126,7 +131,8 @@ impl OutputLoadDecider {
     #[tactic(auto, using(crate::proofs::lemmas::Metadata::loads_alike))]
     pub fn should_load(&self, metadata: OutputMetadata<'_>) -> LoadOutput
         ensures loads { result ≡ load_if (loads_by_metadata self.now metadata.entry) }
-        ensures alike { (event : OutputEventKind RecordingSpec RecordedOutput) → HasMetadata event metadata.entry → result ≡ load_if (loads self.now event) }
+        ensures alike { (event : OutputEventKind RecordingSpec RecordedOutput) → HasMetadata event metadata.entry
+            → result ≡ load_if (loads self.now event) }
     {
         load_if(match metadata {
             OutputMetadata::SetupScriptFinished { result } => loads_script(result),
@@ -269,8 +275,8 @@ impl OutputLoadDecider {
         }
     }
 
-    /// Why a reporter of this configuration refuses a call, `RetriedSuccess` or `OutputNotLoaded`, or `None` if it accepts it.
-    /// It allocates nothing.
+    /// Why a reporter of this configuration refuses a call, `RetriedSuccess` or `OutputNotLoaded`, or `None` if it
+    /// accepts it. It allocates nothing.
     ///
     /// ```
     /// let failed = ExecutionStatuses::single(alloc, ExecuteStatus::failed(101, time));

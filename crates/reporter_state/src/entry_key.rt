@@ -1,8 +1,10 @@
 //! The keys of summary entries.
 
 ghost use Rattle.std.specs.Prelude.{◌≡◌, refl, Some, IfOk};
-ghost use Rattle.styled_text.specs.Names.{as_partial_cmp, eq_by_cmp, nat_cmp, eq_by_cmp_equiv, partial_equiv_from_equiv, partial_order_from_total, slice_cmp};
-ghost use Rattle.reporter_state.specs.Names.{counter_key, iteration_key, level_key, test_key, Placed, placed_cmp, placed_key, placed_total, key_cmp};
+ghost use Rattle.styled_text.specs.Names.{as_partial_cmp, eq_by_cmp, nat_cmp, eq_by_cmp_equiv};
+ghost use Rattle.styled_text.specs.Names.{partial_equiv_from_equiv, partial_order_from_total, slice_cmp};
+ghost use Rattle.reporter_state.specs.Names.{counter_key, iteration_key, level_key, test_key, Placed, placed_cmp};
+ghost use Rattle.reporter_state.specs.Names.{placed_key, placed_total, key_cmp};
 
 use crate::final_output::FinalOutput;
 use crate::kept_test::KeptTest;
@@ -14,8 +16,9 @@ use std::alloc::Global;
 use std::cmp::Ordering;
 use std::marker::Model;
 
-/// The key of an entry. It is ordered by the entry's final level, the greatest first, then by the iteration, then by the counter if one
-/// is shown, then by the bytes of the binary's id and of the test's name, and then by the number of entries kept before.
+/// The key of an entry. It is ordered by the entry's final level, the greatest first, then by the iteration, then by
+/// the counter if one is shown, then by the bytes of the binary's id and of the test's name, and then by the number of
+/// entries kept before.
 #[derive(Drop)]
 pub struct EntryKey {
     // Boxed, so that a move is cheap.

@@ -2,7 +2,8 @@
 
 ghost use Rattle.std.specs.Prelude.{◌≡◌, IfOk, IsOk, false};
 ghost use Rattle.{run_model.specs.Statuses.is_aborted, text_parts.specs.Finish.timed_at_end};
-ghost use Rattle.reporter_state.specs.Names.{HasShownOutput, finish_of, final_output, finished_entry, skipped_entry, final_level_of_output};
+ghost use Rattle.reporter_state.specs.Names.{HasShownOutput, finish_of, final_output, finished_entry, skipped_entry};
+ghost use Rattle.reporter_state.specs.Names.{final_level_of_output};
 
 use crate::binary_ids::KeptBinaryIds;
 use crate::finished_attempts::FinishedAttempts;
@@ -61,7 +62,8 @@ impl FinalOutput {
     ) -> Result<FinalOutput, OutOfMemory>
         requires { HasShownOutput (finish_of attempts.now.finished) }
         ensures output { IfOk result (λ o. o ≡ final_output (finish_of attempts.now.finished)) }
-        ensures free { is_aborted (finish_of attempts.now.finished).last.result ≡ false → timed_at_end attempts.now.finished.row attempts.now.finished.display ≡ false → IsOk result }
+        ensures free { is_aborted (finish_of attempts.now.finished).last.result ≡ false
+            → timed_at_end attempts.now.finished.row attempts.now.finished.display ≡ false → IsOk result }
     {
         let finished = &attempts.finished;
         let summary = attempts.statuses.summary(alloc)?;

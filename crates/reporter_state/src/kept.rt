@@ -1,8 +1,10 @@
 //! The entries of a summary, and their order.
 
 ghost use Rattle.std.specs.Prelude.{◌≡◌, List, [], ◌∷◌, ◌++◌, OnOk, OnErr};
-ghost use Rattle.{writers.specs.Writer.Puts, report_words.specs.Parts.paint, reporter_state.specs.declared.final_output.FinalOutput.TheVariants.ExecutedWithOutput};
-ghost use Rattle.reporter_state.specs.Names.{status_line, StatusLineKind, final_text, shown_entries, final_order, borrowed_test, FinalOutputEntry};
+ghost use Rattle.{writers.specs.Writer.Puts, report_words.specs.Parts.paint};
+ghost use Rattle.{reporter_state.specs.declared.final_output.FinalOutput.TheVariants.ExecutedWithOutput};
+ghost use Rattle.reporter_state.specs.Names.{status_line, StatusLineKind, final_text, shown_entries, final_order};
+ghost use Rattle.reporter_state.specs.Names.{borrowed_test, FinalOutputEntry};
 
 use crate::entry_key::EntryKey;
 use crate::final_output::{FinalOutput, FinalOutputEntry};
@@ -40,7 +42,8 @@ pub struct KeptEntries {
 }
 
 impl Model for KeptEntries {
-    ghost use Rattle.{std.specs.Prelude.List, std.specs.BTreeMap.btree_map_len, reporter_state.specs.Names.ArePlaced, reporter_state.specs.Names.shown_of, reporter_state.specs.Names.FinalOutputEntry};
+    ghost use Rattle.{std.specs.Prelude.List, std.specs.BTreeMap.btree_map_len, reporter_state.specs.Names.ArePlaced};
+    ghost use Rattle.{reporter_state.specs.Names.shown_of, reporter_state.specs.Names.FinalOutputEntry};
 
     ghost Value = { List FinalOutputEntry };
 
@@ -66,7 +69,9 @@ impl KeptEntries {
     ///
     /// Memory was refused. The entries are as they were.
     pub fn keep(&mut self, alloc: Global, entry: FinalOutputEntry) -> Result<(), OutOfMemory>
-        ensures ok { OnOk result ((kept : List FinalOutputEntry) → self.old ≡ final_order kept → self.new ≡ final_order (kept ++ entry ∷ [])) }
+        ensures ok { OnOk result
+            ((kept : List FinalOutputEntry) → self.old ≡ final_order kept
+            → self.new ≡ final_order (kept ++ entry ∷ [])) }
         ensures err { OnErr result (self.new ≡ self.old) }
     {
         let FinalOutputEntry { test, output } = entry;
@@ -98,7 +103,8 @@ fn write_kept<W: WriteStr>(
     test: &KeptTest,
     output: &KeptOutput,
 ) -> Result<(), WriteFault>
-    ensures { Puts W.meaning w.old (paint settings.now.styles (final_text settings.now (borrowed_test test.now) output.now)) result w.new }
+    ensures { Puts W.meaning w.old
+        (paint settings.now.styles (final_text settings.now (borrowed_test test.now) output.now)) result w.new }
 {
     match &output.form {
         OutputForm::Skipped => write_skip_line(w, settings, test.as_counted()),
@@ -146,7 +152,8 @@ fn write_entry<W: WriteStr>(
     test: &KeptTest,
     output: &FinalOutput,
 ) -> Result<(), WriteFault>
-    ensures { Puts W.meaning w.old (paint settings.now.styles (final_text settings.now (borrowed_test test.now) output.now)) result w.new }
+    ensures { Puts W.meaning w.old
+        (paint settings.now.styles (final_text settings.now (borrowed_test test.now) output.now)) result w.new }
 {
     match output {
         FinalOutput::Executed { summary } => write_line(w, settings, test, summary),
@@ -165,7 +172,10 @@ fn write_line_with_output<W: WriteStr>(
     summary: &StatusSummary,
     output: &LoadedOutput,
 ) -> Result<(), WriteFault>
-    ensures { Puts W.meaning w.old (paint settings.now.styles (final_text settings.now (borrowed_test test.now) (ExecutedWithOutput summary.now output.now))) result w.new }
+    ensures { Puts W.meaning w.old
+        (paint settings.now.styles
+        (final_text settings.now (borrowed_test test.now) (ExecutedWithOutput summary.now output.now)))
+        result w.new }
 {
     write_line(w, settings, test, summary)?;
     write_test_execute_status(w, settings, false, &summary.result, output.get())
@@ -178,7 +188,9 @@ fn write_line<W: WriteStr>(
     test: &KeptTest,
     summary: &StatusSummary,
 ) -> Result<(), WriteFault>
-    ensures { Puts W.meaning w.old (paint settings.now.styles (status_line StatusLineKind.Final (borrowed_test test.now) summary.now)) result w.new }
+    ensures { Puts W.meaning w.old
+        (paint settings.now.styles (status_line StatusLineKind.Final (borrowed_test test.now) summary.now)) result
+        w.new }
 {
     let line = StatusLine::of_summary(summary);
     write_status_line(

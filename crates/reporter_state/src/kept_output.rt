@@ -2,7 +2,8 @@
 
 ghost use Rattle.std.specs.Prelude.{◌≡◌, IfOk, IfSome};
 ghost use Rattle.reporter_state.specs.KeptOutputs.{ended_by, final_output_of, summary_of_line};
-ghost use Rattle.reporter_state.specs.{declared.final_output.FinalOutput.TheVariants.Executed, declared.final_output.FinalOutput.TheVariants.ExecutedWithOutput};
+ghost use Rattle.reporter_state.specs.{declared.final_output.FinalOutput.TheVariants.Executed};
+ghost use Rattle.reporter_state.specs.{declared.final_output.FinalOutput.TheVariants.ExecutedWithOutput};
 
 use crate::final_output::FinalOutput;
 use crate::loaded_output::LoadedOutput;

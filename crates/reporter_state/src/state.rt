@@ -2,7 +2,9 @@
 
 ghost use Rattle.std.specs.Prelude.{◌≡◌, ◌++◌, ◌∷◌, List, [], OnOk, OnErr, None, max, true, false};
 ghost use Rattle.{std.specs.Option.is_some, std.specs.Option.option_to_list, run_names.specs.Levels.reason_rank};
-ghost use Rattle.reporter_state.specs.Names.{HasShownOutput, finish_of, FinalOutputEntry, IsFinishOf, TestEnd, effect_of, entry_of, finished_entry, kept_entry, may_grow_for, lacks_output, decider_by, final_order};
+ghost use Rattle.reporter_state.specs.Names.{HasShownOutput, finish_of, FinalOutputEntry, IsFinishOf, TestEnd};
+ghost use Rattle.reporter_state.specs.Names.{effect_of, entry_of, finished_entry, kept_entry, may_grow_for};
+ghost use Rattle.reporter_state.specs.Names.{lacks_output, decider_by, final_order};
 
 use crate::binary_ids::KeptBinaryIds;
 use crate::faults::WriteEventError;
@@ -88,11 +90,17 @@ impl ReporterState {
         requires accepted { lacks_output (decider_by self.old.settings None) event.now.kind ≡ false }
         ensures settings { self.new.settings ≡ self.old.settings }
         ensures prefix { self.new.unique_prefix ≡ self.old.unique_prefix }
-        ensures reason { OnOk result (reason_rank self.new.cancel_status ≡ max (effect_of event.now.kind).reason (reason_rank self.old.cancel_status)) }
+        ensures reason { OnOk result
+            (reason_rank self.new.cancel_status
+            ≡ max (effect_of event.now.kind).reason (reason_rank self.old.cancel_status)) }
         ensures works { self.new.has_failed ≡ self.old.has_failed }
-        ensures kept { OnOk result ((before : List FinalOutputEntry) → self.old.kept ≡ final_order before →
-            self.new.kept ≡ final_order (before ++ option_to_list (entry_of self.old.settings (reason_rank self.old.cancel_status) event.now.kind))) }
-        ensures needed { OnErr result (may_grow_for self.old.settings (reason_rank self.old.cancel_status) event.now.kind ≡ true) }
+        ensures kept { OnOk result
+            ((before : List FinalOutputEntry) → self.old.kept ≡ final_order before
+            → self.new.kept ≡ final_order (before
+            ++ option_to_list (entry_of self.old.settings (reason_rank self.old.cancel_status)
+            event.now.kind))) }
+        ensures needed { OnErr result
+            (may_grow_for self.old.settings (reason_rank self.old.cancel_status) event.now.kind ≡ true) }
     {
         match &event.kind {
             TestEventKind::TestFinished { .. } => match finished {
@@ -124,9 +132,13 @@ impl ReporterState {
         ensures prefix { self.new.unique_prefix ≡ self.old.unique_prefix }
         ensures reason { self.new.cancel_status ≡ self.old.cancel_status }
         ensures works { self.new.has_failed ≡ self.old.has_failed }
-        ensures kept { OnOk result ((before : List FinalOutputEntry) → self.old.kept ≡ final_order before →
-            self.new.kept ≡ final_order (before ++ option_to_list (kept_entry self.old.settings (TestEnd.Finished (finish_of attempts.now.finished))))) }
-        ensures needed { OnErr result (is_some (kept_entry self.old.settings (TestEnd.Finished (finish_of attempts.now.finished))) ≡ true) }
+        ensures kept { OnOk result
+            ((before : List FinalOutputEntry) → self.old.kept ≡ final_order before
+            → self.new.kept ≡ final_order (before
+            ++ option_to_list (kept_entry self.old.settings
+            (TestEnd.Finished (finish_of attempts.now.finished))))) }
+        ensures needed { OnErr result
+            (is_some (kept_entry self.old.settings (TestEnd.Finished (finish_of attempts.now.finished))) ≡ true) }
     {
         let finished = &attempts.finished;
         let is_wanted = self
@@ -160,8 +172,10 @@ impl ReporterState {
         ensures prefix { self.new.unique_prefix ≡ self.old.unique_prefix }
         ensures reason { self.new.cancel_status ≡ self.old.cancel_status }
         ensures works { self.new.has_failed ≡ self.old.has_failed }
-        ensures kept { OnOk result ((before : List FinalOutputEntry) → self.old.kept ≡ final_order before →
-            self.new.kept ≡ final_order (before ++ option_to_list (kept_entry self.old.settings (TestEnd.Skipped test.entry)))) }
+        ensures kept { OnOk result
+            ((before : List FinalOutputEntry) → self.old.kept ≡ final_order before
+            → self.new.kept ≡ final_order (before
+            ++ option_to_list (kept_entry self.old.settings (TestEnd.Skipped test.entry)))) }
         ensures needed { OnErr result (is_some (kept_entry self.old.settings (TestEnd.Skipped test.entry)) ≡ true) }
     {
         let shown = self.settings.status_levels.final_status_level;

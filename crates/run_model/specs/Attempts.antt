@@ -1,9 +1,12 @@
 -- The attempts of a test as a value, and the simplest of them.
 use Rattle.std.specs.Prelude.{List, [], ℤ, false, None, Some}
-use Rattle.run_model.specs.declared.output.ChildExecutionOutputDescription.{ChildExecutionOutputDescription, TheVariants.Output, TheVariants.StartError}
-use Rattle.run_model.specs.declared.output.{ChildOutputDescription.ChildOutputDescription, ChildOutputDescription.TheVariants.Split, LiveSpec.LiveSpec}
+use Rattle.run_model.specs.declared.output.ChildExecutionOutputDescription.{ChildExecutionOutputDescription}
+use Rattle.run_model.specs.declared.output.ChildExecutionOutputDescription.{TheVariants.Output, TheVariants.StartError}
+use Rattle.run_model.specs.declared.output.{ChildOutputDescription.ChildOutputDescription}
+use Rattle.run_model.specs.declared.output.{ChildOutputDescription.TheVariants.Split, LiveSpec.LiveSpec}
 use Rattle.run_model.specs.declared.status.ExecutionResultDescription.{ExecutionResultDescription, TheVariants.Fail}
-use Rattle.run_model.specs.declared.status.{FailureDescription.TheVariants.ExitCode, RetryData.RetryData, ExecuteStatus.ExecuteStatus, FlakyResult.FlakyResult}
+use Rattle.run_model.specs.declared.status.{FailureDescription.TheVariants.ExitCode, RetryData.RetryData}
+use Rattle.run_model.specs.declared.status.{ExecuteStatus.ExecuteStatus, FlakyResult.FlakyResult}
 use Rattle.run_names.specs.declared.time.Nanos.{Nanos}
 
 -- an attempt of a test
@@ -33,11 +36,13 @@ abbrev pub silent_output : ChildOutputDescription
 silent_output = Split (Some []) (Some [])
 
 -- a process that ended with this result, whose streams were captured and are empty
-abbrev pub silent_execution : ExecutionResultDescription → ChildExecutionOutputDescription LiveSpec ChildOutputDescription
+abbrev pub silent_execution : ExecutionResultDescription
+    → ChildExecutionOutputDescription LiveSpec ChildOutputDescription
 silent_execution outcome = Output (Some outcome) silent_output None None
 
 -- the execution with this output; one that could not be started wrote nothing
-abbrev pub execution_with_output : ChildExecutionOutputDescription LiveSpec ChildOutputDescription → ChildOutputDescription → ChildExecutionOutputDescription LiveSpec ChildOutputDescription
+abbrev pub execution_with_output : ChildExecutionOutputDescription LiveSpec ChildOutputDescription
+    → ChildOutputDescription → ChildExecutionOutputDescription LiveSpec ChildOutputDescription
 execution_with_output (Output result output errors highlight) captured = Output result captured errors highlight
 execution_with_output (StartError chain) captured = StartError chain
 
@@ -52,9 +57,11 @@ silent_attempt outcome time = record {
 }
 
 -- an attempt that wrote this
-abbrev pub attempt_with_output : ExecuteStatus LiveSpec ChildOutputDescription → ChildOutputDescription → ExecuteStatus LiveSpec ChildOutputDescription
+abbrev pub attempt_with_output : ExecuteStatus LiveSpec ChildOutputDescription → ChildOutputDescription
+    → ExecuteStatus LiveSpec ChildOutputDescription
 attempt_with_output status captured = record status { output = execution_with_output status.output captured }
 
 -- an attempt as one of several
-abbrev pub attempt_with_retry_data : ExecuteStatus LiveSpec ChildOutputDescription → RetryData → ExecuteStatus LiveSpec ChildOutputDescription
+abbrev pub attempt_with_retry_data : ExecuteStatus LiveSpec ChildOutputDescription → RetryData
+    → ExecuteStatus LiveSpec ChildOutputDescription
 attempt_with_retry_data status retry_data = record status { retry_data = retry_data }

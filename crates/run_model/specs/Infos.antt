@@ -1,7 +1,8 @@
 -- The responses of units that are asked for their state.
 use Rattle.std.specs.Prelude.{ℕ, Bool, true, false, List, codes}
 use Rattle.run_model.specs.declared.info.{UnitState.UnitState, UnitTerminateReason.UnitTerminateReason}
-use Rattle.run_model.specs.declared.info.UnitState.TheVariants.{Running, Exiting, Terminating, Exited, DelayBeforeNextAttempt}
+use Rattle.run_model.specs.declared.info.UnitState.TheVariants.{Running, Exiting, Terminating, Exited}
+use Rattle.run_model.specs.declared.info.UnitState.TheVariants.{DelayBeforeNextAttempt}
 use Rattle.run_model.specs.declared.info.UnitTerminateReason.TheVariants.{Timeout, Signal, Interrupt}
 
 -- between two attempts there is no output of the unit

@@ -1,9 +1,12 @@
 -- What is known of captured output.
 use Rattle.std.specs.Prelude.{ℕ, Bool, true, false, not, ◌||◌, List, Option, None, Some}
 use Rattle.std.specs.Option.{option_map, is_some}
-use Rattle.run_model.specs.{Statuses.is_success, declared.status.ExecutionResultDescription.ExecutionResultDescription, declared.output.ByteSubslice.ByteSubslice}
-use Rattle.run_model.specs.declared.output.ChildExecutionOutputDescription.{ChildExecutionOutputDescription, TheVariants.Output, TheVariants.StartError}
-use Rattle.run_model.specs.declared.output.{ChildOutputDescription.ChildOutputDescription, Highlight.Highlight, HighlightStream.HighlightStream}
+use Rattle.run_model.specs.{Statuses.is_success, declared.status.ExecutionResultDescription.ExecutionResultDescription}
+use Rattle.run_model.specs.{declared.output.ByteSubslice.ByteSubslice}
+use Rattle.run_model.specs.declared.output.ChildExecutionOutputDescription.{ChildExecutionOutputDescription}
+use Rattle.run_model.specs.declared.output.ChildExecutionOutputDescription.{TheVariants.Output, TheVariants.StartError}
+use Rattle.run_model.specs.declared.output.{ChildOutputDescription.ChildOutputDescription, Highlight.Highlight}
+use Rattle.run_model.specs.declared.output.{HighlightStream.HighlightStream}
 use Rattle.run_model.specs.declared.output.ChildOutputDescription.TheVariants as captured
 use Rattle.run_model.specs.declared.output.HighlightStream.TheVariants.{Stdout, Stderr, Combined}
 

@@ -1,8 +1,10 @@
 -- The outcome that statistics lead to.
 use Rattle.std.specs.Prelude.{ℕ, ◌-◌, Bool, Option, None, Some, ◌||◌, ◌==◌, nat_lt, if◌then◌else◌}
 use Rattle.{run_names.specs.declared.level.CancelReason.CancelReason, run_model.specs.declared.stats.RunStats.RunStats}
-use Rattle.run_model.specs.declared.stats.RunStatsFailureKind.{RunStatsFailureKind, TheVariants.SetupScript, TheVariants.Test}
-use Rattle.run_model.specs.declared.stats.{FinalRunStats.FinalRunStats, RunFinishedStats.RunFinishedStats, RunFinishedStats.TheVariants.Single, RunFinishedStats.TheVariants.Stress}
+use Rattle.run_model.specs.declared.stats.RunStatsFailureKind.{RunStatsFailureKind, TheVariants.SetupScript}
+use Rattle.run_model.specs.declared.stats.RunStatsFailureKind.{TheVariants.Test}
+use Rattle.run_model.specs.declared.stats.{FinalRunStats.FinalRunStats, RunFinishedStats.RunFinishedStats}
+use Rattle.run_model.specs.declared.stats.{RunFinishedStats.TheVariants.Single, RunFinishedStats.TheVariants.Stress}
 use Rattle.run_model.specs.declared.stats.FinalRunStats.TheVariants.{Success, NoTestsRun, Cancelled, Failed}
 use Rattle.run_model.specs.declared.stats.{StressFinalRunStats.StressFinalRunStats, StressRunStats.StressRunStats}
 use Rattle.run_model.specs.declared.stats.StressFinalRunStats.TheVariants as stress

@@ -1,12 +1,15 @@
 -- The outcome of a test's attempts, and its levels.
 use Rattle.std.specs.Prelude.{Bool, true, false, List, [], length, ◌==◌, if◌then◌else◌}
-use Rattle.{run_names.specs.declared.level.StatusLevel.StatusLevel, run_names.specs.declared.level.FinalStatusLevel.FinalStatusLevel, run_model.specs.Attempts.Attempts}
+use Rattle.{run_names.specs.declared.level.StatusLevel.StatusLevel}
+use Rattle.{run_names.specs.declared.level.FinalStatusLevel.FinalStatusLevel, run_model.specs.Attempts.Attempts}
 use Rattle.run_names.specs.declared.level.StatusLevel.TheVariants as status
 use Rattle.run_names.specs.declared.level.FinalStatusLevel.TheVariants as final
-use Rattle.run_model.specs.declared.status.{ExecuteStatus.ExecuteStatus, ExecutionDescription.ExecutionDescription, ExecutionResultDescription.ExecutionResultDescription}
+use Rattle.run_model.specs.declared.status.{ExecuteStatus.ExecuteStatus, ExecutionDescription.ExecutionDescription}
+use Rattle.run_model.specs.declared.status.{ExecutionResultDescription.ExecutionResultDescription}
 use Rattle.run_model.specs.declared.status.ExecutionDescription.TheVariants as described
 use Rattle.run_model.specs.declared.status.ExecutionResultDescription.TheVariants as outcome
-use Rattle.run_model.specs.declared.status.{FailureDescription.FailureDescription, StatusCase.StatusCase, StatusSummary.StatusSummary}
+use Rattle.run_model.specs.declared.status.{FailureDescription.FailureDescription, StatusCase.StatusCase}
+use Rattle.run_model.specs.declared.status.{StatusSummary.StatusSummary}
 use Rattle.run_model.specs.declared.status.FailureDescription.TheVariants as failure
 use Rattle.run_model.specs.declared.status.FlakyResult.TheVariants as flaky
 use Rattle.run_model.specs.declared.status.LeakTimeoutResult.TheVariants as leak

@@ -1,7 +1,8 @@
 //! What happens in a run.
 
 ghost use Rattle.std.specs.Prelude.{◌≡◌, IfOk};
-ghost use Rattle.run_model.specs.Names.{run_finished, run_started, test_attempt_failed_will_retry, test_finished, test_skipped, recorded_kind, unloaded_event};
+ghost use Rattle.run_model.specs.Names.{run_finished, run_started, test_attempt_failed_will_retry, test_finished};
+ghost use Rattle.run_model.specs.Names.{test_skipped, recorded_kind, unloaded_event};
 
 use crate::info::InfoResponse;
 use crate::output::{LiveSpec, RecordingSpec};
@@ -90,7 +91,8 @@ impl<'a> TestEvent<'a> {
         run_status: ExecuteStatus<LiveSpec>,
         delay_before_next_attempt: Nanos,
     ) -> Self
-        ensures { result ≡ test_attempt_failed_will_retry elapsed test_instance.entry run_status delay_before_next_attempt }
+        ensures { result
+            ≡ test_attempt_failed_will_retry elapsed test_instance.entry run_status delay_before_next_attempt }
     {
         TestEvent {
             elapsed,

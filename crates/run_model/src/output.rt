@@ -1,9 +1,13 @@
 //! What a test or a setup script wrote, as it was captured, and what went wrong with it.
 
 ghost use Rattle.std.specs.Prelude.{◌≡◌, [], length, ◌==◌, is_ok, true, IfOk, IsOk, IsTrue};
-ghost use Rattle.{std.specs.Option.unwrap_or, std.specs.Cow.cow_str_bytes, std.specs.Cow.IsOwnedStr, std.specs.Str.encode_utf8_all, bstr.specs.Utf8.lossy_chars};
-ghost use Rattle.run_model.specs.Names.{execution_with_output, silent_execution, silent_output, decoded_text, subslice_value, stdout_part, stderr_part, combined_part, has_errors, has_loaded_output};
-ghost use Rattle.run_model.specs.Names.{is_loaded, recorded_execution, recorded_member, recorded_output, unloaded_output};
+ghost use Rattle.{std.specs.Option.unwrap_or, std.specs.Cow.cow_str_bytes, std.specs.Cow.IsOwnedStr};
+ghost use Rattle.{std.specs.Str.encode_utf8_all, bstr.specs.Utf8.lossy_chars};
+ghost use Rattle.run_model.specs.Names.{execution_with_output, silent_execution, silent_output, decoded_text};
+ghost use Rattle.run_model.specs.Names.{subslice_value, stdout_part, stderr_part, combined_part, has_errors};
+ghost use Rattle.run_model.specs.Names.{has_loaded_output};
+ghost use Rattle.run_model.specs.Names.{is_loaded, recorded_execution, recorded_member, recorded_output};
+ghost use Rattle.run_model.specs.Names.{unloaded_output};
 
 use crate::status::ExecutionResultDescription;
 use bstr::ByteSlice;
@@ -514,7 +518,8 @@ impl ChildExecutionOutputDescription<LiveSpec> {
         outcome: &ExecutionResultDescription,
         captured: Option<ChildOutputDescription>,
     ) -> bool
-        ensures { IsTrue result → self.new ≡ execution_with_output (silent_execution outcome.now) (unwrap_or captured silent_output) }
+        ensures { IsTrue result
+            → self.new ≡ execution_with_output (silent_execution outcome.now) (unwrap_or captured silent_output) }
     {
         match self {
             ChildExecutionOutputDescription::Output {

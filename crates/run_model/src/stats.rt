@@ -1,7 +1,8 @@
 //! How many tests of a run passed, failed and so on, and the outcome of the run.
 
 ghost use Rattle.std.specs.Prelude.{◌≡◌};
-ghost use Rattle.run_model.specs.Stats.{has_failures, failure_kind, final_stats_of, final_stats_of_run, planned_stats, stress_stats_of};
+ghost use Rattle.run_model.specs.Stats.{has_failures, failure_kind, final_stats_of, final_stats_of_run, planned_stats};
+ghost use Rattle.run_model.specs.Stats.{stress_stats_of};
 
 use run_names::level::CancelReason;
 use run_names::stress::StressIndex;

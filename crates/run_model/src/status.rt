@@ -1,9 +1,14 @@
 //! How the attempts of a test ended.
 
 ghost use Rattle.std.specs.Prelude.{◌≡◌, ◌≤◌, IfSome, IfNone, IfOk, IsOk, false, [], ◌∷◌, ◌++◌, map, IsTrue, ◌↔◌};
-ghost use Rattle.run_model.specs.Names.{attempt_with_output, attempt_with_retry_data, code_failure, only_attempt, silent_attempt, is_aborted, is_abort, is_success, is_leaky_success, is_success_case};
-ghost use Rattle.run_model.specs.Names.{case_of, summary_of, described_case, described_last, described_prior, described_summary, final_level_of, final_level_by, status_level_of, status_level_by};
-ghost use Rattle.run_model.specs.Names.{recorded_attempt, recorded_attempts, recorded_script, unloaded_attempt, unloaded_attempts, unloaded_script};
+ghost use Rattle.run_model.specs.Names.{attempt_with_output, attempt_with_retry_data, code_failure, only_attempt};
+ghost use Rattle.run_model.specs.Names.{silent_attempt, is_aborted, is_abort, is_success, is_leaky_success};
+ghost use Rattle.run_model.specs.Names.{is_success_case};
+ghost use Rattle.run_model.specs.Names.{case_of, summary_of, described_case, described_last, described_prior};
+ghost use Rattle.run_model.specs.Names.{described_summary, final_level_of, final_level_by, status_level_of};
+ghost use Rattle.run_model.specs.Names.{status_level_by};
+ghost use Rattle.run_model.specs.Names.{recorded_attempt, recorded_attempts, recorded_script, unloaded_attempt};
+ghost use Rattle.run_model.specs.Names.{unloaded_attempts, unloaded_script};
 
 mod in_place;
 

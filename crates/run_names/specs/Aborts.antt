@@ -1,5 +1,6 @@
 -- How a process was ended from outside.
-use Rattle.{std.specs.Prelude.Bool, std.specs.Prelude.false, std.specs.Option.is_some, run_names.specs.declared.abort.AbortDescription.AbortDescription}
+use Rattle.{std.specs.Prelude.Bool, std.specs.Prelude.false, std.specs.Option.is_some}
+use Rattle.{run_names.specs.declared.abort.AbortDescription.AbortDescription}
 use Rattle.run_names.specs.declared.abort.AbortDescription.TheVariants as abort
 
 -- it holds a text, for which a copy allocates

@@ -1,5 +1,6 @@
 -- A value with memory of its own, which can be changed there.
-use Rattle.{std.specs.Borrow.Lends, std.specs.Borrow.MutBor, std.specs.Borrow.Fml, run_names.specs.contracts.boxed.Boxed.the_row}
+use Rattle.{std.specs.Borrow.Lends, std.specs.Borrow.MutBor, std.specs.Borrow.Fml}
+use Rattle.{run_names.specs.contracts.boxed.Boxed.the_row}
 use denote.RattleType.{RattleType}
 
 -- once the reference ends, the box holds what was last written through it

@@ -1,6 +1,7 @@
 -- The numbers of the levels, and the words of the reasons.
 use Rattle.std.specs.Prelude.{ℕ, List, Option, None, Some, codes}
-use Rattle.run_names.specs.declared.level.{StatusLevel.StatusLevel, FinalStatusLevel.FinalStatusLevel, CancelReason.CancelReason}
+use Rattle.run_names.specs.declared.level.{StatusLevel.StatusLevel, FinalStatusLevel.FinalStatusLevel}
+use Rattle.run_names.specs.declared.level.{CancelReason.CancelReason}
 use Rattle.run_names.specs.declared.level.StatusLevel.TheVariants as status
 use Rattle.run_names.specs.declared.level.FinalStatusLevel.TheVariants as final
 use Rattle.run_names.specs.declared.level.CancelReason.TheVariants as reason

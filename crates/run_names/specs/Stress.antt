@@ -1,7 +1,9 @@
 -- The iterations of a stress run: their order, and what remains of them.
 use Rattle.std.specs.Prelude.{ℕ, ◌-◌, List, [], ◌∷◌, Option, None, Some, nat_lt, if◌then◌else◌}
 use Rattle.std.specs.{declared.num.NonZeroU32.NonZeroU32, Int.NonZero.non_zero_u32_get}
-use Rattle.run_names.specs.declared.{stress.StressIndex.StressIndex, stress.StressRemaining.StressRemaining, time.Nanos.Nanos, stress.StressProgress.StressProgress, stress.StressProgress.TheVariants.Count, stress.StressProgress.TheVariants.Time}
+use Rattle.run_names.specs.declared.{stress.StressIndex.StressIndex, stress.StressRemaining.StressRemaining}
+use Rattle.run_names.specs.declared.{time.Nanos.Nanos, stress.StressProgress.StressProgress}
+use Rattle.run_names.specs.declared.{stress.StressProgress.TheVariants.Count, stress.StressProgress.TheVariants.Time}
 use Rattle.run_names.specs.declared.stress.StressCount.TheVariants as total
 use Rattle.run_names.specs.declared.stress.StressRemaining.TheVariants as remaining
 

@@ -1,7 +1,8 @@
 //! How a process was ended from outside.
 
 ghost use Rattle.std.specs.Prelude.{◌≡◌, IfOk, IsOk, false, nat_eq};
-ghost use Rattle.std.specs.{Cmp.partial_equiv_from_equiv, Option.is_some, Cmp.Lexicographic.pointwise, Cmp.Lexicographic.nat_list_eq_equiv};
+ghost use Rattle.std.specs.{Cmp.partial_equiv_from_equiv, Option.is_some, Cmp.Lexicographic.pointwise};
+ghost use Rattle.std.specs.{Cmp.Lexicographic.nat_list_eq_equiv};
 ghost use Rattle.run_names.specs.Aborts.{abort_has_text};
 
 use crate::memory::OutOfMemory;

@@ -1,7 +1,8 @@
 //! The mode of a run, when output is shown, and a profile's default filter.
 
 ghost use Rattle.std.specs.Prelude.{◌≡◌, ◌≢◌, IfOk, MatchOption};
-ghost use Rattle.run_names.specs.{Displays.display_name, Displays.is_immediate, Displays.is_final, Filters.default_config_filter, declared.config.TestOutputDisplay.TestOutputDisplay};
+ghost use Rattle.run_names.specs.{Displays.display_name, Displays.is_immediate, Displays.is_final};
+ghost use Rattle.run_names.specs.{Filters.default_config_filter, declared.config.TestOutputDisplay.TestOutputDisplay};
 
 use crate::memory::OutOfMemory;
 use crate::name::ProfileName;
@@ -84,7 +85,8 @@ impl TestOutputDisplay {
     /// assert_eq!(TestOutputDisplay::from_name("final"), Some(TestOutputDisplay::Final));
     /// ```
     pub fn from_name(name: &str) -> Option<TestOutputDisplay>
-        ensures { MatchOption result ((display : TestOutputDisplay) → name.now ≢ display_name display) (λ display. name.now ≡ display_name display) }
+        ensures { MatchOption result ((display : TestOutputDisplay) → name.now ≢ display_name display)
+            (λ display. name.now ≡ display_name display) }
     {
         match name {
             // The setting that most events have comes first.

@@ -1,8 +1,11 @@
 //! Names, which contracts see as the bytes of their texts.
 
 ghost use Rattle.std.specs.Prelude.{◌≡◌, ◌==◌, [], IfOk, OnErr, OnOk, Some};
-ghost use Rattle.std.{specs.Ordering.as_partial_cmp, specs.Ordering.nat_cmp, specs.Cmp.partial_order_from_own_ties, specs.Cmp.Rules.comparing, specs.Cmp.Lexicographic.pointwise, specs.Cmp.Lexicographic.slice_cmp, proofs.Common.rules};
-ghost use Rattle.run_names.specs.{Instances.instance_cmp, Names.module_path_of, Names.last_name_of, Names.optional_text};
+ghost use Rattle.std.{specs.Ordering.as_partial_cmp, specs.Ordering.nat_cmp, specs.Cmp.partial_order_from_own_ties};
+ghost use Rattle.std.{specs.Cmp.Rules.comparing, specs.Cmp.Lexicographic.pointwise, specs.Cmp.Lexicographic.slice_cmp};
+ghost use Rattle.std.{proofs.Common.rules};
+ghost use Rattle.run_names.specs.{Instances.instance_cmp, Names.module_path_of, Names.last_name_of};
+ghost use Rattle.run_names.specs.{Names.optional_text};
 
 use crate::memory::OutOfMemory;
 use std::alloc::Global;

@@ -1,7 +1,9 @@
 //! Stress runs: the tests run many times, to find those that fail now and then.
 
-ghost use Rattle.std.specs.{Prelude.◌≡◌, Option.option_map, Int.NonZero.non_zero_u32_get, Ordering.nat_cmp, Cmp.Lexicographic.slice_cmp};
-ghost use Rattle.run_names.specs.Stress.{completed_of, count_left, elapsed_of, remaining_of, remaining_value, stress_key, time_left};
+ghost use Rattle.std.specs.{Prelude.◌≡◌, Option.option_map, Int.NonZero.non_zero_u32_get, Ordering.nat_cmp};
+ghost use Rattle.std.specs.{Cmp.Lexicographic.slice_cmp};
+ghost use Rattle.run_names.specs.Stress.{completed_of, count_left, elapsed_of, remaining_of, remaining_value};
+ghost use Rattle.run_names.specs.Stress.{stress_key, time_left};
 
 use crate::time::Nanos;
 use std::cmp::Ordering;

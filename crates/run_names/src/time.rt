@@ -75,7 +75,8 @@ impl Error for DurationTooLong {}
 impl TryFrom<Nanos> for Duration {
     type Error = DurationTooLong;
 
-    ghost try_from_gives = { λ nanos result. (IsOk result ↔ FitsDuration nanos.0) × IfOk result (λ duration. as_nanos duration ≡ nanos.0) };
+    ghost try_from_gives = { λ nanos result. (IsOk result ↔ FitsDuration nanos.0)
+        × IfOk result (λ duration. as_nanos duration ≡ nanos.0) };
 
     fn try_from(nanos: Nanos) -> Result<Duration, DurationTooLong> {
         if nanos.0 > Duration::MAX.as_nanos() {

@@ -39,9 +39,11 @@ still_running mode is_terminating r =
 -- the run is about to be cancelled
 unfoldable pub begin_cancel_text : NextestRunMode → ℕ → Option CancelReason → ℕ → Fixed Line
 begin_cancel_text mode scripts why tests =
-    right 12 Fail (codes "Cancelling") ⧺ reason_text why ⧺ still_running mode (ends_at_once why) (running_of scripts tests) ⧺ words (codes "\n")
+    right 12 Fail (codes "Cancelling") ⧺ reason_text why ⧺ still_running mode (ends_at_once why)
+    (running_of scripts tests) ⧺ words (codes "\n")
 
 -- the run is about to be killed, immediately for each reason
 unfoldable pub begin_kill_text : NextestRunMode → ℕ → Option CancelReason → ℕ → Fixed Line
 begin_kill_text mode scripts why tests =
-    right 12 Fail (codes "Killing") ⧺ reason_text why ⧺ still_running mode false (running_of scripts tests) ⧺ words (codes "\n")
+    right 12 Fail (codes "Killing") ⧺ reason_text why ⧺ still_running mode false (running_of scripts tests) ⧺ words
+    (codes "\n")

@@ -1,7 +1,8 @@
 -- The header of a replay.
 use Rattle.std.specs.Prelude.{ℤ, pos, [], ◌++◌, codes, int_lt, unsigned_abs, if◌then◌else◌, false}
 use Rattle.jiff_core.specs.declared.civil.{date.Date.Date, datetime.DateTime.DateTime, time.Time.Time}
-use Rattle.{run_model.specs.declared.replay.ReplayHeader.ReplayHeader, run_text.specs.RunId.id_text, styled_text.specs.Names.Text, styled_text.specs.Names.last_digits, styled_text.specs.Names.plain}
+use Rattle.{run_model.specs.declared.replay.ReplayHeader.ReplayHeader, run_text.specs.RunId.id_text}
+use Rattle.{styled_text.specs.Names.Text, styled_text.specs.Names.last_digits, styled_text.specs.Names.plain}
 use Rattle.report_words.specs.Parts.{Parts, Line, Count, Pass, words, right, given_toned, drawn_given, ◌⧺◌}
 
 -- a minus before the year, if that is before the year 0
@@ -12,7 +13,8 @@ year_sign year = if int_lt year (pos 0) then codes "-" else []
 unfoldable pub date_text : Date → Text
 date_text d =
     year_sign d.year
-    ++ (last_digits 4 (unsigned_abs d.year) ++ (codes "-" ++ (last_digits 2 d.month ++ (codes "-" ++ last_digits 2 d.day))))
+    ++ (last_digits 4 (unsigned_abs d.year)
+    ++ (codes "-" ++ (last_digits 2 d.month ++ (codes "-" ++ last_digits 2 d.day))))
 
 -- a time of day: hour, minute and second in two digits
 unfoldable pub time_text : Time → Text
@@ -25,7 +27,8 @@ started_text d = date_text d.date ++ (plain (codes " ") ++ time_text d.time)
 -- the line that says which run is shown
 unfoldable pub replaying_line : ReplayHeader → Parts false Line
 replaying_line h =
-    right 12 Pass (codes "Replaying") ⧺ words (codes " recorded run ") ⧺ id_text h.unique_prefix h.run_id ⧺ words (codes "\n")
+    right 12 Pass (codes "Replaying") ⧺ words (codes " recorded run ") ⧺ id_text h.unique_prefix h.run_id ⧺ words
+    (codes "\n")
 
 -- the line that says when it started, and how it ended
 unfoldable pub started_line : ReplayHeader → Parts false Line

@@ -5,7 +5,8 @@ use Rattle.report_words.specs.Parts.{Fixed, Open, Line, Count, words, right, num
 
 -- how many of how many tests have finished
 unfoldable pub finished_of_initial : RunStats → Fixed Open
-finished_of_initial x = number Count x.finished_count ⧺ words (codes "/") ⧺ number Count x.initial_run_count ⧺ words (codes ": ")
+finished_of_initial x = number Count x.finished_count ⧺ words (codes "/") ⧺ number Count x.initial_run_count ⧺ words
+    (codes ": ")
 
 -- how long a run has taken, how many of its tests have finished, and its counts
 unfoldable pub input_enter_text : ℕ → RunStats → ℕ → Fixed Line

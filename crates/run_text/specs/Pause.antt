@@ -1,6 +1,7 @@
 -- A run that is paused, and continues.
 use Rattle.run_text.specs.Running.{is_none_running, running_of, running_text}
-use Rattle.{std.specs.Prelude.ℕ, std.specs.Prelude.codes, run_names.specs.declared.config.NextestRunMode.NextestRunMode, run_text.specs.declared.running.Running.Running}
+use Rattle.{std.specs.Prelude.ℕ, std.specs.Prelude.codes, run_names.specs.declared.config.NextestRunMode.NextestRunMode}
+use Rattle.{run_text.specs.declared.running.Running.Running}
 use Rattle.report_words.specs.Parts.{Fixed, Line, Open, none, choice, words, toned, right, ◌⧺◌, Pass, Count}
 
 -- how many units run, if any
@@ -11,7 +12,8 @@ now_running mode r =
 -- why the run is paused or continues, and how many units run
 unfoldable pub due_to_signal : NextestRunMode → ℕ → ℕ → Fixed Line
 due_to_signal mode scripts tests =
-    words (codes " due to ") ⧺ toned Count (codes "signal") ⧺ now_running mode (running_of scripts tests) ⧺ words (codes "\n")
+    words (codes " due to ") ⧺ toned Count (codes "signal") ⧺ now_running mode (running_of scripts tests) ⧺ words
+    (codes "\n")
 
 -- the run is paused
 unfoldable pub run_paused_text : NextestRunMode → ℕ → ℕ → Fixed Line

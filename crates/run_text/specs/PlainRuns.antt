@@ -1,7 +1,9 @@
 -- What must hold no escape character, so that the texts of a run hold none.
 use Rattle.run_model.specs.Names.{UniquePrefix, OwnedTestInstanceId, NotSeen}
-use Rattle.{std.specs.Prelude.Bool, std.specs.Prelude.Option, report_words.specs.PlainTexts.HoldsIf, styled_text.specs.Names.AllByRecursion, styled_text.specs.Names.HasNoEscape}
-use Rattle.text_parts.specs.Names.{ChildOutputDescription, LiveSpec, ReplayHeader, SetupScriptExecuteStatus, IsPlainResult, IsPlainWritten}
+use Rattle.{std.specs.Prelude.Bool, std.specs.Prelude.Option, report_words.specs.PlainTexts.HoldsIf}
+use Rattle.{styled_text.specs.Names.AllByRecursion, styled_text.specs.Names.HasNoEscape}
+use Rattle.text_parts.specs.Names.{ChildOutputDescription, LiveSpec, ReplayHeader, SetupScriptExecuteStatus}
+use Rattle.text_parts.specs.Names.{IsPlainResult, IsPlainWritten}
 
 -- a run's id in two parts holds no escape character
 abbrev pub IsPlainPrefix : UniquePrefix → Type 0

@@ -1,6 +1,8 @@
 -- The id of a run.
 use Rattle.std.specs.Prelude.{ℕ, false, List, Option, None, Some}
-use Rattle.{uuid.specs.Text.hyphenated_text, uuid.specs.Text.lower, run_names.specs.UniquePrefixes.UniquePrefix, report_words.proofs.lemmas.FreeWords.free-run_id, styled_text.specs.Names.Text, styled_text.specs.Names.HasNoEscape}
+use Rattle.{uuid.specs.Text.hyphenated_text, uuid.specs.Text.lower, run_names.specs.UniquePrefixes.UniquePrefix}
+use Rattle.{report_words.proofs.lemmas.FreeWords.free-run_id, styled_text.specs.Names.Text}
+use Rattle.{styled_text.specs.Names.HasNoEscape}
 use Rattle.report_words.specs.Parts.{Parts, Open, Count, RunIdPrefix, RunIdRest, Toned, given_toned, ◌⧺◌, plainly}
 
 -- a run's id, hyphenated in lower case

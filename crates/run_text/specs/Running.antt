@@ -1,7 +1,11 @@
 -- What runs while a run is cancelled, killed or paused.
 use Rattle.std.specs.Prelude.{ℕ, Bool, ◌&&◌, ◌==◌, codes}
-use Rattle.{run_names.specs.declared.config.NextestRunMode.NextestRunMode, run_text.specs.declared.running.Running.Running, report_words.proofs.lemmas.FreeWords.free-setup_scripts_word, report_words.proofs.lemmas.FreeWords.free-tests_word_if}
-use Rattle.report_words.specs.Names.{setup_scripts_word, tests_word, Fixed, Open, Word, words, number, ◌⧺◌, choice, Count}
+use Rattle.{run_names.specs.declared.config.NextestRunMode.NextestRunMode}
+use Rattle.{run_text.specs.declared.running.Running.Running}
+use Rattle.{report_words.proofs.lemmas.FreeWords.free-setup_scripts_word}
+use Rattle.{report_words.proofs.lemmas.FreeWords.free-tests_word_if}
+use Rattle.report_words.specs.Names.{setup_scripts_word, tests_word, Fixed, Open, Word, words, number, ◌⧺◌, choice}
+use Rattle.report_words.specs.Names.{Count}
 
 -- n setup scripts, and m tests
 abbrev pub running_of : ℕ → ℕ → Running

@@ -1,9 +1,13 @@
 -- Setup scripts: one has started, runs for long or has finished.
 use Rattle.std.specs.Prelude.{◌≡◌, ℕ, ◌+◌, Bool, true, false, ◌++◌, codes}
 use Rattle.styled_text.specs.Names.{decimal, Text, right_in, plain}
-use Rattle.{run_model.specs.Names.has_loaded_output, run_model.specs.Names.is_success, run_model.specs.Names.StatusLevel, text_parts.specs.declared.settings.Settings.Settings}
-use Rattle.text_parts.specs.Names.{ChildOutputDescription, LiveSpec, ExecutionResultDescription, SetupScriptExecuteStatus, bracketed, exceeded, script_output, short_word, Script, shown_script, is_level_shown}
-use Rattle.report_words.specs.Parts.{Parts, Fixed, Open, Line, Lines, Tone, Pass, Fail, Skip, none, words, right, given_right, ◌⧺◌, choice, drawn_given}
+use Rattle.{run_model.specs.Names.has_loaded_output, run_model.specs.Names.is_success}
+use Rattle.{run_model.specs.Names.StatusLevel, text_parts.specs.declared.settings.Settings.Settings}
+use Rattle.text_parts.specs.Names.{ChildOutputDescription, LiveSpec, ExecutionResultDescription}
+use Rattle.text_parts.specs.Names.{SetupScriptExecuteStatus, bracketed, exceeded, script_output, short_word, Script}
+use Rattle.text_parts.specs.Names.{shown_script, is_level_shown}
+use Rattle.report_words.specs.Parts.{Parts, Fixed, Open, Line, Lines, Tone, Pass, Fail, Skip, none, words, right}
+use Rattle.report_words.specs.Parts.{given_right, ◌⧺◌, choice, drawn_given}
 use Rattle.run_names.specs.declared.level.StatusLevel.TheVariants as level
 use Rattle.run_model.specs.declared.status.ExecutionResultDescription.TheVariants as outcome
 use Rattle.run_model.specs.declared.status.LeakTimeoutResult.TheVariants as leak
@@ -65,10 +69,12 @@ abbrev pub HasFailedScriptOutput : SetupScriptExecuteStatus LiveSpec ChildOutput
 HasFailedScriptOutput x = is_success x.result ≡ false → has_loaded_output x.output ≡ true
 
 -- the output of a script, unless the script succeeded
-unfoldable pub failed_script_output : Settings → SetupScriptExecuteStatus LiveSpec ChildOutputDescription → Parts false Lines
+unfoldable pub failed_script_output : Settings → SetupScriptExecuteStatus LiveSpec ChildOutputDescription
+    → Parts false Lines
 failed_script_output s x = choice (is_success x.result) none (script_output s x.result x.output)
 
 -- a script has finished
-unfoldable pub setup_script_finished_text : Settings → Script → SetupScriptExecuteStatus LiveSpec ChildOutputDescription → Parts false Line
+unfoldable pub setup_script_finished_text : Settings → Script → SetupScriptExecuteStatus LiveSpec ChildOutputDescription
+    → Parts false Line
 setup_script_finished_text s script x =
     setup_script_line script x.result x.time_taken.0 ⧺ failed_script_output s x

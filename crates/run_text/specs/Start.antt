@@ -1,12 +1,17 @@
 -- The start of a run: its id and profile, and which tests will run.
 use Rattle.std.specs.Prelude.{ℕ, false, List, Option, codes}
-use Rattle.{text_parts.specs.Names.TestCounts, text_parts.specs.Names.skip_counts_text, text_parts.specs.Names.bar_line, text_parts.specs.declared.settings.Settings.Settings}
-use Rattle.{run_model.specs.Names.UniquePrefix, run_model.specs.Names.NextestRunMode, styled_text.specs.Texts.Text, run_text.specs.RunId.id_text, report_words.proofs.lemmas.FreeWords.free-binaries_word, report_words.proofs.lemmas.FreeWords.free-tests_word_if}
-use Rattle.report_words.specs.Names.{tests_word, binaries_word, Parts, Fixed, Open, Line, Count, Pass, words, Word, right, number, given_toned, ◌⧺◌}
+use Rattle.{text_parts.specs.Names.TestCounts, text_parts.specs.Names.skip_counts_text, text_parts.specs.Names.bar_line}
+use Rattle.{text_parts.specs.declared.settings.Settings.Settings}
+use Rattle.{run_model.specs.Names.UniquePrefix, run_model.specs.Names.NextestRunMode, styled_text.specs.Texts.Text}
+use Rattle.{run_text.specs.RunId.id_text, report_words.proofs.lemmas.FreeWords.free-binaries_word}
+use Rattle.{report_words.proofs.lemmas.FreeWords.free-tests_word_if}
+use Rattle.report_words.specs.Names.{tests_word, binaries_word, Parts, Fixed, Open, Line, Count, Pass, words, Word}
+use Rattle.report_words.specs.Names.{right, number, given_toned, ◌⧺◌}
 
 -- the profile, at the end of that line
 unfoldable pub profile_text : Text → Parts false Line
-profile_text profile_name = words (codes " with nextest profile: ") ⧺ given_toned Count profile_name ⧺ words (codes "\n")
+profile_text profile_name = words (codes " with nextest profile: ") ⧺ given_toned Count profile_name ⧺ words
+    (codes "\n")
 
 -- the run's id and the profile
 unfoldable pub run_id_line : Option UniquePrefix → List ℕ → Text → Parts false Line

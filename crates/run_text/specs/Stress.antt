@@ -1,16 +1,24 @@
 -- The iterations of a stress run: one has started or has finished.
 use Rattle.std.specs.Prelude.{ℕ, ◌+◌, Option, None, Some, codes}
 use Rattle.text_parts.specs.Names.{RunStats, ThemeCharacters, bracketed, bar_line}
-use Rattle.{std.specs.Int.NonZero.non_zero_u32_get, run_text.specs.Summary.outcome_tone, run_text.specs.Summary.run_counts_text, report_words.proofs.lemmas.FreeWords.free-clock_text, report_words.proofs.lemmas.FreeWords.free-iterations_word}
-use Rattle.run_model.specs.Names.{NextestRunMode, final_stats_of, Remaining, Iterations, Endless, TimeLeft, completed_of, elapsed_of, remaining_of, StressProgress}
-use Rattle.{run_names.specs.declared.stress.StressProgress.TheVariants.Count, run_names.specs.declared.stress.StressProgress.TheVariants.Time, report_words.specs.declared.durations.DurationRounding.TheVariants.Floor, report_words.specs.declared.durations.DurationRounding.TheVariants.Ceiling}
-use Rattle.report_words.specs.Names.{clock_text, whole_seconds, iterations_word, Fixed, Open, Line, Pass, none, words, Word, Toned, right, number, ◌⧺◌, openly}
+use Rattle.{std.specs.Int.NonZero.non_zero_u32_get, run_text.specs.Summary.outcome_tone}
+use Rattle.{run_text.specs.Summary.run_counts_text, report_words.proofs.lemmas.FreeWords.free-clock_text}
+use Rattle.{report_words.proofs.lemmas.FreeWords.free-iterations_word}
+use Rattle.run_model.specs.Names.{NextestRunMode, final_stats_of, Remaining, Iterations, Endless, TimeLeft}
+use Rattle.run_model.specs.Names.{completed_of, elapsed_of, remaining_of, StressProgress}
+use Rattle.{run_names.specs.declared.stress.StressProgress.TheVariants.Count}
+use Rattle.{run_names.specs.declared.stress.StressProgress.TheVariants.Time}
+use Rattle.{report_words.specs.declared.durations.DurationRounding.TheVariants.Floor}
+use Rattle.{report_words.specs.declared.durations.DurationRounding.TheVariants.Ceiling}
+use Rattle.report_words.specs.Names.{clock_text, whole_seconds, iterations_word, Fixed, Open, Line, Pass, none, words}
+use Rattle.report_words.specs.Names.{Word, Toned, right, number, ◌⧺◌, openly}
 use Rattle.run_names.specs.declared.stress.StressCount.TheVariants as total
 use Rattle.report_words.specs.Parts as tone
 
 -- how many iterations are planned, if that is known
 unfoldable pub of_iterations : StressProgress → Fixed Open
-of_iterations (Count (total.Count count) elapsed completed) = words (codes "/") ⧺ number tone.Count (non_zero_u32_get count)
+of_iterations (Count (total.Count count) elapsed completed) = words (codes "/") ⧺ number tone.Count
+    (non_zero_u32_get count)
 of_iterations (Count total.Infinite elapsed completed) = openly none
 of_iterations (Time all elapsed completed) = openly none
 
@@ -29,12 +37,14 @@ of_time (Time all elapsed completed) = words (codes "/") ⧺ toned_clock (whole_
 
 -- how long the run has taken
 unfoldable pub elapsed_text : StressProgress → Fixed Open
-elapsed_text x = words (codes " (") ⧺ toned_clock (whole_seconds Floor (elapsed_of x).0) ⧺ of_time x ⧺ words (codes " elapsed so far")
+elapsed_text x = words (codes " (") ⧺ toned_clock (whole_seconds Floor (elapsed_of x).0) ⧺ of_time x ⧺ words
+    (codes " elapsed so far")
 
 -- what remains: iterations, or time, which is rounded up to whole seconds
 unfoldable pub count_left_text : ℕ → Fixed Open
 count_left_text n =
-    words (codes ", ") ⧺ number tone.Count n ⧺ words (codes " ") ⧺ Word (iterations_word n) (free-iterations_word n) ⧺ words (codes " remaining")
+    words (codes ", ") ⧺ number tone.Count n ⧺ words (codes " ") ⧺ Word (iterations_word n) (free-iterations_word n) ⧺
+    words (codes " remaining")
 
 unfoldable pub time_left_text : ℕ → Fixed Open
 time_left_text n = words (codes ", ") ⧺ toned_clock (whole_seconds Ceiling n) ⧺ words (codes " remaining")

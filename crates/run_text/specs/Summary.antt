@@ -2,11 +2,15 @@
 use Rattle.std.specs.Prelude.{ℕ, not, ◌&&◌, ◌==◌, Option, None, Some, codes}
 use Rattle.report_words.proofs.lemmas.FreeWords.{free-iterations_word, free-reason_words, free-tests_word_if}
 use Rattle.{styled_text.specs.Names.NonZeroU32, styled_text.specs.Names.non_zero_u32_get}
-use Rattle.run_model.specs.Names.{reason_words, final_stats_of, stress_stats_of, NextestRunMode, CancelReason, StressIndex}
-use Rattle.run_model.specs.{declared.stats.RunFinishedStats.TheVariants.Single, declared.stats.RunFinishedStats.TheVariants.Stress}
-use Rattle.text_parts.specs.Names.{RunStats, FinalRunStats, RunFinishedStats, StressFinalRunStats, StressRunStats, ThemeCharacters, bracketed, bar_line, counted_text, summary_text}
+use Rattle.run_model.specs.Names.{reason_words, final_stats_of, stress_stats_of, NextestRunMode, CancelReason}
+use Rattle.run_model.specs.Names.{StressIndex}
+use Rattle.run_model.specs.{declared.stats.RunFinishedStats.TheVariants.Single}
+use Rattle.run_model.specs.{declared.stats.RunFinishedStats.TheVariants.Stress}
+use Rattle.text_parts.specs.Names.{RunStats, FinalRunStats, RunFinishedStats, StressFinalRunStats, StressRunStats}
+use Rattle.text_parts.specs.Names.{ThemeCharacters, bracketed, bar_line, counted_text, summary_text}
 use Rattle.run_model.specs.declared.stats.FinalRunStats.TheVariants.{Success, NoTestsRun, Cancelled, Failed}
-use Rattle.report_words.specs.Names.{iterations_word, tests_word_if, Fixed, Open, Line, Tone, Pass, Fail, Skip, Count, none, words, Word, toned, Toned, right, number, ◌⧺◌, choice, openly}
+use Rattle.report_words.specs.Names.{iterations_word, tests_word_if, Fixed, Open, Line, Tone, Pass, Fail, Skip, Count}
+use Rattle.report_words.specs.Names.{none, words, Word, toned, Toned, right, number, ◌⧺◌, choice, openly}
 use Rattle.run_model.specs.declared.stats.StressFinalRunStats.TheVariants as stress
 
 -- the style of the outcome of a run
@@ -27,7 +31,8 @@ run_counts_text mode x =
     number Count x.finished_count
     ⧺ initial_count_text x
     ⧺ words (codes " ")
-    ⧺ Word (tests_word_if mode (not ((x.finished_count == 1) && (x.initial_run_count == 1)))) (free-tests_word_if mode _)
+    ⧺ Word (tests_word_if mode (not ((x.finished_count == 1) && (x.initial_run_count == 1))))
+    (free-tests_word_if mode _)
     ⧺ words (codes " run: ")
     ⧺ summary_text x
     ⧺ words (codes "\n")
@@ -61,7 +66,8 @@ failed_iterations n = choice (n == 0) none (words (codes ", ") ⧺ counted_text 
 -- why the last iteration was cancelled, if that is known
 unfoldable pub cancel_reason_text : Option CancelReason → Fixed Open
 cancel_reason_text None = openly none
-cancel_reason_text (Some reason) = words (codes "; cancelled due to ") ⧺ Toned Fail (reason_words reason) (free-reason_words reason)
+cancel_reason_text (Some reason) = words (codes "; cancelled due to ") ⧺ Toned Fail (reason_words reason)
+    (free-reason_words reason)
 
 abbrev pub cancelled_due_to : FinalRunStats → Fixed Open
 cancelled_due_to Success = openly none

@@ -30,7 +30,9 @@ pub fn write_begin_cancel<W: WriteStr>(
     reason: Option<CancelReason>,
     running: usize,
 ) -> Result<(), WriteFault>
-    ensures { Puts W.meaning w.old (paint settings.now.styles (begin_cancel_text settings.now.mode setup_scripts_running reason running)) result w.new }
+    ensures { Puts W.meaning w.old
+        (paint settings.now.styles (begin_cancel_text settings.now.mode setup_scripts_running reason running)) result
+        w.new }
 {
     let running = Running {
         setup_scripts: setup_scripts_running,
@@ -54,7 +56,9 @@ pub fn write_begin_kill<W: WriteStr>(
     reason: Option<CancelReason>,
     running: usize,
 ) -> Result<(), WriteFault>
-    ensures { Puts W.meaning w.old (paint settings.now.styles (begin_kill_text settings.now.mode setup_scripts_running reason running)) result w.new }
+    ensures { Puts W.meaning w.old
+        (paint settings.now.styles (begin_kill_text settings.now.mode setup_scripts_running reason running)) result
+        w.new }
 {
     let running = Running {
         setup_scripts: setup_scripts_running,

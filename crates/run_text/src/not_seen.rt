@@ -31,7 +31,8 @@ pub fn write_not_seen<W: WriteStr>(
     settings: &Settings,
     outstanding: &Option<NotSeen>,
 ) -> Result<(), WriteFault>
-    ensures { Puts W.meaning w.old (paint settings.now.styles (not_seen_text settings.now.mode outstanding.now)) result w.new }
+    ensures { Puts W.meaning w.old (paint settings.now.styles (not_seen_text settings.now.mode outstanding.now))
+        result w.new }
 {
     match outstanding {
         None => Ok(()),
@@ -51,7 +52,8 @@ fn write_note<W: WriteStr>(
     total: usize,
     listed: &[OwnedTestInstanceId],
 ) -> Result<(), WriteFault>
-    ensures { Puts W.meaning w.old (paint settings.now.styles (not_seen_note settings.now.mode total listed.now)) result w.new }
+    ensures { Puts W.meaning w.old (paint settings.now.styles (not_seen_note settings.now.mode total listed.now))
+        result w.new }
 {
     if total == 0 {
         return Ok(());

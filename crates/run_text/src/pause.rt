@@ -28,7 +28,8 @@ pub fn write_run_paused<W: WriteStr>(
     setup_scripts_running: usize,
     running: usize,
 ) -> Result<(), WriteFault>
-    ensures { Puts W.meaning w.old (paint settings.now.styles (run_paused_text settings.now.mode setup_scripts_running running)) result w.new }
+    ensures { Puts W.meaning w.old
+        (paint settings.now.styles (run_paused_text settings.now.mode setup_scripts_running running)) result w.new }
 {
     write_pause(w, settings, "Pausing", setup_scripts_running, running)
 }
@@ -45,7 +46,8 @@ pub fn write_run_continued<W: WriteStr>(
     setup_scripts_running: usize,
     running: usize,
 ) -> Result<(), WriteFault>
-    ensures { Puts W.meaning w.old (paint settings.now.styles (run_continued_text settings.now.mode setup_scripts_running running)) result w.new }
+    ensures { Puts W.meaning w.old
+        (paint settings.now.styles (run_continued_text settings.now.mode setup_scripts_running running)) result w.new }
 {
     write_pause(w, settings, "Continuing", setup_scripts_running, running)
 }
@@ -58,7 +60,10 @@ fn write_pause<W: WriteStr>(
     setup_scripts_running: usize,
     running: usize,
 ) -> Result<(), WriteFault>
-    ensures { Puts W.meaning w.old (styled settings.now.styles.pass (right_in 12 word.now) ++ paint settings.now.styles (due_to_signal settings.now.mode setup_scripts_running running)) result w.new }
+    ensures { Puts W.meaning w.old
+        (styled settings.now.styles.pass (right_in 12 word.now)
+        ++ paint settings.now.styles (due_to_signal settings.now.mode setup_scripts_running running))
+        result w.new }
 {
     let running = Running {
         setup_scripts: setup_scripts_running,

@@ -1,7 +1,8 @@
 //! What runs while a run is cancelled, killed or paused.
 
 ghost use Rattle.std.specs.Prelude.{◌≡◌};
-ghost use Rattle.{report_words.specs.Parts.paint, run_text.specs.Running.is_none_running, run_text.specs.Running.running_text};
+ghost use Rattle.{report_words.specs.Parts.paint, run_text.specs.Running.is_none_running};
+ghost use Rattle.{run_text.specs.Running.running_text};
 
 use report_text::helpers::plural::{setup_scripts_str, tests_str};
 use run_model::config::NextestRunMode;

@@ -3,7 +3,10 @@
 ghost use Rattle.std.specs.Prelude.{◌≡◌};
 ghost use Rattle.styled_text.specs.Names.{styled, right_in, Puts};
 ghost use Rattle.{text_parts.specs.Script.script_of, report_words.specs.Parts.paint, report_words.specs.Parts.style_of};
-ghost use Rattle.run_text.specs.SetupScript.{HasFailedScriptOutput, failed_script_output, script_counter, script_status_tone, script_status_words, setup_script_finished_text, setup_script_slow_text, setup_script_started_text, slow_script_level, slow_script_words};
+ghost use Rattle.run_text.specs.SetupScript.{HasFailedScriptOutput, failed_script_output, script_counter};
+ghost use Rattle.run_text.specs.SetupScript.{script_status_tone, script_status_words, setup_script_finished_text};
+ghost use Rattle.run_text.specs.SetupScript.{setup_script_slow_text, setup_script_started_text, slow_script_level};
+ghost use Rattle.run_text.specs.SetupScript.{slow_script_words};
 
 use itoa::Buffer;
 use run_model::level::StatusLevel;
@@ -43,7 +46,8 @@ pub fn write_setup_script_started<W: WriteStr>(
     total: usize,
     script: ScriptInstance<'_>,
 ) -> Result<(), WriteFault>
-    ensures { Puts W.meaning w.old (paint styles.now (setup_script_started_text index total (script_of script.entry))) result w.new }
+    ensures { Puts W.meaning w.old (paint styles.now (setup_script_started_text index total (script_of script.entry)))
+        result w.new }
 {
     let counter = ScriptCounter(index, total);
     let word = Right(12, styles.pass, "SETUP");
@@ -80,7 +84,10 @@ pub fn write_setup_script_slow<W: WriteStr>(
     elapsed: Nanos,
     will_terminate: bool,
 ) -> Result<(), WriteFault>
-    ensures { Puts W.meaning w.old (paint settings.now.styles (setup_script_slow_text settings.now (script_of script.entry) elapsed.0 will_terminate)) result w.new }
+    ensures { Puts W.meaning w.old
+        (paint settings.now.styles
+        (setup_script_slow_text settings.now (script_of script.entry) elapsed.0 will_terminate))
+        result w.new }
 {
     let styles = &settings.styles;
     let line = (
@@ -139,7 +146,9 @@ pub fn write_setup_script_finished<W: WriteStr>(
     run_status: &SetupScriptExecuteStatus<LiveSpec>,
 ) -> Result<(), WriteFault>
     requires { HasFailedScriptOutput run_status.now }
-    ensures { Puts W.meaning w.old (paint settings.now.styles (setup_script_finished_text settings.now (script_of script.entry) run_status.now)) result w.new }
+    ensures { Puts W.meaning w.old
+        (paint settings.now.styles (setup_script_finished_text settings.now (script_of script.entry) run_status.now))
+        result w.new }
 {
     let styles = &settings.styles;
     let line = (
@@ -158,7 +167,8 @@ pub fn write_setup_script_finished<W: WriteStr>(
 struct ScriptStatus<'a>(&'a Styles, &'a ExecutionResultDescription);
 
 impl WriteText for ScriptStatus<'_> {
-    ghost text = { λ s. styled (style_of s.0.now (script_status_tone s.1.now)) (right_in 12 (script_status_words s.1.now)) };
+    ghost text = { λ s. styled (style_of s.0.now (script_status_tone s.1.now))
+        (right_in 12 (script_status_words s.1.now)) };
 
     fn write_to<W: WriteStr>(&self, w: &mut W) -> Result<(), WriteFault> {
         let ScriptStatus(styles, outcome) = *self;
@@ -194,7 +204,8 @@ fn write_failed_script_output<W: WriteStr>(
     run_status: &SetupScriptExecuteStatus<LiveSpec>,
 ) -> Result<(), WriteFault>
     requires { HasFailedScriptOutput run_status.now }
-    ensures { Puts W.meaning w.old (paint settings.now.styles (failed_script_output settings.now run_status.now)) result w.new }
+    ensures { Puts W.meaning w.old (paint settings.now.styles (failed_script_output settings.now run_status.now))
+        result w.new }
 {
     let outcome = &run_status.result;
     if outcome.is_success() {

@@ -1,6 +1,8 @@
 //! The start of a run: its id and profile, and the tests that will run.
 
-ghost use Rattle.{writers.specs.Writer.Puts, report_words.specs.Parts.paint, unit_report.specs.SkipCounts.skip_counts_text, run_text.specs.Start.run_started_text, run_text.specs.Start.test_counts_text};
+ghost use Rattle.{writers.specs.Writer.Puts, report_words.specs.Parts.paint};
+ghost use Rattle.{unit_report.specs.SkipCounts.skip_counts_text, run_text.specs.Start.run_started_text};
+ghost use Rattle.{run_text.specs.Start.test_counts_text};
 
 use crate::run_id::ShownRunId;
 use report_text::helpers::plural::{binaries_str, tests_str};
@@ -38,7 +40,10 @@ pub fn write_run_started<W: WriteStr>(
     run_id: &Uuid,
     profile_name: &ProfileName,
 ) -> Result<(), WriteFault>
-    ensures { Puts W.meaning w.old (paint settings.now.styles (run_started_text settings.now unique_prefix.now test_list.now run_id.now profile_name.now)) result w.new }
+    ensures { Puts W.meaning w.old
+        (paint settings.now.styles
+        (run_started_text settings.now unique_prefix.now test_list.now run_id.now profile_name.now))
+        result w.new }
 {
     let (mode, styles) = (settings.mode, &settings.styles);
     let run_id = (
@@ -82,7 +87,8 @@ impl WriteText for TestsAndBinaries<'_> {
 struct Skipped<'a>(&'a Settings, &'a TestCounts);
 
 impl WriteText for Skipped<'_> {
-    ghost text = { λ s. paint s.0.now.styles (skip_counts_text s.0.now.mode s.1.now.skip_counts s.0.now.default_filter) };
+    ghost text = { λ s. paint s.0.now.styles
+        (skip_counts_text s.0.now.mode s.1.now.skip_counts s.0.now.default_filter) };
 
     fn write_to<W: WriteStr>(&self, w: &mut W) -> Result<(), WriteFault> {
         let Skipped(settings, counts) = *self;

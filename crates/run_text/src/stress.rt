@@ -1,8 +1,10 @@
 //! The iterations of a stress run: one has started or has finished.
 
 ghost use Rattle.styled_text.specs.Names.{styled, non_zero_u32_get, option_map, Puts};
-ghost use Rattle.{run_names.specs.Stress.remaining_value, report_words.specs.Names.paint, report_words.specs.Names.clock_text, report_words.specs.Names.whole_seconds};
-ghost use Rattle.run_text.specs.Stress.{count_left_text, iteration_text, of_iterations, of_time, remaining_text, stress_sub_run_finished_text, stress_sub_run_started_text};
+ghost use Rattle.{run_names.specs.Stress.remaining_value, report_words.specs.Names.paint};
+ghost use Rattle.{report_words.specs.Names.clock_text, report_words.specs.Names.whole_seconds};
+ghost use Rattle.run_text.specs.Stress.{count_left_text, iteration_text, of_iterations, of_time, remaining_text};
+ghost use Rattle.run_text.specs.Stress.{stress_sub_run_finished_text, stress_sub_run_started_text};
 
 use crate::summary::{RunCounts, outcome_style};
 use report_text::helpers::plural::iterations_str;
@@ -37,7 +39,9 @@ pub fn write_stress_sub_run_started<W: WriteStr>(
     settings: &Settings,
     progress: &StressProgress,
 ) -> Result<(), WriteFault>
-    ensures { Puts W.meaning w.old (paint settings.now.styles (stress_sub_run_started_text settings.now.theme_characters progress.now)) result w.new }
+    ensures { Puts W.meaning w.old
+        (paint settings.now.styles (stress_sub_run_started_text settings.now.theme_characters progress.now)) result
+        w.new }
 {
     let styles = &settings.styles;
     let elapsed = (
@@ -177,7 +181,10 @@ pub fn write_stress_sub_run_finished<W: WriteStr>(
     sub_elapsed: Nanos,
     sub_stats: &RunStats,
 ) -> Result<(), WriteFault>
-    ensures { Puts W.meaning w.old (paint settings.now.styles (stress_sub_run_finished_text settings.now.mode progress.now sub_elapsed.0 sub_stats.now)) result w.new }
+    ensures { Puts W.meaning w.old
+        (paint settings.now.styles
+        (stress_sub_run_finished_text settings.now.mode progress.now sub_elapsed.0 sub_stats.now))
+        result w.new }
 {
     let styles = &settings.styles;
     let mode = settings.mode;

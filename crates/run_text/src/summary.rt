@@ -2,7 +2,8 @@
 
 ghost use Rattle.std.specs.Prelude.{◌≡◌};
 ghost use Rattle.{writers.specs.Writer.Puts, report_words.specs.Parts.paint, report_words.specs.Parts.style_of};
-ghost use Rattle.run_text.specs.Summary.{cancelled_due_to, last_number, of_total, outcome_tone, run_counts_text, run_finished_text, stress_outcome_tone, summary_tone};
+ghost use Rattle.run_text.specs.Summary.{cancelled_due_to, last_number, of_total, outcome_tone, run_counts_text};
+ghost use Rattle.run_text.specs.Summary.{run_finished_text, stress_outcome_tone, summary_tone};
 
 use report_text::helpers::plural::{iterations_str, tests_plural_if};
 use run_model::config::NextestRunMode;
@@ -31,7 +32,10 @@ pub fn write_run_finished<W: WriteStr>(
     elapsed: Nanos,
     run_stats: &RunFinishedStats,
 ) -> Result<(), WriteFault>
-    ensures { Puts W.meaning w.old (paint settings.now.styles (run_finished_text settings.now.theme_characters settings.now.mode elapsed.0 run_stats.now)) result w.new }
+    ensures { Puts W.meaning w.old
+        (paint settings.now.styles
+        (run_finished_text settings.now.theme_characters settings.now.mode elapsed.0 run_stats.now))
+        result w.new }
 {
     let styles = &settings.styles;
     let bar = BarLine(settings.theme_characters);

@@ -1,5 +1,7 @@
 -- How a run is reported where a scene has no line for it.
-use Rattle.{std.specs.Prelude.false, std.specs.Prelude.None, scene_events.specs.declared.scene.SceneConfig.SceneConfig, run_names.specs.declared.config.NextestRunMode.TheVariants.Test, run_names.specs.declared.level.FinalStatusLevel.TheVariants.Flaky}
+use Rattle.{std.specs.Prelude.false, std.specs.Prelude.None, scene_events.specs.declared.scene.SceneConfig.SceneConfig}
+use Rattle.{run_names.specs.declared.config.NextestRunMode.TheVariants.Test}
+use Rattle.{run_names.specs.declared.level.FinalStatusLevel.TheVariants.Flaky}
 
 abbrev pub unconfigured : SceneConfig
 unconfigured = record {

@@ -1,5 +1,6 @@
 -- Moments as contracts see them: a day of the calendar, and a time of day to the second.
-use Rattle.{std.specs.Prelude.ℕ, std.specs.Prelude.ℤ, jiff_core.specs.declared.civil.date.Date.Date, jiff_core.specs.declared.civil.datetime.DateTime.DateTime, jiff_core.specs.declared.civil.time.Time.Time}
+use Rattle.{std.specs.Prelude.ℕ, std.specs.Prelude.ℤ, jiff_core.specs.declared.civil.date.Date.Date}
+use Rattle.{jiff_core.specs.declared.civil.datetime.DateTime.DateTime, jiff_core.specs.declared.civil.time.Time.Time}
 
 pub record Day : Type 0 where
   pub year : ℤ

@@ -1,6 +1,7 @@
 -- The statistics of a short form.
 use Rattle.{std.specs.Prelude.◌<◌, std.specs.Prelude.◌^◌, run_model.specs.declared.stats.RunStats.RunStats}
-use Rattle.scene_events.specs.declared.scene.packed_stats.{PackedCounts.PackedCounts, PackedCounts.TheVariants.Short, PackedCounts.TheVariants.Whole, ShortCounts.ShortCounts}
+use Rattle.scene_events.specs.declared.scene.packed_stats.{PackedCounts.PackedCounts, PackedCounts.TheVariants.Short}
+use Rattle.scene_events.specs.declared.scene.packed_stats.{PackedCounts.TheVariants.Whole, ShortCounts.ShortCounts}
 
 -- each count is that of its short form
 abbrev pub short_stats : ShortCounts → RunStats

@@ -1,9 +1,13 @@
--- The output of a unit, as a scene holds it and as an event has it, and the outputs of a test's attempts before the last one.
+-- The output of a unit, as a scene holds it and as an event has it, and the outputs of a test's attempts before the
+-- last one.
 use Rattle.std.specs.Prelude.{ℕ, List, [], length, slice_get, slice_set, Bool, ◌==◌, if◌then◌else◌, Option, None, Some}
-use Rattle.{std.specs.Option.option_map_or, run_model.specs.declared.status.ExecutionResultDescription.ExecutionResultDescription}
+use Rattle.{std.specs.Option.option_map_or}
+use Rattle.{run_model.specs.declared.status.ExecutionResultDescription.ExecutionResultDescription}
 use Rattle.run_model.specs.Names.{Attempt, Written, attempt_with_output, has_loaded_output}
-use Rattle.run_model.specs.{declared.output.ChildOutputDescription.TheVariants.Split, declared.output.ChildOutputDescription.ChildOutputDescription}
-use Rattle.scene_events.specs.declared.scene.outputs.SceneOutput.{SceneOutput, TheVariants.Output, TheVariants.StartError}
+use Rattle.run_model.specs.{declared.output.ChildOutputDescription.TheVariants.Split}
+use Rattle.run_model.specs.{declared.output.ChildOutputDescription.ChildOutputDescription}
+use Rattle.scene_events.specs.declared.scene.outputs.SceneOutput.{SceneOutput, TheVariants.Output}
+use Rattle.scene_events.specs.declared.scene.outputs.SceneOutput.{TheVariants.StartError}
 use Rattle.run_model.specs.declared.output.ChildExecutionOutputDescription.TheVariants as described
 
 -- both streams were captured, and hold nothing
@@ -27,7 +31,8 @@ loaded (StartError error) captured = StartError error
 -- attempts of which the one at this index captured this, from 0; an index after them changes nothing
 abbrev pub with_output_at : ℕ → ChildOutputDescription → List Attempt → List Attempt
 with_output_at place captured attempts =
-    option_map_or (λ attempt. slice_set attempts place (attempt_with_output attempt captured)) (slice_get attempts place) attempts
+    option_map_or (λ attempt. slice_set attempts place (attempt_with_output attempt captured))
+    (slice_get attempts place) attempts
 
 -- the attempts of a test before the last one, and what that one wrote
 pub record BeforeLast : Type 0 where

@@ -1,8 +1,13 @@
 -- What a scene asks of a reporter.
 use Rattle.std.specs.Prelude.{◌≡◌, ℕ, List, [], ◌∷◌, ◌++◌, Bool, true, false, not, ◌||◌, Option, Result, Ok, Err}
 use Rattle.run_model.specs.Names.{has_loaded_output, planned_stats, is_success, CancelReason, TestInstanceId}
-use Rattle.run_model.specs.{declared.event.TestEventKind.TestEventKind, declared.replay.ReplayHeader.ReplayHeader, declared.stats.RunStats.RunStats, declared.call.ReportCall.ReportCall}
-use Rattle.scene_events.specs.{Moments.moment_of, SceneAttempts.script_status, declared.scene.event.SceneEvent.SceneEvent, declared.scene.run_events.SceneHeader.SceneHeader, declared.scene.unit_events.SceneScript.SceneScript, declared.scene.unit_events.SceneTest.SceneTest}
+use Rattle.run_model.specs.{declared.event.TestEventKind.TestEventKind, declared.replay.ReplayHeader.ReplayHeader}
+use Rattle.run_model.specs.{declared.stats.RunStats.RunStats, declared.call.ReportCall.ReportCall}
+use Rattle.scene_events.specs.{Moments.moment_of, SceneAttempts.script_status}
+use Rattle.scene_events.specs.{declared.scene.event.SceneEvent.SceneEvent}
+use Rattle.scene_events.specs.{declared.scene.run_events.SceneHeader.SceneHeader}
+use Rattle.scene_events.specs.{declared.scene.unit_events.SceneScript.SceneScript}
+use Rattle.scene_events.specs.{declared.scene.unit_events.SceneTest.SceneTest}
 use Rattle.run_model.specs.declared.event.TestEventKind.TheVariants as kind
 use Rattle.run_model.specs.declared.info.InfoResponse.TheVariants as response
 use Rattle.run_model.specs.declared.call.ReportCall.TheVariants as call
@@ -22,20 +27,24 @@ nothing_counted reason = record (planned_stats 0) { cancel_reason = reason }
 
 -- a reporter's event says what a scene's does
 abbrev pub SaysSame : SceneEvent → TestEventKind → Type 0
-SaysSame (scene.RunStarted e) (kind.RunStarted test_list run_id profile_name) = (test_list ≡ e.test_list) × (run_id ≡ e.run_id) × (profile_name ≡ e.profile_name)
+SaysSame (scene.RunStarted e) (kind.RunStarted test_list run_id profile_name) = (test_list ≡ e.test_list)
+    × (run_id ≡ e.run_id) × (profile_name ≡ e.profile_name)
 SaysSame (scene.StressSubRunStarted e) (kind.StressSubRunStarted progress) = progress ≡ e
 SaysSame (scene.SetupScriptStarted e) (kind.SetupScriptStarted stress index total id program args) =
     (stress ≡ e.stress_index) × (index ≡ e.index) × (total ≡ e.total) × IsOfScript e.script id program args
 SaysSame (scene.SetupScriptSlow e) (kind.SetupScriptSlow stress id program args elapsed will_terminate) =
-    (stress ≡ e.stress_index) × IsOfScript e.script id program args × (elapsed ≡ e.elapsed) × (will_terminate ≡ e.will_terminate)
+    (stress ≡ e.stress_index) × IsOfScript e.script id program args × (elapsed ≡ e.elapsed)
+    × (will_terminate ≡ e.will_terminate)
 SaysSame (scene.SetupScriptFinished e) (kind.SetupScriptFinished stress id program args status) =
     (stress ≡ e.stress_index) × IsOfScript e.script id program args × (status ≡ script_status e.attempt)
 SaysSame (scene.TestStarted e) (kind.TestStarted stress test stats command) =
     (stress ≡ e.test.stress_index) × HasNames e.test test × (stats ≡ e.current_stats) × (command ≡ e.command_line)
 SaysSame (scene.TestSlow e) (kind.TestSlow stress test retry_data elapsed will_terminate) =
-    (stress ≡ e.test.stress_index) × HasNames e.test test × (retry_data ≡ e.retry_data) × (elapsed ≡ e.elapsed) × (will_terminate ≡ e.will_terminate)
+    (stress ≡ e.test.stress_index) × HasNames e.test test × (retry_data ≡ e.retry_data) × (elapsed ≡ e.elapsed)
+    × (will_terminate ≡ e.will_terminate)
 SaysSame (scene.TestAttemptFailedWillRetry e) (kind.TestAttemptFailedWillRetry stress test status delay failure) =
-    (stress ≡ e.test.stress_index) × HasNames e.test test × (status ≡ e.attempt) × (delay ≡ e.delay_before_next_attempt) × (failure ≡ e.failure_output)
+    (stress ≡ e.test.stress_index) × HasNames e.test test × (status ≡ e.attempt) × (delay ≡ e.delay_before_next_attempt)
+    × (failure ≡ e.failure_output)
 SaysSame (scene.TestRetryStarted e) (kind.TestRetryStarted stress test retry_data command) =
     (stress ≡ e.test.stress_index) × HasNames e.test test × (retry_data ≡ e.retry_data) × (command ≡ e.command_line)
 SaysSame (scene.TestFinished e) (kind.TestFinished stress test success failure statuses stats) =
@@ -47,11 +56,14 @@ SaysSame (scene.RunBeginCancel e) (kind.RunBeginCancel scripts stats running) =
     (scripts ≡ e.setup_scripts_running) × (running ≡ e.running) × (stats ≡ nothing_counted e.reason)
 SaysSame (scene.RunBeginKill e) (kind.RunBeginKill scripts stats running) =
     (scripts ≡ e.setup_scripts_running) × (running ≡ e.running) × (stats ≡ nothing_counted e.reason)
-SaysSame (scene.RunPaused e) (kind.RunPaused scripts running) = (scripts ≡ e.setup_scripts_running) × (running ≡ e.running)
-SaysSame (scene.RunContinued e) (kind.RunContinued scripts running) = (scripts ≡ e.setup_scripts_running) × (running ≡ e.running)
+SaysSame (scene.RunPaused e) (kind.RunPaused scripts running) = (scripts ≡ e.setup_scripts_running)
+    × (running ≡ e.running)
+SaysSame (scene.RunContinued e) (kind.RunContinued scripts running) = (scripts ≡ e.setup_scripts_running)
+    × (running ≡ e.running)
 SaysSame (scene.InfoStarted e) (kind.InfoStarted total stats) = (total ≡ e.running) × (stats ≡ e.current_stats)
 SaysSame (scene.ScriptAnswered e) (kind.InfoResponse index total (response.SetupScript r)) =
-    (index ≡ e.index) × (total ≡ e.total) × (r.stress_index ≡ e.stress_index) × IsOfScript e.script r.script_id r.program r.args
+    (index ≡ e.index) × (total ≡ e.total) × (r.stress_index ≡ e.stress_index)
+    × IsOfScript e.script r.script_id r.program r.args
     × (r.state ≡ e.answer.state) × (r.output ≡ e.answer.output)
 SaysSame (scene.TestAnswered e) (kind.InfoResponse index total (response.Test r)) =
     (index ≡ e.index) × (total ≡ e.total) × (r.stress_index ≡ e.test.stress_index) × HasNames e.test r.test_instance
@@ -88,7 +100,8 @@ IsCallOf event other = ⊥
 -- another one. A header counts as well, though none is refused
 abbrev pub may_be_refused : SceneEvent → Bool
 may_be_refused (scene.TestFinished e) = not (has_loaded_output e.attempts.last.output)
-may_be_refused (scene.TestAttemptFailedWillRetry e) = is_success e.attempt.result || not (has_loaded_output e.attempt.output)
+may_be_refused (scene.TestAttemptFailedWillRetry e) = is_success e.attempt.result || not
+    (has_loaded_output e.attempt.output)
 may_be_refused (scene.SetupScriptFinished e) = not (has_loaded_output e.attempt.output)
 may_be_refused (scene.ScriptAnswered e) = not (has_loaded_output e.answer.output)
 may_be_refused (scene.TestAnswered e) = not (has_loaded_output e.answer.output)

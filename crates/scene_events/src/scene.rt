@@ -32,7 +32,8 @@ impl ParsedRun {
         ensures config { self.new.config ≡ self.old.config }
         ensures events { OnOk result (self.new.events.items ≡ self.old.events.items ++ event ∷ []) }
         ensures lines { OnOk result (self.new.lines.items ≡ self.old.lines.items ++ line ∷ []) }
-        ensures kept { OnErr result ((self.new.events.items ≡ self.old.events.items) × (self.new.lines.items ≡ self.old.lines.items)) }
+        ensures kept { OnErr result
+            ((self.new.events.items ≡ self.old.events.items) × (self.new.lines.items ≡ self.old.lines.items)) }
     {
         let count = self.events.len();
         self.events.push(event)?;

@@ -1,6 +1,9 @@
 -- Counts, as pairs of a key and a number.
-use Rattle.{std.specs.List.list_any, std.specs.Option.option_and_then, std.specs.Option.option_map, run_model.specs.Stats.planned_stats, run_model.specs.declared.event.SkipCounts.SkipCounts, run_model.specs.declared.stats.RunStats.RunStats}
-use Rattle.std.proofs.Common.{refl, ◌≡◌, ◌==◌, ◌+◌, ℕ, List, [], ◌∷◌, Bool, true, false, if◌then◌else◌, get_or, slice_set, Option, None, Some, codes, bytes_eq, replicate}
+use Rattle.{std.specs.List.list_any, std.specs.Option.option_and_then, std.specs.Option.option_map}
+use Rattle.{run_model.specs.Stats.planned_stats, run_model.specs.declared.event.SkipCounts.SkipCounts}
+use Rattle.{run_model.specs.declared.stats.RunStats.RunStats}
+use Rattle.std.proofs.Common.{refl, ◌≡◌, ◌==◌, ◌+◌, ℕ, List, [], ◌∷◌, Bool, true, false, if◌then◌else◌, get_or}
+use Rattle.std.proofs.Common.{slice_set, Option, None, Some, codes, bytes_eq, replicate}
 use Rattle.scene_fields.specs.{Split.cut, Split.split_on, Numbers.number_in, Values.reason_in}
 
 -- a key, and what its value makes of the counts; None for a bad value
@@ -14,7 +17,8 @@ with_number counts t = option_map counts (number_in 64 t)
 -- the index of the row with this key, counted from `place`, and the counts with this value
 abbrev pub row_in : {C : Type 0} → ℕ → List (Row C) → List ℕ → List ℕ → Option (ℕ × C)
 row_in place [] word value = None
-row_in place (row ∷ rows) word value = if bytes_eq word row.0 then option_map (λ counts. (place, counts)) (row.1 value) else row_in (place + 1) rows word value
+row_in place (row ∷ rows) word value = if bytes_eq word row.0 then option_map (λ counts. (place, counts)) (row.1 value)
+    else row_in (place + 1) rows word value
 
 -- the counts so far, and which rows' keys have occurred
 abbrev pub CountedRows : Type 0 → Type 0
@@ -32,7 +36,8 @@ pair_in rows before word value = new_pair before.1 (row_in 0 (rows before.0) wor
 -- all pairs in sequence; the first `=` of each separates its key from its value
 unfoldable pub in_turn : {S : Type 0} → (S → List ℕ → List ℕ → Option S) → S → List (List ℕ) → Option S
 in_turn pair_in before [] = Some before
-in_turn pair_in before (t ∷ ts) = option_and_then (λ after. in_turn pair_in after ts) (option_and_then (λ x. pair_in before x.0 x.1) (cut 61 t))
+in_turn pair_in before (t ∷ ts) = option_and_then (λ after. in_turn pair_in after ts)
+    (option_and_then (λ x. pair_in before x.0 x.1) (cut 61 t))
 
 -- the pairs of a field, separated by single spaces; `-` is no pair
 abbrev pub pairs_of : List ℕ → List (List ℕ)

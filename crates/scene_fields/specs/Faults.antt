@@ -1,6 +1,7 @@
 -- The message of a scene that cannot be read.
 use Rattle.std.specs.Prelude.{ℕ, List, ◌++◌, codes, decimal}
-use Rattle.{scene_fields.specs.declared.fault.LineFault.LineFault, scene_fields.specs.declared.fault.ReadFault.ReadFault}
+use Rattle.{scene_fields.specs.declared.fault.LineFault.LineFault}
+use Rattle.{scene_fields.specs.declared.fault.ReadFault.ReadFault}
 use Rattle.scene_fields.specs.declared.fault.LineFault.TheVariants as line
 use Rattle.scene_fields.specs.declared.fault.ReadFault.TheVariants as fault
 

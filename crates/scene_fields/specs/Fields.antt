@@ -1,7 +1,11 @@
 -- The fields of a line from left to right: their value, or the first fault that is met.
-use Rattle.std.specs.Prelude.{◌≡◌, ℕ, ◌+◌, ◌%◌, List, [], ◌∷◌, ◌++◌, length, Bool, true, false, ◌==◌, ◌&&◌, nat_le, if◌then◌else◌, Option, None, Some, Result, Ok, Err, ⊤, ◌⊎◌}
+use Rattle.std.specs.Prelude.{◌≡◌, ℕ, ◌+◌, ◌%◌, List, [], ◌∷◌, ◌++◌, length, Bool, true, false, ◌==◌, ◌&&◌, nat_le}
+use Rattle.std.specs.Prelude.{if◌then◌else◌, Option, None, Some, Result, Ok, Err, ⊤, ◌⊎◌}
 use Rattle.{std.specs.Borrow.Bor, scene_fields.specs.Stored.placed, scene_fields.specs.Stored.stored_output_in}
-use Rattle.scene_fields.specs.declared.{fault.LineFault.LineFault, fault.LineError.LineError, stored.PlacedOutput.PlacedOutput, stored.StoredOutput.StoredOutput, fault.LineFault.TheVariants.WrongNumberOfFields, fault.LineFault.TheVariants.BadField}
+use Rattle.scene_fields.specs.declared.{fault.LineFault.LineFault, fault.LineError.LineError}
+use Rattle.scene_fields.specs.declared.{stored.PlacedOutput.PlacedOutput, stored.StoredOutput.StoredOutput}
+use Rattle.scene_fields.specs.declared.{fault.LineFault.TheVariants.WrongNumberOfFields}
+use Rattle.scene_fields.specs.declared.{fault.LineFault.TheVariants.BadField}
 use Rattle.scene_fields.specs.declared.fault.LineError.TheVariants as error
 
 -- how many outputs of a line were read, and those of them that are stored
@@ -92,7 +96,10 @@ next_stored p = stored_among p.left p.noted
 -- the outputs with one more, whose first stream is the field with this number
 abbrev pub with_noted : Option StoredOutput → ℕ → Option Noted → Option Noted
 with_noted output field None = None
-with_noted output field (Some noted) = Some (record { outputs = noted.outputs + 1; stored = noted.stored ++ placed noted.outputs field output })
+with_noted output field (Some noted) = Some (record {
+  outputs = noted.outputs + 1;
+  stored = noted.stored ++ placed noted.outputs field output;
+})
 
 -- the output that comes next is counted, and noted if it is stored
 abbrev pub noting : Option StoredOutput → Place → Place
@@ -120,7 +127,8 @@ Gives view old result new line = Reads (λ x. (view x, new)) result (line old)
 -- the next field was read by a function with this relation of argument and value
 abbrev pub ReadsBy : {X : Type 0} → (Bor (List ℕ) → Option X → Type 0) → Place → Result X LineFault → Place → Type 0
 ReadsBy answers old (Ok x) new = (t : Bor (List ℕ)) × answers t (Some x) × (next old ≡ Ok (t.now, new))
-ReadsBy answers old (Err f) new = (next old ≡ Err f) ⊎ ((t : Bor (List ℕ)) × answers t None × (next old ≡ Ok (t.now, new)) × (f ≡ BadField new.number))
+ReadsBy answers old (Err f) new = (next old ≡ Err f)
+    ⊎ ((t : Bor (List ℕ)) × answers t None × (next old ≡ Ok (t.now, new)) × (f ≡ BadField new.number))
 
 -- like ReadsBy, for a function that allocates
 abbrev pub TriesBy : {X : Type 0} → (Bor (List ℕ) → Option X → Type 0) → Place → Result X LineError → Place → Type 0

@@ -1,6 +1,9 @@
 -- Lists of words, with `\,` between them.
-use Rattle.std.specs.Prelude.{ℕ, List, [], ◌∷◌, ◌++◌, Bool, false, ◌==◌, if◌then◌else◌, Option, None, Some, codes, bytes_eq}
-use Rattle.{std.specs.Option.option_map, std.specs.Option.option_and_then, run_model.specs.Names.MessageAndCauses, run_model.specs.Names.OwnedTestInstanceId, scene_fields.specs.Texts.escape_byte, scene_fields.specs.Texts.unescaped_after}
+use Rattle.std.specs.Prelude.{ℕ, List, [], ◌∷◌, ◌++◌, Bool, false, ◌==◌, if◌then◌else◌, Option, None, Some, codes}
+use Rattle.std.specs.Prelude.{bytes_eq}
+use Rattle.{std.specs.Option.option_map, std.specs.Option.option_and_then, run_model.specs.Names.MessageAndCauses}
+use Rattle.{run_model.specs.Names.OwnedTestInstanceId, scene_fields.specs.Texts.escape_byte}
+use Rattle.{scene_fields.specs.Texts.unescaped_after}
 
 abbrev pub Words : Type 0
 Words = List (List ℕ)
@@ -15,7 +18,8 @@ in_first_word t ws = (t ++ ws.0, ws.1)
 
 -- `\,` puts an empty word first, and any other escape its byte in front of the first word
 abbrev pub list_escape : List ℕ → Option (List ℕ × Words → List ℕ × Words)
-list_escape t = if begins_with_comma t then Some (λ ws. ([], ws.0 ∷ ws.1)) else option_map (λ b. in_first_word (b ∷ [])) (escape_byte 127 t)
+list_escape t = if begins_with_comma t then Some (λ ws. ([], ws.0 ∷ ws.1)) else option_map (λ b. in_first_word (b ∷ []))
+    (escape_byte 127 t)
 
 -- the first word and the others of a list that has some, if its escapes are good ones
 abbrev pub list_words : List ℕ → Option (List ℕ × Words)

@@ -1,7 +1,9 @@
 -- Numbers, which are decimal. They may have leading zeros, and never a plus.
-use Rattle.std.specs.Prelude.{◌≡◌, ◌⊎◌, ℕ, ◌≤◌, ◌^◌, List, [], ◌∷◌, ◌++◌, Bool, true, false, ◌&&◌, nat_lt, if◌then◌else◌, length, drop, cond, ℤ, pos, negsuc, Option, None, Some}
+use Rattle.std.specs.Prelude.{◌≡◌, ◌⊎◌, ℕ, ◌≤◌, ◌^◌, List, [], ◌∷◌, ◌++◌, Bool, true, false, ◌&&◌, nat_lt}
+use Rattle.std.specs.Prelude.{if◌then◌else◌, length, drop, cond, ℤ, pos, negsuc, Option, None, Some}
 use Rattle.std.specs.Str.Parse.{IsNumeral, digits_value, starts_with_minus, signed_digits_value}
-use Rattle.{std.specs.Char.digit_value, std.specs.Int.w32, std.specs.Option.option_map, run_names.specs.declared.time.Nanos.Nanos}
+use Rattle.{std.specs.Char.digit_value, std.specs.Int.w32, std.specs.Option.option_map}
+use Rattle.{run_names.specs.declared.time.Nanos.Nanos}
 use mir.Val.{SFits as FitsSigned}
 
 abbrev pub are_digits : List ℕ → Bool
@@ -57,4 +59,5 @@ fits_code (negsuc n) = nat_lt n (2 ^ 31)
 
 -- a signed number of 32 bits
 unfoldable pub code_in : List ℕ → Option ℤ
-code_in t = if is_numeral (cond (starts_with_minus t) (drop 1 t) t) && fits_code (signed_digits_value 10 t) then Some (signed_digits_value 10 t) else None
+code_in t = if is_numeral (cond (starts_with_minus t) (drop 1 t) t) && fits_code (signed_digits_value 10 t) then Some
+    (signed_digits_value 10 t) else None

@@ -1,7 +1,9 @@
 -- The position of a captured stream, as the scene of a recorded run has it.
 use Rattle.std.specs.Prelude.{ℕ, ◌+◌, List, codes, drop, nat_eq, if◌then◌else◌, Option, None, Some}
-use Rattle.std.specs.{Char.is_ascii_uppercase, Option.option_and_then, Result.result_ok, Int.w64, Int.to_be_bytes, List.list_any, List.starts_with}
-use Rattle.{hex.specs.Hex.decode_sized, scene_fields.specs.Numbers.number_in, scene_fields.specs.Split.cut, scene_fields.specs.declared.reference.Reference.Reference}
+use Rattle.std.specs.{Char.is_ascii_uppercase, Option.option_and_then, Result.result_ok, Int.w64, Int.to_be_bytes}
+use Rattle.std.specs.{List.list_any, List.starts_with}
+use Rattle.{hex.specs.Hex.decode_sized, scene_fields.specs.Numbers.number_in, scene_fields.specs.Split.cut}
+use Rattle.{scene_fields.specs.declared.reference.Reference.Reference}
 use Rattle.std.specs.Hash.DefaultHasher as sip
 
 -- the position after the last byte of a reference

@@ -1,6 +1,8 @@
 -- How an attempt ended, as a scene writes it.
 use Rattle.std.specs.Prelude.{ℕ, List, Bool, true, false, codes, bytes_eq, if◌then◌else◌, ℤ, Option, None, Some}
-use Rattle.{std.specs.Option.option_map, run_names.specs.declared.abort.AbortDescription.AbortDescription, run_model.specs.declared.status.ExecutionResultDescription.ExecutionResultDescription, scene_fields.specs.Split.cut, scene_fields.specs.Numbers.code_in, scene_fields.specs.Texts.unescaped}
+use Rattle.{std.specs.Option.option_map, run_names.specs.declared.abort.AbortDescription.AbortDescription}
+use Rattle.{run_model.specs.declared.status.ExecutionResultDescription.ExecutionResultDescription}
+use Rattle.{scene_fields.specs.Split.cut, scene_fields.specs.Numbers.code_in, scene_fields.specs.Texts.unescaped}
 use Rattle.run_names.specs.declared.abort.AbortDescription.TheVariants as abort
 use Rattle.run_model.specs.declared.status.ExecutionResultDescription.TheVariants as outcome
 use Rattle.run_model.specs.declared.status.FailureDescription.TheVariants as failure
@@ -31,19 +33,22 @@ plain_in t =
     else None))))))
 
 -- a number and a text
-abbrev pub with_number_and_text : (ℤ → List ℕ → ExecutionResultDescription) → Option ℤ → Option (List ℕ) → Option ExecutionResultDescription
+abbrev pub with_number_and_text : (ℤ → List ℕ → ExecutionResultDescription) → Option ℤ → Option (List ℕ)
+    → Option ExecutionResultDescription
 with_number_and_text make (Some n) (Some text) = Some (make n text)
 with_number_and_text make n text = None
 
 -- what follows `sig:`: the number, and perhaps a colon and the name
 abbrev pub signal_cut : List ℕ → Option (List ℕ × List ℕ) → Option ExecutionResultDescription
 signal_cut t None = option_map (nameless_signal false) (code_in t)
-signal_cut t (Some x) = with_number_and_text (λ n name. aborted false (abort.UnixSignal n (Some name))) (code_in x.0) (unescaped 127 x.1)
+signal_cut t (Some x) = with_number_and_text (λ n name. aborted false (abort.UnixSignal n (Some name))) (code_in x.0)
+    (unescaped 127 x.1)
 
 -- what follows `nt:`: the number, a colon and the message
 abbrev pub status_cut : Option (List ℕ × List ℕ) → Option ExecutionResultDescription
 status_cut None = None
-status_cut (Some x) = with_number_and_text (λ n message. aborted false (abort.WindowsNtStatus n (Some message))) (code_in x.0) (unescaped 127 x.1)
+status_cut (Some x) = with_number_and_text (λ n message. aborted false (abort.WindowsNtStatus n (Some message)))
+    (code_in x.0) (unescaped 127 x.1)
 
 -- a word, and what follows its colon
 abbrev pub result_with_details : List ℕ → List ℕ → Option ExecutionResultDescription

@@ -1,5 +1,6 @@
 -- Texts cut at a byte.
-use Rattle.std.specs.Prelude.{◌≡◌, ℕ, ◌+◌, List, [], ◌∷◌, map, false, ◌==◌, if◌then◌else◌, length, Option, None, Some, ⊤}
+use Rattle.std.specs.Prelude.{◌≡◌, ℕ, ◌+◌, List, [], ◌∷◌, map, false, ◌==◌, if◌then◌else◌, length, Option, None, Some}
+use Rattle.std.specs.Prelude.{⊤}
 use Rattle.std.specs.{List.slice_split, Option.option_map, Borrow.Bor}
 
 -- the byte is not in the text

@@ -1,6 +1,9 @@
 -- Texts as a scene writes them, where a backslash begins an escape.
-use Rattle.std.specs.Prelude.{◌≡◌, ℕ, zero, suc, ◌+◌, ◌*◌, ◌≤◌, List, [], ◌∷◌, ◌++◌, ◌==◌, ◌&&◌, nat_lt, nat_le, if◌then◌else◌, Option, None, Some, string_bytes, drop, length, take}
-use Rattle.std.specs.{Option.option_and_then, Option.option_map, Borrow.Bor, Char.digit_value, declared.alloc.Global.Global, declared.borrow.CowStr.CowStr, declared.borrow.CowStr.TheVariants.Borrowed, declared.borrow.CowStr.TheVariants.Owned}
+use Rattle.std.specs.Prelude.{◌≡◌, ℕ, zero, suc, ◌+◌, ◌*◌, ◌≤◌, List, [], ◌∷◌, ◌++◌, ◌==◌, ◌&&◌, nat_lt, nat_le}
+use Rattle.std.specs.Prelude.{if◌then◌else◌, Option, None, Some, string_bytes, drop, length, take}
+use Rattle.std.specs.{Option.option_and_then, Option.option_map, Borrow.Bor, Char.digit_value}
+use Rattle.std.specs.{declared.alloc.Global.Global, declared.borrow.CowStr.CowStr}
+use Rattle.std.specs.{declared.borrow.CowStr.TheVariants.Borrowed, declared.borrow.CowStr.TheVariants.Owned}
 use Rattle.scene_fields.specs.Split.{Lacks}
 
 -- the text, whether borrowed or owned
@@ -21,7 +24,8 @@ abbrev pub hex_escape : ℕ → List ℕ → Option ℕ
 hex_escape most [] = None
 hex_escape most (high ∷ []) = None
 hex_escape most (high ∷ low ∷ t) =
-    if nat_lt (digit_value high) 16 && nat_lt (digit_value low) 16 then up_to most (16 * digit_value high + digit_value low)
+    if nat_lt (digit_value high) 16 && nat_lt (digit_value low) 16 then up_to most
+    (16 * digit_value high + digit_value low)
     else None
 
 -- the byte that an escape gives, by what follows the backslash: `n`, `t`, `r`, `e`, a backslash, or `x` and two digits

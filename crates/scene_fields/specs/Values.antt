@@ -1,8 +1,12 @@
 -- The values of single fields of a scene.
-use Rattle.std.specs.Prelude.{ℕ, zero, suc, List, [], ◌∷◌, map, Bool, true, false, if◌then◌else◌, Option, None, Some, codes, bytes_eq}
-use Rattle.{std.specs.Option.option_map, std.specs.declared.num.NonZeroU32.NonZeroU32, run_model.specs.declared.status.FlakyResult.FlakyResult, scene_fields.specs.Split.cut, scene_fields.specs.Numbers.number_in, scene_fields.specs.declared.values.ConfigKey.ConfigKey}
+use Rattle.std.specs.Prelude.{ℕ, zero, suc, List, [], ◌∷◌, map, Bool, true, false, if◌then◌else◌, Option, None, Some}
+use Rattle.std.specs.Prelude.{codes, bytes_eq}
+use Rattle.{std.specs.Option.option_map, std.specs.declared.num.NonZeroU32.NonZeroU32}
+use Rattle.{run_model.specs.declared.status.FlakyResult.FlakyResult, scene_fields.specs.Split.cut}
+use Rattle.{scene_fields.specs.Numbers.number_in, scene_fields.specs.declared.values.ConfigKey.ConfigKey}
 use native.Mathlib.Nat.{zero-lt-suc}
-use Rattle.run_model.specs.Names.{display_name, NextestRunMode, TestOutputDisplay, CancelReason, FinalStatusLevel, StressIndex}
+use Rattle.run_model.specs.Names.{display_name, NextestRunMode, TestOutputDisplay, CancelReason, FinalStatusLevel}
+use Rattle.run_model.specs.Names.{StressIndex}
 use Rattle.run_names.specs.declared.config.NextestRunMode.TheVariants as mode
 use Rattle.run_names.specs.declared.config.TestOutputDisplay.TheVariants as display
 use Rattle.run_names.specs.declared.level.CancelReason.TheVariants as reason
@@ -54,7 +58,8 @@ abbrev pub final_level_in : List ℕ → Option FinalStatusLevel
 final_level_in t =
     named
     ((codes "none", final.None) ∷ (codes "fail", final.Fail) ∷ (codes "flaky", final.Flaky) ∷ (codes "slow", final.Slow)
-    ∷ (codes "skip", final.Skip) ∷ (codes "leak", final.Leak) ∷ (codes "pass", final.Pass) ∷ (codes "all", final.All) ∷ [])
+    ∷ (codes "skip", final.Skip) ∷ (codes "leak", final.Leak) ∷ (codes "pass", final.Pass) ∷ (codes "all", final.All)
+    ∷ [])
     t
 
 abbrev pub reason_in : List ℕ → Option CancelReason

@@ -1,11 +1,12 @@
 //! Counts, which a scene writes as pairs of a key and a number.
 //!
-//! Single spaces separate the pairs, as in `passed=2 failed=1`, and each key occurs once. A count without a pair is 0, and `-`
-//! means no pair at all. Each function returns None for a bad field.
+//! Single spaces separate the pairs, as in `passed=2 failed=1`, and each key occurs once. A count without a pair is 0,
+//! and `-` means no pair at all. Each function returns None for a bad field.
 
 ghost use Rattle.std.specs.Prelude.{◌≡◌, ◌<◌, false, List, Option, IfSome};
 ghost use Rattle.{std.specs.List.list_any, std.specs.Option.option_map, scene_fields.specs.Numbers.number_in};
-ghost use Rattle.scene_fields.specs.Counts.{Row, counts_in, has_space, pair_in, row_in, skips_in, skips_no_space, skips_rows, stats_in, stats_no_space, stats_rows};
+ghost use Rattle.scene_fields.specs.Counts.{Row, counts_in, has_space, pair_in, row_in, skips_in, skips_no_space};
+ghost use Rattle.scene_fields.specs.Counts.{skips_rows, stats_in, stats_no_space, stats_rows};
 
 use super::numbers::read_count;
 use super::split::{first_piece, split_at_byte};
@@ -57,7 +58,8 @@ fn read_pair<C: Counts>(
     word: &str,
     value: &str,
 ) -> Option<()>
-    ensures { option_map (λ _. (counts.new, has_key.new)) result ≡ pair_in C.rows (counts.old, has_key.old) word.now value.now }
+    ensures { option_map (λ _. (counts.new, has_key.new)) result
+        ≡ pair_in C.rows (counts.old, has_key.old) word.now value.now }
 {
     let place = counts.set(word, value)?;
     if has_key[place] {

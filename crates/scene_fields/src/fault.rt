@@ -1,7 +1,9 @@
 //! What can be wrong with a line of a scene, and why a scene could not be read.
 
 ghost use Rattle.std.specs.Prelude.{◌≡◌, Some};
-ghost use Rattle.scene_fields.specs.{declared.fault.LineError.LineError, declared.fault.ReadFault.TheVariants.OutOfMemory, Faults.line_fault_text, Faults.read_fault_text};
+ghost use Rattle.scene_fields.specs.{declared.fault.LineError.LineError};
+ghost use Rattle.scene_fields.specs.{declared.fault.ReadFault.TheVariants.OutOfMemory, Faults.line_fault_text};
+ghost use Rattle.scene_fields.specs.{Faults.read_fault_text};
 
 use run_model::memory::OutOfMemory;
 use std::alloc::AllocFailed;

@@ -1,8 +1,11 @@
 //! A line of a scene, taken apart from left to right.
 
-ghost use Rattle.std.specs.Prelude.{◌≡◌, ◌+◌, ◌-◌, ◌++◌, ◌≤◌, ◌%◌, ◌^◌, ◌==◌, ◌&&◌, [], ◌∷◌, MatchOption, MatchResult, None, OnOk, Some, drop, length, nat_le, Ok};
-ghost use Rattle.{std.specs.Option.ForSome, std.specs.Option.is_some, scene_fields.specs.Split.split_on, scene_fields.specs.Split.field_texts, scene_fields.specs.declared.fault.LineFault.LineFault};
-ghost use Rattle.scene_fields.specs.Fields.{IsRightNumber, Noted, Place, ReadsBy, TriesBy, answered, next, next_stored, none_noted, noting, noted_outputs, taken_text, with_noted};
+ghost use Rattle.std.specs.Prelude.{◌≡◌, ◌+◌, ◌-◌, ◌++◌, ◌≤◌, ◌%◌, ◌^◌, ◌==◌, ◌&&◌, [], ◌∷◌, MatchOption, MatchResult};
+ghost use Rattle.std.specs.Prelude.{None, OnOk, Some, drop, length, nat_le, Ok};
+ghost use Rattle.{std.specs.Option.ForSome, std.specs.Option.is_some, scene_fields.specs.Split.split_on};
+ghost use Rattle.{scene_fields.specs.Split.field_texts, scene_fields.specs.declared.fault.LineFault.LineFault};
+ghost use Rattle.scene_fields.specs.Fields.{IsRightNumber, Noted, Place, ReadsBy, TriesBy, answered, next, next_stored};
+ghost use Rattle.scene_fields.specs.Fields.{none_noted, noting, noted_outputs, taken_text, with_noted};
 
 use super::marks::{first_place, marks_from, shift_past};
 use super::owned_text::OwnedText;
@@ -280,7 +283,8 @@ impl<'a> Fields<'a> {
 
     /// Takes the memory of the next field, if it is a large field of a large line.
     pub fn take_memory(&mut self, alloc: Global) -> Option<BytesMut>
-        ensures { MatchOption result (self.new ≡ self.old) (λ memory. (next self.old ≡ Ok (memory.items, self.new)) × (2 ≤ length memory.items)) }
+        ensures { MatchOption result (self.new ≡ self.old)
+            (λ memory. (next self.old ≡ Ok (memory.items, self.new)) × (2 ≤ length memory.items)) }
     {
         if !self.left.is_empty() {
             return None;
@@ -347,7 +351,8 @@ impl<'a> Fields<'a> {
 // The first of these texts, and the others.
 #[cold]
 fn first_text(texts: &mut [OwnedText]) -> Result<(&str, &mut [OwnedText]), LineFault>
-    ensures { MatchResult result (λ parts. texts.old ≡ parts.0.now ∷ parts.1.now) (λ fault. (texts.old ≡ []) × (fault ≡ LineFault.WrongNumberOfFields)) }
+    ensures { MatchResult result (λ parts. texts.old ≡ parts.0.now ∷ parts.1.now)
+        (λ fault. (texts.old ≡ []) × (fault ≡ LineFault.WrongNumberOfFields)) }
 {
     match texts.split_first_mut() {
         Some((text, rest)) => Ok((text.as_str(), rest)),

@@ -3,7 +3,8 @@
 //! Tabs in a line and escapes in an output are close together, so calls of memchr would mostly be overhead.
 
 ghost use Rattle.std.specs.Prelude.{◌≡◌, ◌≢◌, ◌++◌, ◌+◌, ◌-◌, ◌/◌, ◌^◌, ◌<◌, ◌≤◌, drop, length, min, replicate, take};
-ghost use Rattle.{std.specs.Int.trailing_zeros, std.specs.Int.w64, memchr.specs.Find.IsFirstByte, memchr.specs.Find.is_byte, scene_fields.specs.Marks.marks, scene_fields.specs.Marks.marks_between};
+ghost use Rattle.{std.specs.Int.trailing_zeros, std.specs.Int.w64, memchr.specs.Find.IsFirstByte};
+ghost use Rattle.{memchr.specs.Find.is_byte, scene_fields.specs.Marks.marks, scene_fields.specs.Marks.marks_between};
 
 use std::simd::prelude::*;
 

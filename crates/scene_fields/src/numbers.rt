@@ -4,7 +4,8 @@
 
 ghost use Rattle.std.specs.Prelude.{◌≡◌, ◌<◌, ◌≤◌, ◌^◌, length, false, MatchOption};
 ghost use Rattle.std.specs.{Option.SomeIff, Str.Parse.IsNumeral, Str.Parse.digits_value, Str.Parse.signed_digits_value};
-ghost use Rattle.scene_fields.specs.Numbers.{IsLeadingNumber, IsSigned, code_in, nanos_in, number_in, starts_with_digit};
+ghost use Rattle.scene_fields.specs.Numbers.{IsLeadingNumber, IsSigned, code_in, nanos_in, number_in};
+ghost use Rattle.scene_fields.specs.Numbers.{starts_with_digit};
 
 use run_model::time::Nanos;
 

@@ -32,7 +32,8 @@ impl OwnedText {
     /// These bytes as a text, if they are valid UTF-8. It copies nothing.
     #[tactic(auto, using(crate::proofs::lemmas::Utf8::utf8_passes, crate::proofs::lemmas::Utf8::utf8_fails))]
     pub fn new(bytes: Vec<u8>) -> Option<OwnedText>
-        ensures { MatchOption result (is_utf8 bytes.items ≡ false) (λ text. (text ≡ bytes.items) × (is_utf8 bytes.items ≡ true)) }
+        ensures { MatchOption result (is_utf8 bytes.items ≡ false)
+            (λ text. (text ≡ bytes.items) × (is_utf8 bytes.items ≡ true)) }
     {
         str::from_utf8(bytes.as_slice()).ok()?;
         Some(OwnedText {

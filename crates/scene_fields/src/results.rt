@@ -4,7 +4,8 @@
 //! extends to the end of the field.
 
 ghost use Rattle.std.specs.{Prelude.◌≡◌, Prelude.Some, Prelude.IfOk, Option.option_map};
-ghost use Rattle.scene_fields.specs.Results.{aborted, exit_code, nameless_signal, plain_in, result_in, signal_cut, status_cut, result_with_details};
+ghost use Rattle.scene_fields.specs.Results.{aborted, exit_code, nameless_signal, plain_in, result_in, signal_cut};
+ghost use Rattle.scene_fields.specs.Results.{status_cut, result_with_details};
 ghost use Rattle.scene_fields.specs.{Split.cut, Numbers.code_in};
 
 use super::numbers::read_code;

@@ -46,9 +46,11 @@ fn first_far_place(byte: u8, text: &[u8]) -> Option<usize>
 #[inline(always)]
 pub fn split_at_byte(text: &str, byte: u8) -> Option<(&str, &str)>
     requires { byte < 128 }
-    ensures parts { MatchOption result (Lacks byte text.now) (λ x. Lacks byte x.0.now × (text.now ≡ x.0.now ++ (byte ∷ x.1.now))) }
+    ensures parts { MatchOption result (Lacks byte text.now)
+        (λ x. Lacks byte x.0.now × (text.now ≡ x.0.now ++ (byte ∷ x.1.now))) }
     ensures cut { cut_texts result ≡ cut byte text.now }
-    ensures split_on { MatchOption result (split_on byte text.now ≡ text.now ∷ []) (λ x. split_on byte text.now ≡ x.0.now ∷ split_on byte x.1.now) }
+    ensures split_on { MatchOption result (split_on byte text.now ≡ text.now ∷ [])
+        (λ x. split_on byte text.now ≡ x.0.now ∷ split_on byte x.1.now) }
     ensures shorter { IfSome result (λ x. length x.1.now + 1 ≤ length text.now) }
 {
     let Some(at) = first_place(byte, text.as_bytes()) else {

@@ -1,7 +1,8 @@
 //! The stored outputs of a recorded run, as the fields of a line spell them, and their positions in that line.
 
 ghost use Rattle.std.specs.Prelude.{◌≡◌};
-ghost use Rattle.scene_fields.specs.Stored.{field_of, is_reference, stored_output_in, stored_stream_in, stream_in_field};
+ghost use Rattle.scene_fields.specs.Stored.{field_of, is_reference, stored_output_in, stored_stream_in};
+ghost use Rattle.scene_fields.specs.Stored.{stream_in_field};
 
 use super::reference::{Reference, read_reference};
 

@@ -1,9 +1,10 @@
 //! Texts as a scene writes them.
 //!
-//! A backslash begins an escape: `\n`, `\t`, `\r`, `\e`, `\\`, and `\x` with two hexadecimal digits, which gives a byte. In
-//! a text that byte is at most 7f; in the bytes that a test wrote it is any.
+//! A backslash begins an escape: `\n`, `\t`, `\r`, `\e`, `\\`, and `\x` with two hexadecimal digits, which gives a
+//! byte. In a text that byte is at most 7f; in the bytes that a test wrote it is any.
 
-ghost use Rattle.std.specs.Prelude.{◌≡◌, ◌≤◌, ◌<◌, ◌-◌, ◌+◌, ◌*◌, ◌==◌, Some, None, length, slice_index, string_bytes, IfOk, IfSome, MatchOption};
+ghost use Rattle.std.specs.Prelude.{◌≡◌, ◌≤◌, ◌<◌, ◌-◌, ◌+◌, ◌*◌, ◌==◌, Some, None, length, slice_index, string_bytes};
+ghost use Rattle.std.specs.Prelude.{IfOk, IfSome, MatchOption};
 ghost use Rattle.std.specs.{Char.digit_value, Option.option_map, Option.SomeIff};
 ghost use Rattle.scene_fields.specs.Texts.{cow_text, AddsStretch, bytes_in, escape_byte, escape_len, text_in};
 
@@ -46,13 +47,16 @@ pub fn read_text(alloc: Global, field: &str) -> Result<Option<CowStr<'_, Global>
     Ok(Some(CowStr::Owned(text)))
 }
 
-/// Adds the text before an escape, and the byte that the escape gives. It returns the text after the escape; `None` means a bad one.
+/// Adds the text before an escape, and the byte that the escape gives. It returns the text after the escape; `None`
+/// means a bad one.
 pub(crate) fn push_stretch<'a>(
     text: &mut String,
     plain: &str,
     escape: &'a str,
 ) -> Result<Option<&'a str>, OutOfMemory>
-    ensures { IfOk result (λ after. MatchOption after (escape_byte 127 escape.now ≡ None) (AddsStretch (string_bytes text.old) plain.now escape.now (string_bytes text.new))) }
+    ensures { IfOk result
+        (λ after. MatchOption after (escape_byte 127 escape.now ≡ None)
+        (AddsStretch (string_bytes text.old) plain.now escape.now (string_bytes text.new))) }
 {
     text.push_str(plain)?;
     let Some((byte, len)) = escape_at(escape.as_bytes(), ASCII) else {
@@ -84,7 +88,9 @@ pub fn read_bytes(alloc: Global, field: &str) -> Result<Option<Vec<u8>>, OutOfMe
 #[inline(always)]
 pub(crate) fn escape_at(escape: &[u8], most: u8) -> Option<(u8, usize)>
     ensures byte { option_map (λ x. x.0) result ≡ escape_byte most escape.now }
-    ensures len { IfSome result (λ x. (x.1 ≡ escape_len escape.now) × (1 ≤ x.1) × (x.1 ≤ 3) × (x.1 ≤ length escape.now) × (slice_index escape.now (x.1 - 1) < 128)) }
+    ensures len { IfSome result
+        (λ x. (x.1 ≡ escape_len escape.now) × (1 ≤ x.1) × (x.1 ≤ 3) × (x.1 ≤ length escape.now)
+        × (slice_index escape.now (x.1 - 1) < 128)) }
 {
     match escape {
         [b'n', ..] => Some((b'\n', 1)),
@@ -102,7 +108,8 @@ pub(crate) fn escape_at(escape: &[u8], most: u8) -> Option<(u8, usize)>
 
 // The byte that two hexadecimal digits write.
 fn hex_byte(high: u8, low: u8) -> Option<u8>
-    ensures { SomeIff result ((digit_value high < 16) × (digit_value low < 16)) (16 * digit_value high + digit_value low) }
+    ensures { SomeIff result ((digit_value high < 16) × (digit_value low < 16))
+        (16 * digit_value high + digit_value low) }
 {
     let (high, low) = (digit_value(high), digit_value(low));
     if high < 16 && low < 16 {
@@ -112,7 +119,8 @@ fn hex_byte(high: u8, low: u8) -> Option<u8>
     }
 }
 
-// The value of a hexadecimal digit, and 16 for any other byte. Each step is a conditional move: digits of random bytes cannot be predicted.
+// The value of a hexadecimal digit, and 16 for any other byte. Each step is a conditional move: digits of random bytes
+// cannot be predicted.
 #[inline(always)]
 fn digit_value(byte: u8) -> u8
     ensures digit { digit_value byte < 16 → result ≡ digit_value byte }

@@ -46,7 +46,9 @@ pub fn unescape_in_place(bytes: &mut [u8]) -> Option<usize>
 #[inline(always)]
 fn output_escape_at(escape: &[u8]) -> Option<(u8, usize)>
     ensures byte { option_map (λ x. x.0) result ≡ escape_byte 255 escape.now }
-    ensures len { IfSome result (λ x. (x.1 ≡ escape_len escape.now) × (1 ≤ x.1) × (x.1 ≤ 3) × (x.1 ≤ length escape.now) × (slice_index escape.now (x.1 - 1) < 128)) }
+    ensures len { IfSome result
+        (λ x. (x.1 ≡ escape_len escape.now) × (1 ≤ x.1) × (x.1 ≤ 3) × (x.1 ≤ length escape.now)
+        × (slice_index escape.now (x.1 - 1) < 128)) }
 {
     match escape {
         [b'e', ..] => Some((b'\x1b', 1)),

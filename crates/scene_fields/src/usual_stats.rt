@@ -5,7 +5,8 @@
 //! then its key.
 
 ghost use Rattle.std.specs.Prelude.{◌≡◌, Some, IfSome, MatchOption};
-ghost use Rattle.scene_fields.specs.{Numbers.HasNoNumberAfter, Numbers.IsNumberAfter, Numbers.IsNumberOrZero, Counts.stats_in};
+ghost use Rattle.scene_fields.specs.{Numbers.HasNoNumberAfter, Numbers.IsNumberAfter, Numbers.IsNumberOrZero};
+ghost use Rattle.scene_fields.specs.{Counts.stats_in};
 
 use super::numbers::leading_number;
 use run_model::stats::RunStats;

@@ -2,7 +2,8 @@
 
 ghost use Rattle.std.specs.Prelude.{◌≡◌};
 ghost use Rattle.{scene_fields.specs.Numbers.number_in, uuid.specs.Text.parsed};
-ghost use Rattle.scene_fields.specs.Values.{absent_in, config_key_in, display_in, final_level_in, flag_in, flaky_in, mode_in, reason_in, reason_or_none_in, stress_in, total_in};
+ghost use Rattle.scene_fields.specs.Values.{absent_in, config_key_in, display_in, final_level_in, flag_in, flaky_in};
+ghost use Rattle.scene_fields.specs.Values.{mode_in, reason_in, reason_or_none_in, stress_in, total_in};
 
 use super::numbers::read_small_count;
 use super::split::split_at_byte;

@@ -1,9 +1,15 @@
 -- The kinds of line that a scene has: the word that each begins with, how many fields follow it, and what they spell.
 use Rattle.std.specs.Prelude.{ℕ, List, [], ◌∷◌, Err, codes}
-use Rattle.{scene_run_lines.specs.Parts.progress_in, scene_fields.specs.Numbers.number_in, scene_fields.specs.declared.fault.LineFault.TheVariants.UnknownEvent}
-use Rattle.scene_run_lines.specs.Lines.{cancel_line_fields, end_line_fields, end_stress_line_fields, header_line_fields, info_line_fields, input_line_fields, made, pause_line_fields, prefix_line_fields, run_line_fields, sub_end_line_fields}
+use Rattle.{scene_run_lines.specs.Parts.progress_in, scene_fields.specs.Numbers.number_in}
+use Rattle.{scene_fields.specs.declared.fault.LineFault.TheVariants.UnknownEvent}
+use Rattle.scene_run_lines.specs.Lines.{cancel_line_fields, end_line_fields, end_stress_line_fields, header_line_fields}
+use Rattle.scene_run_lines.specs.Lines.{info_line_fields, input_line_fields, made, pause_line_fields}
+use Rattle.scene_run_lines.specs.Lines.{prefix_line_fields, run_line_fields, sub_end_line_fields}
 use Rattle.scene_fields.specs.Fields.{Line, exactly, field, with_attempts}
-use Rattle.scene_unit_lines.specs.Lines.{answer_script_line_fields, answer_test_line_fields, by_row, done_line_fields, retry_line_fields, retry_start_line_fields, setup_done_line_fields, setup_line_fields, setup_slow_line_fields, slow_line_fields, start_line_fields, test_fields}
+use Rattle.scene_unit_lines.specs.Lines.{answer_script_line_fields, answer_test_line_fields, by_row, done_line_fields}
+use Rattle.scene_unit_lines.specs.Lines.{retry_line_fields, retry_start_line_fields, setup_done_line_fields}
+use Rattle.scene_unit_lines.specs.Lines.{setup_line_fields, setup_slow_line_fields, slow_line_fields, start_line_fields}
+use Rattle.scene_unit_lines.specs.Lines.{test_fields}
 use Rattle.scene_events.specs.declared.scene.event.SceneEvent.{SceneEvent}
 use Rattle.scene_events.specs.declared.scene.event.SceneEvent.TheVariants as event
 

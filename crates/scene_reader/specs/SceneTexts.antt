@@ -1,10 +1,14 @@
 -- The scene that a text spells, or its first fault.
-use Rattle.std.specs.Prelude.{◌≡◌, ℕ, ◌+◌, List, [], ◌∷◌, ◌++◌, Bool, true, false, ◌==◌, ◌||◌, map, nat_lt, bytes_eq, codes, if◌then◌else◌, Option, None, Some, Result, Ok, Err, length, ⊤}
-use Rattle.{scene_run_lines.specs.Lines.config_line_fields, scene_run_lines.specs.Lines.made, std.specs.Result.result_map_both, std.specs.Str.is_utf8, scene_events.specs.Configs.unconfigured}
+use Rattle.std.specs.Prelude.{◌≡◌, ℕ, ◌+◌, List, [], ◌∷◌, ◌++◌, Bool, true, false, ◌==◌, ◌||◌, map, nat_lt, bytes_eq}
+use Rattle.std.specs.Prelude.{codes, if◌then◌else◌, Option, None, Some, Result, Ok, Err, length, ⊤}
+use Rattle.{scene_run_lines.specs.Lines.config_line_fields, scene_run_lines.specs.Lines.made}
+use Rattle.{std.specs.Result.result_map_both, std.specs.Str.is_utf8, scene_events.specs.Configs.unconfigured}
 use Rattle.scene_fields.specs.{Split.split_on, declared.stored.PlacedOutput.PlacedOutput}
 use Rattle.scene_fields.specs.Fields.{◌>>=◌, Fails, Line, Noted, Place, exactly, next, none_noted, says, noted_outputs}
-use Rattle.scene_reader.specs.{EventLines.event_line_fields, declared.reader.LinesRead.LinesRead, declared.reader.ParsedLine.ParsedLine}
-use Rattle.scene_fields.specs.declared.fault.{LineError.LineError, LineFault.LineFault, ReadFault.ReadFault, LineFault.TheVariants.NotUtf8, LineFault.TheVariants.ConfigAfterEvent}
+use Rattle.scene_reader.specs.{EventLines.event_line_fields, declared.reader.LinesRead.LinesRead}
+use Rattle.scene_reader.specs.{declared.reader.ParsedLine.ParsedLine}
+use Rattle.scene_fields.specs.declared.fault.{LineError.LineError, LineFault.LineFault, ReadFault.ReadFault}
+use Rattle.scene_fields.specs.declared.fault.{LineFault.TheVariants.NotUtf8, LineFault.TheVariants.ConfigAfterEvent}
 use Rattle.scene_reader.specs.declared.reader.ParsedLine.TheVariants.{NoEvent, ConfigLine, EventLine}
 use Rattle.scene_events.specs.declared.scene.{ParsedRun.ParsedRun, SceneConfig.SceneConfig, event.SceneEvent.SceneEvent}
 use Rattle.scene_fields.specs.declared.fault.LineError.TheVariants as error
@@ -43,11 +47,13 @@ event_line read = result_map_both EventLine (λ f. f) read
 
 -- a line that configures the run, which must not follow an event
 abbrev pub config_words : LinesBefore → Line ParsedLine
-config_words before p = if before.is_begun then Err ConfigAfterEvent else made ConfigLine (exactly 2 (config_line_fields before.config)) p
+config_words before p = if before.is_begun then Err ConfigAfterEvent else made ConfigLine
+    (exactly 2 (config_line_fields before.config)) p
 
 -- the fields after the first one
 abbrev pub words_behind : LinesBefore → List ℕ → Line ParsedLine
-words_behind before word p = if bytes_eq word (codes "config") then config_words before p else made EventLine (event_line_fields word) p
+words_behind before word p = if bytes_eq word (codes "config") then config_words before p else made EventLine
+    (event_line_fields word) p
 
 -- all fields of a line
 abbrev pub line_words : LinesBefore → Line ParsedLine
@@ -76,7 +82,8 @@ parsed_line before t = value_of (line_from None before t)
 
 -- the value of a line of a recorded run and its stored outputs, which its event leaves unread
 abbrev pub recorded_line : LinesBefore → List ℕ → Result (ParsedLine × List PlacedOutput) LineFault
-recorded_line before t = result_map_both (λ x. (x.0, noted_outputs x.1.noted)) (λ f. f) (line_from (Some none_noted) before t)
+recorded_line before t = result_map_both (λ x. (x.0, noted_outputs x.1.noted)) (λ f. f)
+    (line_from (Some none_noted) before t)
 
 -- the lines with one more, of this value
 abbrev pub with_line : ParsedLines → ParsedLine → ParsedLines
@@ -87,7 +94,8 @@ with_line before (EventLine e) = record before { events = before.events ++ e ∷
 abbrev pub lines_with : ParsedLines → Result ParsedLine LineFault → Result ParsedLines LineFault
 lines_with before read = result_map_both (with_line before) (λ f. f) read
 
--- a line of a run: the text of a scene's line, or that of a recorded one, and what is made of its stored outputs and its event
+-- a line of a run: the text of a scene's line, or that of a recorded one, and what is made of its stored outputs and
+-- its event
 pub data RunLine : Type 0 where
   PlainLine : List ℕ → RunLine
   RecordedLine : List ℕ → (LinesBefore → List PlacedOutput → SceneEvent → Result SceneEvent LineFault) → RunLine
@@ -100,7 +108,8 @@ abbrev pub text_lines : List ℕ → List RunLine
 text_lines t = map plain_line (split_on 10 t)
 
 -- a recorded line's value with this made of its stored outputs and its event
-abbrev pub with_made : (List PlacedOutput → SceneEvent → Result SceneEvent LineFault) → Result (ParsedLine × List PlacedOutput) LineFault → Result ParsedLine LineFault
+abbrev pub with_made : (List PlacedOutput → SceneEvent → Result SceneEvent LineFault)
+    → Result (ParsedLine × List PlacedOutput) LineFault → Result ParsedLine LineFault
 with_made make (Ok (NoEvent, stored)) = Ok NoEvent
 with_made make (Ok (ConfigLine config, stored)) = Ok (ConfigLine config)
 with_made make (Ok (EventLine e, stored)) = event_line (make stored e)
@@ -127,7 +136,8 @@ before_next read = record { config = read.run.config; is_begun = is_begun_behind
 abbrev pub lines_after : List SceneEvent → ParsedLines → ParsedLines
 lines_after base before = record { config = before.config; events = base ++ before.events }
 
-abbrev pub lines_read_after : (ParsedLines → Result ParsedLines (ℕ × LineFault)) → ℕ → Result ParsedLines LineFault → Result ParsedLines (ℕ × LineFault)
+abbrev pub lines_read_after : (ParsedLines → Result ParsedLines (ℕ × LineFault)) → ℕ → Result ParsedLines LineFault
+    → Result ParsedLines (ℕ × LineFault)
 lines_read_after others n (Ok after) = others after
 lines_read_after others n (Err f) = Err (n, f)
 
@@ -164,15 +174,18 @@ AllRead before (t ∷ ts) after = (mid : ParsedLines) × (line_read before t ≡
 
 -- the number of the next line is noted, where that is an event
 abbrev pub NotesLine : LinesRead → LinesRead → Type 0
-NotesLine old new = new.run.lines.items ≡ old.run.lines.items ++ line_here old.next (parsed_lines old.run) (parsed_lines new.run)
+NotesLine old new = new.run.lines.items
+    ≡ old.run.lines.items ++ line_here old.next (parsed_lines old.run) (parsed_lines new.run)
 
 -- the lines are as they were
 abbrev pub KeepsLines : LinesRead → LinesRead → Type 0
-KeepsLines old new = (parsed_lines new.run ≡ parsed_lines old.run) × (new.run.lines.items ≡ old.run.lines.items) × (new.is_begun ≡ old.is_begun) × (new.next ≡ old.next)
+KeepsLines old new = (parsed_lines new.run ≡ parsed_lines old.run) × (new.run.lines.items ≡ old.run.lines.items)
+    × (new.is_begun ≡ old.is_begun) × (new.next ≡ old.next)
 
 -- the next line was read, whose value this is; or it is wrong, and nothing has changed
 abbrev pub TakesLine : {X : Type 0} → LinesRead → Result X LineError → LinesRead → Result ParsedLine LineFault → Type 0
-TakesLine old (Ok x) new value = (lines_with (parsed_lines old.run) value ≡ Ok (parsed_lines new.run)) × (new.is_begun ≡ old.is_begun) × (new.next ≡ old.next)
+TakesLine old (Ok x) new value = (lines_with (parsed_lines old.run) value ≡ Ok (parsed_lines new.run))
+    × (new.is_begun ≡ old.is_begun) × (new.next ≡ old.next)
 TakesLine old (Err e) new value = Fails e value × KeepsLines old new
 
 -- the next line has this fault, where this was read of it, unless memory was refused
@@ -180,16 +193,21 @@ abbrev pub IsFaultOfNext : {X : Type 0} → LinesRead → Result X LineFault →
 IsFaultOfNext read said (fault.Line n f) = (n ≡ read.next) × (said ≡ Err f)
 IsFaultOfNext read said fault.OutOfMemory = ⊤
 
--- These lines were read, behind whatever events were forgotten: one after the other, and the numbers of their events are noted.
+-- These lines were read, behind whatever events were forgotten: one after the other, and the numbers of their events
+-- are noted.
 pub record ReadsLines (old new : LinesRead) (lines : List RunLine) : Type 0 where
-  pub tells : (base : List SceneEvent) → is_begun base ≡ old.is_begun → AllRead (lines_after base (parsed_lines old.run)) lines (lines_after base (parsed_lines new.run))
-  pub noted : (base : List SceneEvent) → is_begun base ≡ old.is_begun → new.run.lines.items ≡ old.run.lines.items ++ event_lines old.next (lines_after base (parsed_lines old.run)) lines
+  pub tells : (base : List SceneEvent) → is_begun base ≡ old.is_begun
+      → AllRead (lines_after base (parsed_lines old.run)) lines (lines_after base (parsed_lines new.run))
+  pub noted : (base : List SceneEvent) → is_begun base ≡ old.is_begun
+      → new.run.lines.items ≡ old.run.lines.items ++ event_lines old.next (lines_after base (parsed_lines old.run))
+      lines
   pub begun : new.is_begun ≡ old.is_begun
   pub place : new.next ≡ old.next + length lines
 
 -- the first of these lines has the fault, and this number, unless memory was refused
 abbrev pub IsNextFault : ℕ → ParsedLines → List RunLine → ReadFault → Type 0
-IsNextFault n before lines (fault.Line m f) = (m ≡ n) × ((t : RunLine) × (more : List RunLine) × (lines ≡ t ∷ more) × (line_read before t ≡ Err f))
+IsNextFault n before lines (fault.Line m f) = (m ≡ n)
+    × ((t : RunLine) × (more : List RunLine) × (lines ≡ t ∷ more) × (line_read before t ≡ Err f))
 IsNextFault n before lines fault.OutOfMemory = ⊤
 
 -- the first of these lines were read, and the next has the fault, unless memory was refused
@@ -198,7 +216,8 @@ pub record LeavesLines (old new : LinesRead) (lines : List RunLine) (f : ReadFau
   pub rest : List RunLine
   pub whole : lines ≡ front ++ rest
   pub reads : ReadsLines old new front
-  pub wrong : (base : List SceneEvent) → is_begun base ≡ old.is_begun → IsNextFault new.next (lines_after base (parsed_lines new.run)) rest f
+  pub wrong : (base : List SceneEvent) → is_begun base ≡ old.is_begun
+      → IsNextFault new.next (lines_after base (parsed_lines new.run)) rest f
 
 -- the lines before the one of this number can be read, and that one has the fault
 pub record IsFirstFault (lines : List RunLine) (number : ℕ) (f : LineFault) : Type 0 where

@@ -1,17 +1,20 @@
 //! The reader of scenes.
 //!
-//! A scene is lines of fields separated by tabs. The first field names an event, and what follows it is read by
-//! the kind of the event. `lines` knows which kinds there are; what fields each has is in the crates `scene_unit_lines` and `scene_run_lines`.
+//! A scene is lines of fields separated by tabs. The first field names an event, and what follows it is read by the
+//! kind of the event. `lines` knows which kinds there are; what fields each has is in the crates `scene_unit_lines` and
+//! `scene_run_lines`.
 
 ghost use Rattle.std.specs.Prelude.{◌≡◌, [], ◌∷◌, false, IfErr, IfOk, OnErr, OnOk, Ok};
 ghost use Rattle.scene_fields.specs.Fields.{Fails, Gives};
-ghost use Rattle.scene_reader.specs.SceneTexts.{IsFaultOfNext, KeepsLines, LeavesLines, NotesLine, ReadsLines, RunLine, TakesLine, before_next, fault_at, is_begun_behind, is_passed_over, line_value, line_words, no_lines, parsed_line, parsed_lines, recorded_line, text_lines, value_of, with_line};
+ghost use Rattle.scene_reader.specs.SceneTexts.{IsFaultOfNext, KeepsLines, LeavesLines, NotesLine, ReadsLines, RunLine};
+ghost use Rattle.scene_reader.specs.SceneTexts.{TakesLine, before_next, fault_at, is_begun_behind, is_passed_over};
+ghost use Rattle.scene_reader.specs.SceneTexts.{line_value, line_words, no_lines, parsed_line, parsed_lines};
+ghost use Rattle.scene_reader.specs.SceneTexts.{recorded_line, text_lines, value_of, with_line};
 
 mod lines;
 
 use lines::read_event;
 use memchr::memchr;
-use scene_run_lines::lines::read_config;
 use run_model::memory::OutOfMemory;
 use scene_events::scene::event::SceneEvent;
 use scene_events::scene::{ParsedRun, SceneConfig};
@@ -21,9 +24,10 @@ use scene_fields::fields::{Fields, split_fields};
 use scene_fields::owned_text::OwnedText;
 use scene_fields::split::first_line;
 use scene_fields::stored::PlacedOutput;
+use scene_run_lines::lines::read_config;
+use scene_unit_lines::binary_ids::BinaryIds;
 use std::alloc::Global;
 use std::mem;
-use scene_unit_lines::binary_ids::BinaryIds;
 
 // Room for the fields of most recorded lines: those of a finished test with one attempt, and of a second one.
 const FIELDS: usize = 32;
@@ -39,7 +43,8 @@ pub enum ParsedLine {
     EventLine(SceneEvent),
 }
 
-/// The lines of a scene that were read so far. A scene that comes in pieces is read with no more than one of them in memory.
+/// The lines of a scene that were read so far. A scene that comes in pieces is read with no more than one of them in
+/// memory.
 ///
 /// ```
 /// let mut read = LinesRead::new(alloc);
@@ -176,7 +181,8 @@ impl LinesRead {
     ///
     /// The fault of this line, or refused memory. `stored` is then empty, and the lines read before are unchanged.
     pub fn read_recorded(&mut self, alloc: Global, line: &[u8]) -> Result<ParsedLine, ReadFault>
-        ensures value { IfOk result (λ value. recorded_line (before_next self.old) line.now ≡ Ok (value, self.new.stored.items)) }
+        ensures value { IfOk result
+            (λ value. recorded_line (before_next self.old) line.now ≡ Ok (value, self.new.stored.items)) }
         ensures fault { IfErr result (IsFaultOfNext self.old (recorded_line (before_next self.old) line.now)) }
         ensures none_stored { IfErr result (λ fault. self.new.stored.items ≡ []) }
         ensures kept { KeepsLines self.old self.new }
@@ -194,7 +200,9 @@ impl LinesRead {
     ///
     /// Memory was refused. Nothing is added.
     pub fn push(&mut self, value: ParsedLine) -> Result<(), OutOfMemory>
-        ensures pushed { OnOk result ((line : RunLine) → line_value (before_next self.old) line ≡ Ok value → ReadsLines self.old self.new (line ∷ [])) }
+        ensures pushed { OnOk result
+            ((line : RunLine) → line_value (before_next self.old) line ≡ Ok value
+            → ReadsLines self.old self.new (line ∷ [])) }
         ensures left { OnErr result (KeepsLines self.old self.new) }
         ensures stored { self.new.stored ≡ self.old.stored }
     {
@@ -250,7 +258,8 @@ impl LinesRead {
     #[tactic(auto, unfolding(crate::specs::SceneTexts::line_from), using(scene_fields::proofs::lemmas::Utf8::utf8_passes, scene_fields::proofs::lemmas::Utf8::utf8_fails))]
     fn read_recorded_line(&mut self, alloc: Global, line: &[u8]) -> Result<ParsedLine, LineError>
         requires none_stored { self.old.stored.items ≡ [] }
-        ensures value { IfOk result (λ value. recorded_line (before_next self.old) line.now ≡ Ok (value, self.new.stored.items)) }
+        ensures value { IfOk result
+            (λ value. recorded_line (before_next self.old) line.now ≡ Ok (value, self.new.stored.items)) }
         ensures fault { IfErr result (λ error. Fails error (recorded_line (before_next self.old) line.now)) }
         ensures none_stored { IfErr result (λ error. self.new.stored.items ≡ []) }
         ensures kept { KeepsLines self.old self.new }

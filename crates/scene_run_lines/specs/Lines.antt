@@ -1,12 +1,17 @@
--- The kinds of line that are of a run, of an iteration of a stress run or of a replay, and what the fields behind their words spell.
+-- The kinds of line that are of a run, of an iteration of a stress run or of a replay, and what the fields behind their
+-- words spell.
 use Rattle.std.specs.Prelude.{ℕ, List, length, if◌then◌else◌, Some, ◌==◌, ◌&&◌, Option, None, codes, bytes_eq}
-use Rattle.{std.specs.Option.option_flatten, uuid.specs.Text.parsed, scene_run_lines.specs.Parts.progress_in, scene_run_lines.specs.Parts.moment_in, scene_fields.specs.Lists.instances_in, scene_fields.specs.declared.values.ConfigKey.ConfigKey}
+use Rattle.{std.specs.Option.option_flatten, uuid.specs.Text.parsed, scene_run_lines.specs.Parts.progress_in}
+use Rattle.{scene_run_lines.specs.Parts.moment_in, scene_fields.specs.Lists.instances_in}
+use Rattle.{scene_fields.specs.declared.values.ConfigKey.ConfigKey}
 use Rattle.run_model.specs.Names.{final_stats_of, UniquePrefix, NotSeen}
 use Rattle.run_model.specs.declared.stats.RunFinishedStats.TheVariants.{Single, Stress}
-use Rattle.scene_events.specs.declared.scene.{SceneConfig.SceneConfig, event.SceneEvent.SceneEvent, run_events.RunCancel.RunCancel, run_events.RunPause.RunPause}
+use Rattle.scene_events.specs.declared.scene.{SceneConfig.SceneConfig, event.SceneEvent.SceneEvent}
+use Rattle.scene_events.specs.declared.scene.{run_events.RunCancel.RunCancel, run_events.RunPause.RunPause}
 use Rattle.scene_fields.specs.{Counts.stats_in, Counts.skips_in, Texts.text_in, Numbers.nanos_in, Numbers.number_in}
 use Rattle.scene_fields.specs.Fields.{◌>>=◌, Line, field, next, says, valued}
-use Rattle.scene_fields.specs.Values.{absent_in, config_key_in, display_in, final_level_in, flag_in, mode_in, reason_or_none_in, stress_in}
+use Rattle.scene_fields.specs.Values.{absent_in, config_key_in, display_in, final_level_in, flag_in, mode_in}
+use Rattle.scene_fields.specs.Values.{reason_or_none_in, stress_in}
 use Rattle.scene_events.specs.declared.scene.event.SceneEvent.TheVariants as event
 use Rattle.scene_fields.specs.declared.values.ConfigKey.TheVariants as key
 
@@ -32,7 +37,11 @@ run_line_fields = do
   tests ← field (number_in 64)
   binaries ← field (number_in 64)
   skips ← field skips_in
-  says (event.RunStarted (record { run_id = run_id; profile_name = profile; test_list = record { run_count = tests; listed_binary_count = binaries; skip_counts = skips } }))
+  says (event.RunStarted (record {
+    run_id = run_id;
+    profile_name = profile;
+    test_list = record { run_count = tests; listed_binary_count = binaries; skip_counts = skips };
+  }))
 
 -- `cancel` and `kill`: how many setup scripts and tests run, and the reason
 abbrev pub cancel_line_fields : Line RunCancel
@@ -62,7 +71,10 @@ abbrev pub not_seen_fields : Line (Option NotSeen)
 not_seen_fields = do
   count ← field (number_in 64)
   listed ← field instances_in
-  says (if count == 0 && (length listed == 0) then None else Some (record { not_seen = listed; total_not_seen = count }))
+  says (if count == 0 && (length listed == 0) then None else Some (record {
+    not_seen = listed;
+    total_not_seen = count;
+  }))
 
 -- `end`: how long it took, statistics, and the tests that were not seen
 abbrev pub end_line_fields : Line SceneEvent
@@ -92,7 +104,12 @@ end_stress_line_fields = do
   outstanding ← not_seen_fields
   says (event.RunFinished (record {
     elapsed = elapsed;
-    run_stats = Stress (record { completed = completed; success_count = succeeded; failed_count = failed; last_final_stats = final_stats_of stats });
+    run_stats = Stress (record {
+      completed = completed;
+      success_count = succeeded;
+      failed_count = failed;
+      last_final_stats = final_stats_of stats;
+    });
     outstanding_not_seen = outstanding;
   }))
 
@@ -124,7 +141,12 @@ header_line_fields = do
   unique_prefix ← unique_prefix_fields
   started_at ← field moment_in
   status ← field text_in
-  says (event.Header (record { run_id = run_id; unique_prefix = unique_prefix; started_at = started_at; status = status }))
+  says (event.Header (record {
+    run_id = run_id;
+    unique_prefix = unique_prefix;
+    started_at = started_at;
+    status = status;
+  }))
 
 -- `config`: a key and its value
 abbrev pub set_field : SceneConfig → ConfigKey → Line SceneConfig

@@ -1,8 +1,11 @@
 -- Values in one field with parts: the progress of a stress run, and moments.
-use Rattle.std.specs.Prelude.{ℕ, List, Bool, ◌&&◌, nat_le, nat_lt, unsigned_abs, if◌then◌else◌, Option, None, Some, codes, bytes_eq}
-use Rattle.{std.specs.Int.is_in_range, std.specs.Option.option_and_then, std.specs.Option.option_map, jiff_core.specs.Calendar.days_in_month}
+use Rattle.std.specs.Prelude.{ℕ, List, Bool, ◌&&◌, nat_le, nat_lt, unsigned_abs, if◌then◌else◌, Option, None, Some}
+use Rattle.std.specs.Prelude.{codes, bytes_eq}
+use Rattle.{std.specs.Int.is_in_range, std.specs.Option.option_and_then, std.specs.Option.option_map}
+use Rattle.{jiff_core.specs.Calendar.days_in_month}
 use Rattle.run_model.specs.Names.{StressCount, StressProgress, Nanos}
-use Rattle.{scene_events.specs.Moments.Clock, scene_events.specs.Moments.Day, scene_events.specs.Moments.Moment, scene_fields.specs.Split.cut, scene_fields.specs.Values.total_in}
+use Rattle.{scene_events.specs.Moments.Clock, scene_events.specs.Moments.Day, scene_events.specs.Moments.Moment}
+use Rattle.{scene_fields.specs.Split.cut, scene_fields.specs.Values.total_in}
 use Rattle.scene_fields.specs.Numbers.{code_in, nanos_in, number_in}
 use Rattle.run_names.specs.declared.stress.StressCount.TheVariants as count
 use Rattle.run_names.specs.declared.stress.StressProgress.TheVariants as progress
@@ -14,13 +17,17 @@ o >>= f = option_and_then f o
 
 -- `inf`, or how many iterations there are to be, which is not 0
 abbrev pub stress_count_in : List ℕ → Option StressCount
-stress_count_in t = if bytes_eq t (codes "inf") then Some count.Infinite else option_map count.Count (total_in (number_in 32 t))
+stress_count_in t = if bytes_eq t (codes "inf") then Some count.Infinite else option_map count.Count
+    (total_in (number_in 32 t))
 
 -- a run of this word: n iterations, or this much time, in all
 abbrev pub progress_of : List ℕ → List ℕ → Nanos → ℕ → Option StressProgress
 progress_of word total elapsed completed =
-    if bytes_eq word (codes "count") then option_map (λ count. progress.Count count elapsed completed) (stress_count_in total)
-    else (if bytes_eq word (codes "time") then option_map (λ time. progress.Time time elapsed completed) (nanos_in total) else None)
+    if bytes_eq word (codes "count") then option_map (λ count. progress.Count count elapsed completed)
+    (stress_count_in total)
+    else
+    (if bytes_eq word (codes "time") then option_map (λ time. progress.Time time elapsed completed)
+    (nanos_in total) else None)
 
 -- how far a stress run has come: a word, the total, the time that was taken, and the iterations that have finished
 abbrev pub progress_in : List ℕ → Option StressProgress
@@ -34,7 +41,8 @@ progress_in t = do
 
 -- the calendar has this day, in a year from -9999 to 9999
 abbrev pub is_day : Day → Bool
-is_day d = nat_le (unsigned_abs d.year) 9999 && (is_in_range 1 12 d.month && is_in_range 1 (days_in_month d.year d.month) d.day)
+is_day d = nat_le (unsigned_abs d.year) 9999 &&
+    (is_in_range 1 12 d.month && is_in_range 1 (days_in_month d.year d.month) d.day)
 
 abbrev pub checked_day : Day → Option Day
 checked_day d = if is_day d then Some d else None

@@ -2,8 +2,11 @@
 
 ghost use Rattle.std.specs.Prelude.{◌≡◌, IfOk};
 ghost use Rattle.scene_fields.specs.Texts.{text_in};
-ghost use Rattle.scene_run_lines.specs.Lines.{cancel_line_fields, config_line_fields, end_line_fields, end_stress_line_fields, header_line_fields, info_line_fields, input_line_fields, not_seen_fields};
-ghost use Rattle.scene_run_lines.specs.Lines.{pause_line_fields, prefix_line_fields, run_line_fields, some_text_in, sub_end_line_fields, unique_prefix_fields};
+ghost use Rattle.scene_run_lines.specs.Lines.{cancel_line_fields, config_line_fields, end_line_fields};
+ghost use Rattle.scene_run_lines.specs.Lines.{end_stress_line_fields, header_line_fields, info_line_fields};
+ghost use Rattle.scene_run_lines.specs.Lines.{input_line_fields, not_seen_fields};
+ghost use Rattle.scene_run_lines.specs.Lines.{pause_line_fields, prefix_line_fields, run_line_fields, some_text_in};
+ghost use Rattle.scene_run_lines.specs.Lines.{sub_end_line_fields, unique_prefix_fields};
 ghost use Rattle.scene_fields.specs.Fields.{Gives, answered};
 
 use super::parts::{read_moment, read_progress};

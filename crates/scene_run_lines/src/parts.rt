@@ -1,4 +1,5 @@
-//! Values in one field with parts, separated by colons or commas: the progress of a stress run, and a date with a time of day.
+//! Values in one field with parts, separated by colons or commas: the progress of a stress run, and a date with a time
+//! of day.
 
 ghost use Rattle.scene_run_lines.specs.Parts.{checked_clock, checked_day, moment_in, progress_in, stress_count_in};
 ghost use Rattle.std.specs.Prelude.{◌≡◌};
@@ -11,8 +12,8 @@ use scene_fields::numbers::{read_code, read_nanos, read_small_count};
 use scene_fields::split::split_at_byte;
 use scene_fields::values::read_total;
 
-/// Reads how far a stress run has come, by iterations or by time: the total, the time that was taken, and the iterations that
-/// have finished. One of endless iterations has finished after 5 ns in `count:inf:5:1`.
+/// Reads how far a stress run has come, by iterations or by time: the total, the time that was taken, and the
+/// iterations that have finished. One of endless iterations has finished after 5 ns in `count:inf:5:1`.
 pub fn read_progress(field: &str) -> Option<StressProgress>
     ensures { result ≡ progress_in field.now }
 {
@@ -48,8 +49,8 @@ fn read_stress_count(text: &str) -> Option<StressCount>
     }
 }
 
-/// Reads a date with a time of day. The years go from -9999 to 9999, the hours to 23, the minutes and seconds to 59. None is a
-/// bad field.
+/// Reads a date with a time of day. The years go from -9999 to 9999, the hours to 23, the minutes and seconds to 59.
+/// None is a bad field.
 ///
 /// ```
 /// assert!(read_moment("-5,2,28,7,5,9").is_some());

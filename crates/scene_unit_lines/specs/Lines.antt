@@ -1,13 +1,24 @@
 -- The kinds of line that tests and setup scripts have, and what the fields behind their words spell.
-use Rattle.std.specs.Prelude.{ℕ, zero, suc, ◌+◌, ◌/◌, ◌^◌, List, [], ◌∷◌, ◌++◌, length, if◌then◌else◌, nat_lt, Some, Err, Option, None, codes, bytes_eq, ◌≡◌, Bool, true, false, Ok}
-use Rattle.{std.specs.Option.option_map, run_model.specs.Names.Attempt, run_model.specs.Names.Attempts, scene_events.specs.SceneOutputs.written, scene_events.specs.SceneOutputs.no_output}
-use Rattle.run_model.specs.declared.{info.UnitState.UnitState, output.ChildOutputDescription.ChildOutputDescription, output.LiveSpec.LiveSpec, status.ExecutionResultDescription.ExecutionResultDescription, status.FlakyResult.FlakyResult, status.RetryData.RetryData}
-use Rattle.scene_events.specs.declared.scene.{event.SceneEvent.SceneEvent, unit_events.SceneScript.SceneScript, unit_events.SceneTest.SceneTest, unit_events.UnitAnswer.UnitAnswer}
-use Rattle.scene_events.specs.declared.scene.outputs.SceneOutput.{SceneOutput, TheVariants.Output, TheVariants.StartError}
-use Rattle.scene_fields.specs.{Counts.stats_in, Results.result_in, Texts.text_in, Texts.bytes_in, Numbers.nanos_in, Numbers.number_in, declared.stored.StoredOutput.StoredOutput}
+use Rattle.std.specs.Prelude.{ℕ, zero, suc, ◌+◌, ◌/◌, ◌^◌, List, [], ◌∷◌, ◌++◌, length, if◌then◌else◌, nat_lt, Some}
+use Rattle.std.specs.Prelude.{Err, Option, None, codes, bytes_eq, ◌≡◌, Bool, true, false, Ok}
+use Rattle.{std.specs.Option.option_map, run_model.specs.Names.Attempt, run_model.specs.Names.Attempts}
+use Rattle.{scene_events.specs.SceneOutputs.written, scene_events.specs.SceneOutputs.no_output}
+use Rattle.run_model.specs.declared.{info.UnitState.UnitState, output.ChildOutputDescription.ChildOutputDescription}
+use Rattle.run_model.specs.declared.{output.LiveSpec.LiveSpec}
+use Rattle.run_model.specs.declared.{status.ExecutionResultDescription.ExecutionResultDescription}
+use Rattle.run_model.specs.declared.{status.FlakyResult.FlakyResult, status.RetryData.RetryData}
+use Rattle.scene_events.specs.declared.scene.{event.SceneEvent.SceneEvent, unit_events.SceneScript.SceneScript}
+use Rattle.scene_events.specs.declared.scene.{unit_events.SceneTest.SceneTest, unit_events.UnitAnswer.UnitAnswer}
+use Rattle.scene_events.specs.declared.scene.outputs.SceneOutput.{SceneOutput, TheVariants.Output}
+use Rattle.scene_events.specs.declared.scene.outputs.SceneOutput.{TheVariants.StartError}
+use Rattle.scene_fields.specs.{Counts.stats_in, Results.result_in, Texts.text_in, Texts.bytes_in, Numbers.nanos_in}
+use Rattle.scene_fields.specs.{Numbers.number_in, declared.stored.StoredOutput.StoredOutput}
 use Rattle.scene_fields.specs.Fields.{◌>>=◌, Line, says, field, Place, next, next_stored, noting, valued}
-use Rattle.scene_fields.specs.{Lists.words_of, Lists.chain_in, Lists.errors_in, Values.absent_in, Values.display_in, Values.flag_in, Values.flaky_in, Values.stress_in}
-use Rattle.{scene_fields.specs.declared.fault.LineFault.TheVariants.WrongNumberOfFields, scene_unit_lines.specs.Parts.state_in, scene_unit_lines.specs.Parts.state_with, scene_unit_lines.specs.Parts.result_or_none_in, scene_unit_lines.specs.Parts.highlight_in}
+use Rattle.scene_fields.specs.{Lists.words_of, Lists.chain_in, Lists.errors_in, Values.absent_in, Values.display_in}
+use Rattle.scene_fields.specs.{Values.flag_in, Values.flaky_in, Values.stress_in}
+use Rattle.{scene_fields.specs.declared.fault.LineFault.TheVariants.WrongNumberOfFields}
+use Rattle.{scene_unit_lines.specs.Parts.state_in, scene_unit_lines.specs.Parts.state_with}
+use Rattle.{scene_unit_lines.specs.Parts.result_or_none_in, scene_unit_lines.specs.Parts.highlight_in}
 use Rattle.run_model.specs.declared.output.ChildOutputDescription.TheVariants as streams
 use Rattle.scene_events.specs.declared.scene.event.SceneEvent.TheVariants as event
 
@@ -61,7 +72,10 @@ start_error_fields = do
 unfoldable pub spelled_output_fields : Line SceneOutput
 spelled_output_fields = do
   form ← next
-  by_row (valued None) ((codes "split", split_fields) ∷ (codes "comb", combined_fields) ∷ (codes "unloaded", unloaded_fields) ∷ (codes "start", start_error_fields) ∷ []) form
+  by_row (valued None)
+      ((codes "split", split_fields) ∷ (codes "comb", combined_fields) ∷ (codes "unloaded", unloaded_fields)
+      ∷ (codes "start", start_error_fields) ∷ [])
+      form
 
 -- an output that is stored and left unread: its form, its streams, errors, and a highlight
 unfoldable pub stored_output_fields : Line SceneOutput
@@ -115,7 +129,13 @@ attempt_fields retry_data = do
   time_taken ← field nanos_in
   is_slow ← field flag_in
   output ← output_fields
-  says (record { retry_data = retry_data; output = written (Some result) output; result = result; time_taken = time_taken; is_slow = is_slow })
+  says (record {
+    retry_data = retry_data;
+    output = written (Some result) output;
+    result = result;
+    time_taken = time_taken;
+    is_slow = is_slow;
+  })
 
 -- the attempt of this number, of n possible ones
 abbrev pub retry_numbered : ℕ → ℕ → RetryData
@@ -126,8 +146,13 @@ abbrev pub attempt_number : ℕ → Line ℕ
 attempt_number n = λ p. if nat_lt n (2 ^ 32) then says n p else Err WrongNumberOfFields
 
 -- n more attempts, after `earlier` and `last`; the first of them has this number
-unfoldable pub attempts_from : FlakyResult → ℕ → ℕ → ℕ → List Attempt → Attempt → Line (Attempts LiveSpec ChildOutputDescription)
-attempts_from flaky total number zero earlier last = says (record { earlier = earlier; last = last; flaky_result = flaky })
+unfoldable pub attempts_from : FlakyResult → ℕ → ℕ → ℕ → List Attempt → Attempt
+    → Line (Attempts LiveSpec ChildOutputDescription)
+attempts_from flaky total number zero earlier last = says (record {
+  earlier = earlier;
+  last = last;
+  flaky_result = flaky;
+})
 attempts_from flaky total number (suc more) earlier last = do
   attempt ← attempt_number number
   next ← attempt_fields (retry_numbered total attempt)
@@ -166,7 +191,12 @@ slow_line_fields = do
   retry_data ← retry_fields
   elapsed ← field nanos_in
   will_terminate ← field flag_in
-  says (event.TestSlow (record { elapsed = elapsed; test = test; retry_data = retry_data; will_terminate = will_terminate }))
+  says (event.TestSlow (record {
+    elapsed = elapsed;
+    test = test;
+    retry_data = retry_data;
+    will_terminate = will_terminate;
+  }))
 
 -- `retry`: the test, which attempt failed, how long the next one waits, when the output is shown, and the attempt
 abbrev pub retry_line_fields : Line SceneEvent
@@ -176,7 +206,12 @@ retry_line_fields = do
   delay ← field nanos_in
   on_failure ← field display_in
   attempt ← attempt_fields retry_data
-  says (event.TestAttemptFailedWillRetry (record { attempt = attempt; delay_before_next_attempt = delay; test = test; failure_output = on_failure }))
+  says (event.TestAttemptFailedWillRetry (record {
+    attempt = attempt;
+    delay_before_next_attempt = delay;
+    test = test;
+    failure_output = on_failure;
+  }))
 
 -- `done`: the test, when its output is shown, what a flaky test counts as, statistics, how many attempts
 -- there can be, and the attempts
@@ -189,7 +224,13 @@ done_line_fields = do
   stats ← field stats_in
   total ← field (number_in 32)
   attempts ← all_attempts flaky total
-  says (event.TestFinished (record { attempts = attempts; current_stats = stats; test = test; success_output = on_success; failure_output = on_failure }))
+  says (event.TestFinished (record {
+    attempts = attempts;
+    current_stats = stats;
+    test = test;
+    success_output = on_success;
+    failure_output = on_failure;
+  }))
 
 -- which script it is: its id, the program, and the program's arguments
 unfoldable pub script_fields : Line SceneScript
@@ -206,7 +247,12 @@ setup_line_fields = do
   index ← field (number_in 64)
   total ← field (number_in 64)
   script ← script_fields
-  says (event.SetupScriptStarted (record { stress_index = stress_index; index = index; total = total; script = script }))
+  says (event.SetupScriptStarted (record {
+    stress_index = stress_index;
+    index = index;
+    total = total;
+    script = script;
+  }))
 
 -- `setupslow`: the iteration, the script, how long it has taken, and whether it is ended
 abbrev pub setup_slow_line_fields : Line SceneEvent
@@ -215,7 +261,12 @@ setup_slow_line_fields = do
   script ← script_fields
   elapsed ← field nanos_in
   will_terminate ← field flag_in
-  says (event.SetupScriptSlow (record { elapsed = elapsed; stress_index = stress_index; script = script; will_terminate = will_terminate }))
+  says (event.SetupScriptSlow (record {
+    elapsed = elapsed;
+    stress_index = stress_index;
+    script = script;
+    will_terminate = will_terminate;
+  }))
 
 -- `setupdone`: the iteration, the script, and its only attempt
 abbrev pub setup_done_line_fields : Line SceneEvent
@@ -248,7 +299,13 @@ answer_script_line_fields = do
   stress_index ← field stress_in
   script ← script_fields
   answer ← answer_fields
-  says (event.ScriptAnswered (record { index = index; total = total; stress_index = stress_index; script = script; answer = answer }))
+  says (event.ScriptAnswered (record {
+    index = index;
+    total = total;
+    stress_index = stress_index;
+    script = script;
+    answer = answer;
+  }))
 
 -- `answer-test`: which response of how many, the test, the attempt, and its response
 abbrev pub answer_test_line_fields : Line SceneEvent
@@ -258,4 +315,10 @@ answer_test_line_fields = do
   test ← test_fields
   retry_data ← retry_fields
   answer ← answer_fields
-  says (event.TestAnswered (record { index = index; total = total; test = test; retry_data = retry_data; answer = answer }))
+  says (event.TestAnswered (record {
+    index = index;
+    total = total;
+    test = test;
+    retry_data = retry_data;
+    answer = answer;
+  }))

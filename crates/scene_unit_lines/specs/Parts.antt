@@ -1,9 +1,12 @@
 -- Values in one field with parts: the state of a unit, and highlights.
 use Rattle.std.specs.Prelude.{ℕ, List, [], ◌∷◌, if◌then◌else◌, Option, None, Some, codes, bytes_eq}
-use Rattle.{std.specs.Option.option_and_then, std.specs.Option.option_map, run_model.specs.Names.terminate_reason_text, run_model.specs.Names.Nanos}
-use Rattle.run_model.specs.declared.{info.UnitState.UnitState, info.UnitTerminateReason.UnitTerminateReason, output.Highlight.Highlight, output.HighlightStream.HighlightStream}
+use Rattle.{std.specs.Option.option_and_then, std.specs.Option.option_map, run_model.specs.Names.terminate_reason_text}
+use Rattle.{run_model.specs.Names.Nanos}
+use Rattle.run_model.specs.declared.{info.UnitState.UnitState, info.UnitTerminateReason.UnitTerminateReason}
+use Rattle.run_model.specs.declared.{output.Highlight.Highlight, output.HighlightStream.HighlightStream}
 use Rattle.run_model.specs.declared.status.ExecutionResultDescription.{ExecutionResultDescription, TheVariants.Pass}
-use Rattle.scene_fields.specs.{Numbers.nanos_in, Numbers.number_in, Results.result_in, Split.cut, Texts.bytes_in, Texts.text_in, Values.flag_in, Values.of_word}
+use Rattle.scene_fields.specs.{Numbers.nanos_in, Numbers.number_in, Results.result_in, Split.cut, Texts.bytes_in}
+use Rattle.scene_fields.specs.{Texts.text_in, Values.flag_in, Values.of_word}
 use Rattle.run_model.specs.declared.info.UnitState.TheVariants as state
 use Rattle.run_model.specs.declared.info.UnitTerminateMethod.TheVariants as method
 use Rattle.run_model.specs.declared.info.UnitTerminateReason.TheVariants as reason
@@ -112,9 +115,11 @@ result_or_none_in t = if bytes_eq t (codes "-") then Some None else option_map (
 
 -- a state with its result, which what has ended has
 abbrev pub state_with : Option ExecutionResultDescription → UnitState → Option UnitState
-state_with result (state.Exiting pid taken slow_after other waited remaining) = Some (state.Exiting pid taken slow_after result waited remaining)
+state_with result (state.Exiting pid taken slow_after other waited remaining) = Some
+    (state.Exiting pid taken slow_after result waited remaining)
 state_with result (state.Exited other taken slow_after) = option_map (λ r. state.Exited r taken slow_after) result
-state_with result (state.DelayBeforeNextAttempt other was_slow waited remaining) = option_map (λ r. state.DelayBeforeNextAttempt r was_slow waited remaining) result
+state_with result (state.DelayBeforeNextAttempt other was_slow waited remaining) = option_map
+    (λ r. state.DelayBeforeNextAttempt r was_slow waited remaining) result
 state_with result live = Some live
 
 abbrev pub highlight_stream_word : HighlightStream → List ℕ

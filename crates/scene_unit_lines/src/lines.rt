@@ -1,10 +1,18 @@
-//! The lines of tests and of setup scripts, their output, and the responses of both when they are asked for their state.
+//! The lines of tests and of setup scripts, their output, and the responses of both when they are asked for their
+//! state.
 
 ghost use Rattle.scene_fields.specs.Fields.{Gives, answered, field};
-ghost use Rattle.{scene_fields.specs.Counts.stats_in, scene_fields.specs.Lists.errors_in, scene_fields.specs.Split.field_texts, scene_fields.specs.Texts.bytes_in};
-ghost use Rattle.scene_unit_lines.specs.Lines.{TakesEmptyOutput, TakesStoredOutput, after_streams, all_attempts, answer_fields, answer_script_line_fields, answer_test_line_fields, attempt_fields};
-ghost use Rattle.scene_unit_lines.specs.Lines.{attempts_behind, done_line_fields, empty_output_fields, output_fields, retry_fields, retry_line_fields, retry_start_line_fields, script_fields, setup_done_line_fields};
-ghost use Rattle.scene_unit_lines.specs.Lines.{setup_line_fields, setup_slow_line_fields, slow_line_fields, spelled_output_fields, start_line_fields, state_fields, stream_in, test_fields};
+ghost use Rattle.{scene_fields.specs.Counts.stats_in, scene_fields.specs.Lists.errors_in};
+ghost use Rattle.{scene_fields.specs.Split.field_texts, scene_fields.specs.Texts.bytes_in};
+ghost use Rattle.scene_unit_lines.specs.Lines.{TakesEmptyOutput, TakesStoredOutput, after_streams, all_attempts};
+ghost use Rattle.scene_unit_lines.specs.Lines.{answer_fields, answer_script_line_fields, answer_test_line_fields};
+ghost use Rattle.scene_unit_lines.specs.Lines.{attempt_fields};
+ghost use Rattle.scene_unit_lines.specs.Lines.{attempts_behind, done_line_fields, empty_output_fields, output_fields};
+ghost use Rattle.scene_unit_lines.specs.Lines.{retry_fields, retry_line_fields, retry_start_line_fields, script_fields};
+ghost use Rattle.scene_unit_lines.specs.Lines.{setup_done_line_fields};
+ghost use Rattle.scene_unit_lines.specs.Lines.{setup_line_fields, setup_slow_line_fields, slow_line_fields};
+ghost use Rattle.scene_unit_lines.specs.Lines.{spelled_output_fields, start_line_fields, state_fields, stream_in};
+ghost use Rattle.scene_unit_lines.specs.Lines.{test_fields};
 ghost use Rattle.std.specs.Prelude.{drop, IfOk, IsTrue, ◌++◌, ◌≡◌};
 
 use super::Field;
@@ -205,7 +213,8 @@ fn read_attempts(
     read_more_attempts(alloc, fields, flaky_result, total_attempts, first)
 }
 
-// Reads attempts that follow the first one, up to the end of the line. Not inlined: the compiler zeroes all locals of a function at its entry.
+// Reads attempts that follow the first one, up to the end of the line. Not inlined: the compiler zeroes all locals of a
+// function at its entry.
 #[inline(never)]
 fn read_more_attempts(
     alloc: Global,

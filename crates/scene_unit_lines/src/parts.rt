@@ -2,8 +2,10 @@
 //!
 //! The state of a unit is a word, as `running`, and its parts. How the attempt ended is in the next field.
 
-ghost use Rattle.scene_unit_lines.specs.Parts.{delay_in, exited_in, exiting_in, highlight_in, highlight_stream_in, result_or_none_in, running_in, slow_after_in, state_in, state_with};
-ghost use Rattle.{scene_unit_lines.specs.Parts.terminate_reason_in, scene_unit_lines.specs.Parts.terminating_in, scene_unit_lines.specs.Parts.timing_in, scene_unit_lines.specs.Parts.wait_in};
+ghost use Rattle.scene_unit_lines.specs.Parts.{delay_in, exited_in, exiting_in, highlight_in, highlight_stream_in};
+ghost use Rattle.scene_unit_lines.specs.Parts.{result_or_none_in, running_in, slow_after_in, state_in, state_with};
+ghost use Rattle.{scene_unit_lines.specs.Parts.terminate_reason_in, scene_unit_lines.specs.Parts.terminating_in};
+ghost use Rattle.{scene_unit_lines.specs.Parts.timing_in, scene_unit_lines.specs.Parts.wait_in};
 ghost use Rattle.std.specs.Prelude.{◌≡◌, IfOk};
 
 use super::Field;
@@ -22,8 +24,8 @@ use scene_fields::texts::{read_bytes, read_text};
 use scene_fields::values::read_flag;
 use std::alloc::Global;
 
-/// Reads the state of a unit. How its attempt ended is in the next field: until `state_with` it has passed, if it has ended. `None`
-/// means a bad field.
+/// Reads the state of a unit. How its attempt ended is in the next field: until `state_with` it has passed, if it has
+/// ended. `None` means a bad field.
 ///
 /// ```
 /// use run_model::info::UnitState;
@@ -84,8 +86,8 @@ fn read_exiting(text: &str) -> Option<UnitState>
     })
 }
 
-// Reads the parts after `terminating`: the process's id, how long it has run, why it is ended and by which signal, and the wait
-// for its end. A colon in the signal's name would part it.
+// Reads the parts after `terminating`: the process's id, how long it has run, why it is ended and by which signal, and
+// the wait for its end. A colon in the signal's name would part it.
 #[tactic(auto, unfolding(crate::specs::Parts::terminating_in))]
 fn read_terminating(alloc: Global, text: &str) -> Field<UnitState>
     ensures { IfOk result (λ state. state ≡ terminating_in text.now) }

@@ -23,7 +23,8 @@ pub use Rattle.reporter_state.specs.Refusals.{first_refused, refusal_by}
 pub use Rattle.reporter_state.specs.Unread.{unread, unread_call}
 pub use Rattle.reporter_state.specs.declared.decider.OutputLoadDecider.{OutputLoadDecider}
 pub use Rattle.reporter_state.specs.declared.faults.WriteEventError.{WriteEventError}
-pub use Rattle.reporter_state.specs.declared.faults.WriteEventError.TheVariants.{Failed, Io, OutputNotLoaded, RetriedSuccess, StoreIo}
+pub use Rattle.reporter_state.specs.declared.faults.WriteEventError.TheVariants.{Failed, Io, OutputNotLoaded}
+pub use Rattle.reporter_state.specs.declared.faults.WriteEventError.TheVariants.{RetriedSuccess, StoreIo}
 pub use Rattle.run_model.specs.declared.call.ReportCall.{ReportCall}
 pub use Rattle.run_model.specs.declared.call.ReportCall.TheVariants.{Event, Header, Prefix}
 pub use Rattle.run_model.specs.declared.event.TestEventKind.{TestEventKind}
@@ -33,7 +34,9 @@ pub use Rattle.scene_events.specs.declared.scene.event.SceneEvent.{SceneEvent}
 pub use Rattle.scene_fields.specs.declared.fault.LineFault.{LineFault}
 pub use Rattle.scene_fields.specs.declared.fault.ReadFault.{ReadFault}
 pub use Rattle.scene_reader.proofs.lemmas.Tellings.{all_append, begun_behind}
-pub use Rattle.scene_reader.specs.SceneTexts.{AllRead, IsNextFault, ParsedLines, RunLine, is_begun, is_begun_behind, line_value, lines_after, lines_before, lines_with, no_lines, parsed_lines, text_lines, text_read, with_line}
+pub use Rattle.scene_reader.specs.SceneTexts.{AllRead, IsNextFault, ParsedLines, RunLine, is_begun, is_begun_behind}
+pub use Rattle.scene_reader.specs.SceneTexts.{line_value, lines_after, lines_before, lines_with, no_lines, parsed_lines}
+pub use Rattle.scene_reader.specs.SceneTexts.{text_lines, text_read, with_line}
 pub use Rattle.scene_reader.specs.declared.reader.ParsedLine.{ParsedLine}
 pub use Rattle.scene_reader.specs.declared.reader.ParsedLine.TheVariants.{EventLine}
 pub use Rattle.scene_reader.specs.declared.reader.LinesRead.{LinesRead}
@@ -42,9 +45,11 @@ pub use Rattle.scenes.specs.Follow.{Followed, KeepsUp, StopsBy}
 pub use Rattle.scenes.specs.Judged.{ChecksEvent, IsSceneRefused, Refuses}
 pub use Rattle.scenes.specs.Outcomes.{outcome_after}
 pub use Rattle.scenes.specs.ParsedScenes.{scene_lines}
-pub use Rattle.scenes.specs.Prints.{AreWhole, Begins, HasAtLeast, HasAtMost, HasBeginning, HasFirstCalls, OfCalls, Prints, PrintsFollowed, Reported, StandAtOneCall, device}
+pub use Rattle.scenes.specs.Prints.{AreWhole, Begins, HasAtLeast, HasAtMost, HasBeginning, HasFirstCalls, OfCalls}
+pub use Rattle.scenes.specs.Prints.{Prints, PrintsFollowed, Reported, StandAtOneCall, device}
 pub use Rattle.scenes.specs.Read.{AreLeft, AreLeftOf, AtLine, HasReadLines, IsMore}
-pub use Rattle.scenes.specs.Reports.{AreCallsOf, configuration_for, fault_at_call, report_of, store_for, stored_of, AreReadyCallsOf, decider_for, unloaded_for}
+pub use Rattle.scenes.specs.Reports.{AreCallsOf, configuration_for, fault_at_call, report_of, store_for, stored_of}
+pub use Rattle.scenes.specs.Reports.{AreReadyCallsOf, decider_for, unloaded_for}
 pub use Rattle.scenes.specs.SceneReporter.{Follows, StopsAtEvent, writers}
 pub use Rattle.scenes.specs.declared.outcome.RunOutcome.{RunOutcome}
 pub use Rattle.scenes.specs.declared.scene.Scene.{Scene}

@@ -1,7 +1,8 @@
 -- A writer whose delivery is put off, and the delivery of the rest.
 use Rattle.std.specs.Prelude.{◌≡◌, ◌⊎◌, ℕ, List, [], Option, Result, Err, ⊤}
 use Rattle.styled_text.specs.Names.{BufferAccepts, BufferStops, Meaning, WriterLaws, TextBuffer}
-use Rattle.{writers.specs.declared.write_str.WriteFault.TheVariants.Device, scenes.specs.declared.deferred.Deferred.Deferred}
+use Rattle.{writers.specs.declared.write_str.WriteFault.TheVariants.Device}
+use Rattle.{scenes.specs.declared.deferred.Deferred.Deferred}
 use Rattle.command_line.specs.declared.fault.Fault.{Fault, TheVariants.WriteFailed}
 
 -- the writer below accepts; nothing need be delivered
@@ -29,8 +30,11 @@ deferred_laws laws = record {
   memory = λ a b t. laws.memory a.writer b.writer t;
 }
 
--- Either the report had failed with f and the rest was still delivered (not after `WriteFailed`), or delivery failed now.
-abbrev pub DeliversRest : {W : Type 0} → (W → Option (List ℕ)) → Result (Unit {0}) Fault → TextBuffer W → TextBuffer W → Fault → Type 0
+-- Either the report had failed with f and the rest was still delivered (not after `WriteFailed`), or delivery failed
+-- now.
+abbrev pub DeliversRest : {W : Type 0} → (W → Option (List ℕ)) → Result (Unit {0}) Fault → TextBuffer W → TextBuffer W
+    → Fault → Type 0
 DeliversRest contents outcome old new f =
-    ((outcome ≡ Err f) × (f ≡ WriteFailed → new ≡ old) × BufferAccepts contents old [] new × ((f ≡ WriteFailed → ⊥) → new.pending ≡ []))
+    ((outcome ≡ Err f) × (f ≡ WriteFailed → new ≡ old) × BufferAccepts contents old [] new
+    × ((f ≡ WriteFailed → ⊥) → new.pending ≡ []))
     ⊎ ((outcome ≡ Err WriteFailed → ⊥) × (f ≡ WriteFailed) × BufferStops contents old [] Device new)

@@ -6,4 +6,5 @@ use Rattle.scenes.specs.declared.devices.RecordDevice.{RecordDevice, TheVariants
 -- it is this device: behind an empty buffer where the options ask for records, with what these hold, else as it is
 abbrev pub IsRecordDevice : {S : Type 0} → Options → S → RecordDevice S → Type 0
 IsRecordDevice options device (Unused given) = (given ≡ device) × (store_for options ≡ None)
-IsRecordDevice options device (Buffered records config) = (records.writer ≡ device) × (records.pending ≡ []) × (store_for options ≡ Some config)
+IsRecordDevice options device (Buffered records config) = (records.writer ≡ device) × (records.pending ≡ [])
+    × (store_for options ≡ Some config)

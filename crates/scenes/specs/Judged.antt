@@ -1,11 +1,15 @@
 -- Scenes that are judged: each line by itself, and then whether the scene's reporter would refuse an event.
 use Rattle.std.specs.Prelude.{◌≡◌, ◌⊎◌, ℕ, List, ◌∷◌, ◌++◌, get_or, length, Option, None, Some, Result, Ok, Err}
-use Rattle.{std.specs.Option.option_and_then, std.specs.Option.option_map, command_line.specs.Faults.IsJudgeFault, command_line.specs.declared.fault.Fault.Fault}
+use Rattle.{std.specs.Option.option_and_then, std.specs.Option.option_map, command_line.specs.Faults.IsJudgeFault}
+use Rattle.{command_line.specs.declared.fault.Fault.Fault}
 use Rattle.reporter_state.specs.Refusals.{first_refused, refusal_at_by, refusal_by}
-use Rattle.{command_line.specs.declared.args.Options.Options, reporter_state.specs.declared.decider.OutputLoadDecider.OutputLoadDecider, scenes.specs.declared.scene.Scene.Scene}
+use Rattle.{command_line.specs.declared.args.Options.Options}
+use Rattle.{reporter_state.specs.declared.decider.OutputLoadDecider.OutputLoadDecider}
+use Rattle.{scenes.specs.declared.scene.Scene.Scene}
 use Rattle.scenes.specs.Reports.{AreCallsOf, fault_at_call, decider_for}
 use Rattle.scenes.specs.ParsedScenes.{IsFaultOf, IsSceneRead, scene_lines}
-use Rattle.scene_reader.specs.Names.{event_lines, no_lines, text_lines, text_read, IsCallOf, SceneConfig, SceneEvent, LineFault, ReportCall}
+use Rattle.scene_reader.specs.Names.{event_lines, no_lines, text_lines, text_read, IsCallOf, SceneConfig, SceneEvent}
+use Rattle.scene_reader.specs.Names.{LineFault, ReportCall}
 use Rattle.command_line.specs.declared.fault.Fault.TheVariants as fault
 
 -- no call of the scene is refused
@@ -27,7 +31,8 @@ pub record ChecksEvent (d : OutputLoadDecider) (n : ℕ) (event : SceneEvent) (f
 
 -- a reporter of a run that is reported so refuses the call, and this is why
 abbrev pub Refuses : Options → SceneConfig → ReportCall → LineFault → Type 0
-Refuses options config call f = (n : ℕ) → option_map (fault_at_call n) (refusal_by (decider_for options config) call) ≡ Some (fault.Line n f)
+Refuses options config call f = (n : ℕ)
+    → option_map (fault_at_call n) (refusal_by (decider_for options config) call) ≡ Some (fault.Line n f)
 
 -- it refuses the call of the event
 pub record RefusesEvent (options : Options) (config : SceneConfig) (event : SceneEvent) (f : LineFault) : Type 0 where
@@ -47,7 +52,8 @@ pub record IsRefusedLine (options : Options) (scene : Scene) (n : ℕ) (f : Line
 
 -- the fault of the line of the first call that is refused
 abbrev pub fault_of_first : OutputLoadDecider → Scene → List ReportCall → Option Fault
-fault_of_first d scene calls = option_and_then (λ i. option_map (fault_at_call (get_or scene.lines.items i 0)) (refusal_at_by d calls i)) (first_refused d calls)
+fault_of_first d scene calls = option_and_then
+    (λ i. option_map (fault_at_call (get_or scene.lines.items i 0)) (refusal_at_by d calls i)) (first_refused d calls)
 
 -- the fault is that the first refused call of the scene has, unless memory was refused
 abbrev pub IsSceneRefused : Options → Scene → Fault → Type 0
@@ -66,7 +72,8 @@ IsJudged options (Ok scene) text = IsSceneRead (Ok scene) (text_read text)
 IsJudged options (Err fault) text = IsSceneRead (Err fault) (text_read text) ⊎ IsRefusedText options text fault
 
 -- the fault is the text's own, or that it was not read whole, and nothing was written
-pub record IsRejected {W S : Type 0} (options : Options) (text : List ℕ) (fault : Fault) (old new : W × S) : Type 0 where
-  pub judged : IsJudged options (Err fault) text
-  pub of_judge : IsJudgeFault options.file.now fault
-  pub untouched : (new.0 ≡ old.0) × (new.1 ≡ old.1)
+pub record IsRejected {W S : Type 0} (options : Options) (text : List ℕ) (fault : Fault) (old new : W × S) : Type 0
+  where
+    pub judged : IsJudged options (Err fault) text
+    pub of_judge : IsJudgeFault options.file.now fault
+    pub untouched : (new.0 ≡ old.0) × (new.1 ≡ old.1)

@@ -1,6 +1,7 @@
 -- The outcome of a run: from its calls, and from the statistics that it ended with.
 use Rattle.std.specs.Prelude.{ℕ, List, [], ◌∷◌}
-use Rattle.{run_model.specs.Stats.final_stats_of, run_model.specs.Stats.stress_stats_of, scenes.specs.declared.outcome.RunOutcome.RunOutcome}
+use Rattle.{run_model.specs.Stats.final_stats_of, run_model.specs.Stats.stress_stats_of}
+use Rattle.{scenes.specs.declared.outcome.RunOutcome.RunOutcome}
 use Rattle.text_parts.specs.Names.{ReportCall, TestEventKind, FinalRunStats, RunFinishedStats, StressFinalRunStats}
 use Rattle.run_model.specs.declared.call.ReportCall.TheVariants as call
 use Rattle.run_model.specs.declared.event.TestEventKind.TheVariants as kind

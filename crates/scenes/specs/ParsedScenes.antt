@@ -1,6 +1,7 @@
 -- Scenes as lines that were read.
 use Rattle.std.specs.Prelude.{◌≡◌, ℕ, List, Result, Ok, Err, ⊤}
-use Rattle.scene_reader.specs.Names.{IsFirstFault, ParsedLines, RunLine, lines_read, no_lines, parsed_lines, text_lines, LineFault, ParsedRun}
+use Rattle.scene_reader.specs.Names.{IsFirstFault, ParsedLines, RunLine, lines_read, no_lines, parsed_lines, text_lines}
+use Rattle.scene_reader.specs.Names.{LineFault, ParsedRun}
 use Rattle.{command_line.specs.declared.fault.Fault.Fault, scenes.specs.declared.scene.Scene.Scene}
 use Rattle.command_line.specs.declared.fault.Fault.TheVariants as fault
 
@@ -19,7 +20,8 @@ IsFaultOf MayBeUnread IsWrong (fault.Line n f) = IsWrong n f
 IsFaultOf MayBeUnread IsWrong fault.OutOfMemory = ⊤
 IsFaultOf MayBeUnread IsWrong other = ⊥
 
--- the scene is that of the lines that were read, or the fault is theirs; or the file cannot be read, or memory was refused
+-- the scene is that of the lines that were read, or the fault is theirs; or the file cannot be read, or memory was
+-- refused
 abbrev pub IsSceneRead : Result Scene Fault → Result ParsedLines (ℕ × LineFault) → Type 0
 IsSceneRead (Ok scene) read = read ≡ Ok (scene_lines scene)
 IsSceneRead (Err fault) read = IsFaultOf ⊤ (λ n f. read ≡ Err (n, f)) fault

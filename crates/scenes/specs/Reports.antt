@@ -1,13 +1,17 @@
--- What the program writes of a scene, and the calls that its reporter gets: those of its events, where it is asked for with the output left unread
--- that no report shows.
+-- What the program writes of a scene, and the calls that its reporter gets: those of its events, where it is asked for
+-- with the output left unread that no report shows.
 use Rattle.std.specs.Prelude.{ℕ, List, reverse, false, if◌then◌else◌, Option, ◌≡◌, Bool}
 use Rattle.styled_text.specs.Names.{option_map, AllZip, Text}
-use Rattle.{run_names.specs.Filters.default_config_filter, scenes.specs.declared.scene.Scene.Scene, command_line.specs.declared.fault.Fault.Fault, command_line.specs.declared.args.Options.Options}
+use Rattle.{run_names.specs.Filters.default_config_filter, scenes.specs.declared.scene.Scene.Scene}
+use Rattle.{command_line.specs.declared.fault.Fault.Fault, command_line.specs.declared.args.Options.Options}
 use Rattle.text_parts.specs.Names.{ReportCall, overridden, ShowProgress, DisplayerKind}
 use Rattle.reporter_state.specs.Names.{StoreConfig, unread, unread_call}
-use Rattle.console_reporter.specs.Names.{WriteEventError, OutputLoadDecider, Configuration, configured_in, report, stored, decider_of, IsIsolated}
-use Rattle.console_reporter.specs.declared.imp.builder.{DisplayReporterBuilder.DisplayReporterBuilder, Surroundings.Surroundings}
-use Rattle.reporter_state.specs.declared.faults.WriteEventError.TheVariants.{RetriedSuccess, OutputNotLoaded, Io, Memory, Failed, StoreIo}
+use Rattle.console_reporter.specs.Names.{WriteEventError, OutputLoadDecider, Configuration, configured_in, report}
+use Rattle.console_reporter.specs.Names.{stored, decider_of, IsIsolated}
+use Rattle.console_reporter.specs.declared.imp.builder.{DisplayReporterBuilder.DisplayReporterBuilder}
+use Rattle.console_reporter.specs.declared.imp.builder.{Surroundings.Surroundings}
+use Rattle.reporter_state.specs.declared.faults.WriteEventError.TheVariants.{RetriedSuccess, OutputNotLoaded, Io}
+use Rattle.reporter_state.specs.declared.faults.WriteEventError.TheVariants.{Memory, Failed, StoreIo}
 use Rattle.scene_reader.specs.Names.{IsCallOf, SceneConfig, SceneEvent}
 use Rattle.command_line.specs.declared.fault.Fault.TheVariants.{Line, WriteFailed, StoreFailed, OutOfMemory}
 use Rattle.unit_report.specs.declared.config.ShowProgress.TheVariants as progress
@@ -47,11 +51,17 @@ store_for options = option_map (λ s. s.config) options.store
 
 -- what the scene says of where its report goes: to no terminal, and from no build machine
 abbrev pub surroundings_of : SceneConfig → Surroundings
-surroundings_of config = record { use_unicode = config.use_unicode; is_terminal = false; is_ci = false; display_empty_outputs = config.display_empty_outputs }
+surroundings_of config = record {
+  use_unicode = config.use_unicode;
+  is_terminal = false;
+  is_ci = false;
+  display_empty_outputs = config.display_empty_outputs;
+}
 
 -- the configuration of its reporter
 abbrev pub configuration_for : Options → SceneConfig → Configuration
-configuration_for options config = configured_in (builder_for options config) (surroundings_of config) (store_for options)
+configuration_for options config = configured_in (builder_for options config) (surroundings_of config)
+    (store_for options)
 
 -- the report of a scene that is configured so and whose calls are these
 abbrev pub report_of : Options → SceneConfig → List ReportCall → Text
@@ -82,11 +92,13 @@ ready_if unloads d call = if unloads then unread_call d call else call
 abbrev pub unloaded_for : Options → SceneConfig → List ReportCall → List ReportCall
 unloaded_for options config made = if options.unload_skipped then unread (decider_for options config) made else made
 
--- the call is one of the event, or the same with its output left unread, where that is asked for and the decider skips it
-pub record IsReadyCall (options : Options) (d : OutputLoadDecider) (event : SceneEvent) (call : ReportCall) : Type 0 where
-  pub made : ReportCall
-  pub of_event : IsCallOf event made
-  pub ready : call ≡ ready_if options.unload_skipped d made
+-- the call is one of the event, or the same with its output left unread, where that is asked for and the decider skips
+-- it
+pub record IsReadyCall (options : Options) (d : OutputLoadDecider) (event : SceneEvent) (call : ReportCall) : Type 0
+  where
+    pub made : ReportCall
+    pub of_event : IsCallOf event made
+    pub ready : call ≡ ready_if options.unload_skipped d made
 
 -- the calls are those, and so they have the report of the scene's calls, and the first that is refused is the same
 pub record AreReadyCallsOf (options : Options) (scene : Scene) (calls : List ReportCall) : Type 0 where

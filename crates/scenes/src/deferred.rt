@@ -35,7 +35,8 @@ pub(crate) fn deliver_rest<W: Write>(
     out: &mut TextBuffer<W>,
     outcome: Result<(), Fault<'static>>,
 ) -> Result<(), Fault<'static>>
-    ensures ok { OnOk result ((outcome.entry ≡ Ok tt) × BufferAccepts W.contents out.old [] out.new × (out.new.pending ≡ [])) }
+    ensures ok { OnOk result
+        ((outcome.entry ≡ Ok tt) × BufferAccepts W.contents out.old [] out.new × (out.new.pending ≡ [])) }
     ensures err { IfErr result (DeliversRest W.contents outcome.entry out.old out.new) }
 {
     if let Err(Fault::WriteFailed) = outcome {

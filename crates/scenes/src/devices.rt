@@ -18,15 +18,17 @@ pub(crate) enum RecordDevice<S: Write> {
     Buffered(TextBuffer<S>, StoreConfig),
 }
 
-/// Puts a buffer before the device of a report, and before that of its records where the options ask for these. Where memory is refused it
-/// gives both devices back as they were.
+/// Puts a buffer before the device of a report, and before that of its records where the options ask for these. Where
+/// memory is refused it gives both devices back as they were.
 pub(crate) fn buffered<W: Write, S: Write>(
     alloc: Global,
     options: &Options<'_>,
     writer: W,
     store_writer: S,
 ) -> Result<(TextBuffer<W>, RecordDevice<S>), (W, S)>
-    ensures ok { IfOk result (λ devices. (devices.0.writer ≡ writer) × (devices.0.pending ≡ []) × IsRecordDevice options.now store_writer devices.1) }
+    ensures ok { IfOk result
+        (λ devices. (devices.0.writer ≡ writer) × (devices.0.pending ≡ [])
+        × IsRecordDevice options.now store_writer devices.1) }
     ensures err { IfErr result (λ refused. refused ≡ (writer, store_writer)) }
 {
     let out = match TextBuffer::new(alloc, writer) {

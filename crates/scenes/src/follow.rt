@@ -1,12 +1,14 @@
 //! A live run: each line of a scene is reported as soon as it was read.
 //!
-//! The lines up to the first event configure the report. From there on the buffered lines are read, the text of
-//! each event is written and delivered, and then the next are read. Only what the summary will list is kept, and those lines.
+//! The lines up to the first event configure the report. From there on the buffered lines are read, the text of each
+//! event is written and delivered, and then the next are read. Only what the summary will list is kept, and those
+//! lines.
 
 ghost use Rattle.std.specs.Prelude.{◌≡◌, ℕ, List, [], true, Option, None, Some, Ok, IfOk, IfErr, OnOk};
 ghost use Rattle.console_reporter.specs.Names.{IsSameStore, config_of, store_delivered, store_meaning, IsSameReporter};
 ghost use Rattle.scene_reader.specs.SceneTexts.{RunLine, is_begun, no_lines, text_lines};
-ghost use Rattle.scenes.specs.Names.{Followed, StopsBy, OfLines, OfText, Begins, Prints, PrintsFollowed, device, HasReadLines, store_for, Follows, writers};
+ghost use Rattle.scenes.specs.Names.{Followed, StopsBy, OfLines, OfText, Begins, Prints, PrintsFollowed, device};
+ghost use Rattle.scenes.specs.Names.{HasReadLines, store_for, Follows, writers};
 
 use crate::devices::{RecordDevice, buffered};
 pub use crate::outcome::RunOutcome;
@@ -38,11 +40,16 @@ pub fn follow_scene<'a, R: Read + Drop, W: Write, S: Write>(
     writer: W,
     store_writer: S,
 ) -> (Result<RunOutcome, Fault<'a>>, W, S)
-    ensures ok { (text : List ℕ) → R.remaining reader ≡ Some text → IfOk result.0 (λ come_to.
-        OfText text (PrintsFollowed device device options.now (W.contents writer, S.contents store_writer) (W.contents result.1, S.contents result.2) come_to)) }
-    ensures err { (text : List ℕ) → R.remaining reader ≡ Some text → IfErr result.0 (StopsBy options.now (text_lines text)
-        (Prints device device options.now (W.contents writer, S.contents store_writer) (W.contents result.1, S.contents result.2))
-        (Begins device device options.now (W.contents writer, S.contents store_writer) (W.contents result.1, S.contents result.2))) }
+    ensures ok { (text : List ℕ) → R.remaining reader ≡ Some text
+        → IfOk result.0 (λ come_to. OfText text
+        (PrintsFollowed device device options.now (W.contents writer, S.contents store_writer)
+        (W.contents result.1, S.contents result.2) come_to)) }
+    ensures err { (text : List ℕ) → R.remaining reader ≡ Some text
+        → IfErr result.0 (StopsBy options.now (text_lines text)
+        (Prints device device options.now (W.contents writer, S.contents store_writer)
+        (W.contents result.1, S.contents result.2))
+        (Begins device device options.now (W.contents writer, S.contents store_writer)
+        (W.contents result.1, S.contents result.2))) }
     ensures no_store { options.now.store ≡ None → result.2 ≡ store_writer }
 {
     match SceneSource::new(alloc, reader) {
@@ -63,12 +70,18 @@ pub fn follow_source<'a, L: RunSource, W: Write, S: Write>(
     writer: W,
     store_writer: S,
 ) -> (Result<RunOutcome, Fault<'a>>, W, S)
-    ensures ok { (total : ℕ) (all : List RunLine) → L.left total source.old no_lines all → IfOk result.0 (λ come_to.
-        OfLines all (PrintsFollowed device device options.now (W.contents writer, S.contents store_writer) (W.contents result.1, S.contents result.2) come_to)) }
-    ensures rest { (total : ℕ) (all : List RunLine) → L.left total source.old no_lines all → OnOk result.0 (OfLines all (λ run. L.left total source.new run [])) }
-    ensures err { (total : ℕ) (all : List RunLine) → L.left total source.old no_lines all → IfErr result.0 (StopsBy options.now all
-        (Prints device device options.now (W.contents writer, S.contents store_writer) (W.contents result.1, S.contents result.2))
-        (Begins device device options.now (W.contents writer, S.contents store_writer) (W.contents result.1, S.contents result.2))) }
+    ensures ok { (total : ℕ) (all : List RunLine) → L.left total source.old no_lines all
+        → IfOk result.0 (λ come_to. OfLines all
+        (PrintsFollowed device device options.now (W.contents writer, S.contents store_writer)
+        (W.contents result.1, S.contents result.2) come_to)) }
+    ensures rest { (total : ℕ) (all : List RunLine) → L.left total source.old no_lines all
+        → OnOk result.0 (OfLines all (λ run. L.left total source.new run [])) }
+    ensures err { (total : ℕ) (all : List RunLine) → L.left total source.old no_lines all
+        → IfErr result.0 (StopsBy options.now all
+        (Prints device device options.now (W.contents writer, S.contents store_writer)
+        (W.contents result.1, S.contents result.2))
+        (Begins device device options.now (W.contents writer, S.contents store_writer)
+        (W.contents result.1, S.contents result.2))) }
     ensures no_store { options.now.store ≡ None → result.2 ≡ store_writer }
 {
     let (mut out, records) = match buffered(alloc, options, writer, store_writer) {
@@ -116,7 +129,8 @@ fn follow_to<'a, 'w, L: RunSource, W: WriteStr, S: WriteStr>(
     ensures same_reference { result.1.ghost_name ≡ writer.entry.ghost_name }
     ensures same_store { IsSameStore store.entry result.2 }
     ensures ends { (total : ℕ) (all : List RunLine) → L.left total source.old no_lines all
-        → Followed W.meaning (store_meaning S.meaning) options.now all (writer.old, store.entry) (result.1.now, result.2) (λ run. L.left total source.new run []) result.0 }
+        → Followed W.meaning (store_meaning S.meaning) options.now all (writer.old, store.entry)
+        (result.1.now, result.2) (λ run. L.left total source.new run []) result.0 }
 {
     let mut read = LinesRead::new(alloc);
     let more = read_lines(alloc, options.file, source, &mut read, true);
@@ -140,9 +154,13 @@ fn follow_lines<'a, L: RunSource, W: WriteStr, S: WriteStr>(
     reporter: &mut SceneReporter<'_, W, S>,
 ) -> Result<RunOutcome, Fault<'a>>
     ensures same { IsSameReporter reporter.old.reporter reporter.new.reporter }
-    ensures ends { (total : ℕ) (all : List RunLine) → HasReadLines options.now.file.now all [] no_lines read.old more.entry (L.left total source.old) → (more.entry ≡ Ok true → is_begun read.old.run.events.items ≡ true)
-        → Follows W.meaning S.meaning options.now reporter.old reporter.old (record { config = read.old.run.config; events = [] })
-        → Followed W.meaning (store_meaning S.meaning) options.now all (writers reporter.old) (writers reporter.new) (λ run. L.left total source.new run []) result }
+    ensures ends { (total : ℕ) (all : List RunLine)
+        → HasReadLines options.now.file.now all [] no_lines read.old more.entry (L.left total source.old)
+        → (more.entry ≡ Ok true → is_begun read.old.run.events.items ≡ true)
+        → Follows W.meaning S.meaning options.now reporter.old reporter.old (record
+        { config = read.old.run.config; events = [] })
+        → Followed W.meaning (store_meaning S.meaning) options.now all (writers reporter.old) (writers reporter.new)
+        (λ run. L.left total source.new run []) result }
 {
     let mut more = more;
     for _turn in 0..u64::MAX {

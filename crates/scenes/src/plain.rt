@@ -1,4 +1,5 @@
-//! The plain way to report a scene: all its calls are made, the first that is refused is asked for, and `run_report` writes their report.
+//! The plain way to report a scene: all its calls are made, the first that is refused is asked for, and `run_report`
+//! writes their report.
 //!
 //! `report_accepted`, which the programs call, promises the same and holds one call at a time.
 
@@ -31,7 +32,8 @@ pub(crate) fn refused_call(
     Some(fault_at_call(scene.line_of(place), error))
 }
 
-/// Writes the report of calls of a scene to a device, without records, and gives the device back. None of them may be refused.
+/// Writes the report of calls of a scene to a device, without records, and gives the device back. None of them may be
+/// refused.
 pub(crate) fn write_calls<W: Write>(
     alloc: Global,
     options: &Options<'_>,
@@ -41,8 +43,14 @@ pub(crate) fn write_calls<W: Write>(
 ) -> (Result<(), Fault<'static>>, W)
     requires no_store { store_for options.now ≡ None }
     requires accepted { first_refused (decider_for options.now scene.now.config) calls.now ≡ None }
-    ensures ok { OnOk result.0 ((held : Option (List ℕ)) → AreWhole device device options.now (W.contents writer, held) (W.contents result.1, held) scene.now.config calls.now) }
-    ensures err { IfErr result.0 (λ fault. (held : Option (List ℕ)) → AreBegun device device options.now (W.contents writer, held) (W.contents result.1, held) scene.now.config fault calls.now) }
+    ensures ok { OnOk result.0
+        ((held : Option (List ℕ))
+        → AreWhole device device options.now (W.contents writer, held) (W.contents result.1, held)
+        scene.now.config calls.now) }
+    ensures err { IfErr result.0
+        (λ fault. (held : Option (List ℕ))
+        → AreBegun device device options.now (W.contents writer, held) (W.contents result.1, held)
+        scene.now.config fault calls.now) }
 {
     let Ok(builder) = builder_of(alloc, options, &scene.config) else {
         return (Err(Fault::OutOfMemory), writer);
@@ -63,8 +71,8 @@ pub(crate) fn write_calls<W: Write>(
     }
 }
 
-/// Writes the report of calls of a scene to a device, and their records to a second one, and gives both devices back. None of the calls may
-/// be refused.
+/// Writes the report of calls of a scene to a device, and their records to a second one, and gives both devices back.
+/// None of the calls may be refused.
 pub(crate) fn write_calls_and_records<W: Write, S: Write>(
     alloc: Global,
     options: &Options<'_>,
@@ -76,8 +84,12 @@ pub(crate) fn write_calls_and_records<W: Write, S: Write>(
 ) -> (Result<(), Fault<'static>>, W, S)
     requires store { store_for options.now ≡ Some store }
     requires accepted { first_refused (decider_for options.now scene.now.config) calls.now ≡ None }
-    ensures ok { OnOk result.0 (AreWhole device device options.now (W.contents writer, S.contents store_writer) (W.contents result.1, S.contents result.2) scene.now.config calls.now) }
-    ensures err { IfErr result.0 (λ fault. AreBegun device device options.now (W.contents writer, S.contents store_writer) (W.contents result.1, S.contents result.2) scene.now.config fault calls.now) }
+    ensures ok { OnOk result.0
+        (AreWhole device device options.now (W.contents writer, S.contents store_writer)
+        (W.contents result.1, S.contents result.2) scene.now.config calls.now) }
+    ensures err { IfErr result.0
+        (λ fault. AreBegun device device options.now (W.contents writer, S.contents store_writer)
+        (W.contents result.1, S.contents result.2) scene.now.config fault calls.now) }
 {
     let Ok(builder) = builder_of(alloc, options, &scene.config) else {
         return (Err(Fault::OutOfMemory), writer, store_writer);

@@ -34,7 +34,8 @@ pub trait RunSource {
         file: &'a str,
         read: &mut LinesRead,
     ) -> Result<bool, Fault<'a>>
-        ensures read { (total : ℕ) (all front : List RunLine) (before : ParsedLines) → HasReadLines file.now all front before read.old (Ok true) (left total self.old)
+        ensures read { (total : ℕ) (all front : List RunLine) (before : ParsedLines)
+            → HasReadLines file.now all front before read.old (Ok true) (left total self.old)
             → HasReadLines file.now all front before read.new result (left total self.new) }
         ensures fault { IfErr result (IsJudgeFault file.now) };
 
@@ -105,7 +106,8 @@ fn read_piece(alloc: Global, piece: &mut Vec<u8>, read: &mut LinesRead) -> Resul
     read.read_owned(alloc, mem::replace(piece, Vec::new(alloc)))
 }
 
-/// Reads the lines of a source to their end, or to the first event if that is asked for. It returns whether there may be more.
+/// Reads the lines of a source to their end, or to the first event if that is asked for. It returns whether there may
+/// be more.
 pub(crate) fn read_lines<'a, L: RunSource>(
     alloc: Global,
     file: &'a str,
@@ -113,7 +115,8 @@ pub(crate) fn read_lines<'a, L: RunSource>(
     read: &mut LinesRead,
     to_event: bool,
 ) -> Result<bool, Fault<'a>>
-    ensures read { (total : ℕ) (all front : List RunLine) (before : ParsedLines) → HasReadLines file.now all front before read.old (Ok true) (L.left total source.old)
+    ensures read { (total : ℕ) (all front : List RunLine) (before : ParsedLines)
+        → HasReadLines file.now all front before read.old (Ok true) (L.left total source.old)
         → HasReadLines file.now all front before read.new result (L.left total source.new) }
     ensures event { result ≡ Ok true → (to_event ≡ true) × (is_begun read.new.run.events.items ≡ true) }
     ensures fault { IfErr result (IsJudgeFault file.now) }

@@ -1,9 +1,10 @@
 //! What the program does with a scene, over any reader and any two writers.
 //!
-//! A scene is read, then checked by `judge`, and then reported. `judge` has no device, and a report takes the scene that it accepted, so no
-//! byte is written before a scene is accepted, and none of a scene that is refused.
+//! A scene is read, then checked by `judge`, and then reported. `judge` has no device, and a report takes the scene
+//! that it accepted, so no byte is written before a scene is accepted, and none of a scene that is refused.
 
-ghost use Rattle.scenes.specs.Names.{Fault, IsJudgeFault, IsJudged, IsRefusedText, IsRejected, IsSceneAccepted, IsSceneRefused, ChecksEvent, Begins, Prints, Reported, device};
+ghost use Rattle.scenes.specs.Names.{Fault, IsJudgeFault, IsJudged, IsRefusedText, IsRejected, IsSceneAccepted};
+ghost use Rattle.scenes.specs.Names.{IsSceneRefused, ChecksEvent, Begins, Prints, Reported, device};
 ghost use Rattle.std.specs.Prelude.{◌≡◌, ◌⊎◌, ℕ, List, Option, None, Some, IfOk, IfErr, OnOk};
 ghost use Rattle.scenes.specs.Names.{store_for, IsReadFault, IsSceneRead, OfText, scene_lines};
 ghost use Rattle.console_reporter.specs.OptionalStore.{IsSameStore, config_of, store_delivered, store_meaning};
@@ -57,8 +58,10 @@ pub fn judge<'a, R: Read + Drop>(
 ) -> Result<Scene, Fault<'a>>
     ensures fault { IfErr result (IsJudgeFault options.now.file.now) }
     // If the reader's bytes are known: like `read_whole`.
-    ensures scene { (bytes : List ℕ) → R.remaining reader ≡ Some bytes → IfOk result (λ scene. AllRead no_lines (text_lines bytes) (scene_lines scene)) }
-    ensures first_fault { (bytes : List ℕ) → R.remaining reader ≡ Some bytes → IfErr result (λ fault. IsReadFault bytes fault ⊎ IsRefusedText options.now bytes fault) }
+    ensures scene { (bytes : List ℕ) → R.remaining reader ≡ Some bytes
+        → IfOk result (λ scene. AllRead no_lines (text_lines bytes) (scene_lines scene)) }
+    ensures first_fault { (bytes : List ℕ) → R.remaining reader ≡ Some bytes
+        → IfErr result (λ fault. IsReadFault bytes fault ⊎ IsRefusedText options.now bytes fault) }
     ensures answer { (bytes : List ℕ) → R.remaining reader ≡ Some bytes → IsJudged options.now result bytes }
     // No event of the scene is refused.
     ensures accepted { IfOk result (IsSceneAccepted options.now) }
@@ -82,8 +85,10 @@ pub fn read_whole<'a, R: Read + Drop>(
     reader: R,
 ) -> Result<Scene, Fault<'a>>
     ensures fault { IfErr result (IsJudgeFault options.now.file.now) }
-    ensures scene { (bytes : List ℕ) → R.remaining reader ≡ Some bytes → IfOk result (λ scene. AllRead no_lines (text_lines bytes) (scene_lines scene)) }
-    ensures lines { (bytes : List ℕ) → R.remaining reader ≡ Some bytes → IfOk result (λ scene. scene.lines.items ≡ event_lines 1 no_lines (text_lines bytes)) }
+    ensures scene { (bytes : List ℕ) → R.remaining reader ≡ Some bytes
+        → IfOk result (λ scene. AllRead no_lines (text_lines bytes) (scene_lines scene)) }
+    ensures lines { (bytes : List ℕ) → R.remaining reader ≡ Some bytes
+        → IfOk result (λ scene. scene.lines.items ≡ event_lines 1 no_lines (text_lines bytes)) }
     ensures first_fault { (bytes : List ℕ) → R.remaining reader ≡ Some bytes → IfErr result (IsReadFault bytes) }
     ensures answer { (bytes : List ℕ) → R.remaining reader ≡ Some bytes → IsSceneRead result (text_read bytes) }
 {
@@ -123,8 +128,8 @@ pub fn accept_scene<'a>(
     }
 }
 
-// Checks the events of a scene: the first whose call its reporter would refuse is the fault of its line. Those after it are checked too,
-// so that a fault is that of a scene that has all its calls.
+// Checks the events of a scene: the first whose call its reporter would refuse is the fault of its line. Those after it
+// are checked too, so that a fault is that of a scene that has all its calls.
 #[tactic(auto, using(crate::proofs::lemmas::Refusals::all_judged, crate::proofs::lemmas::Refusals::judged_more))]
 fn check_refusals(alloc: Global, options: &Options<'_>, scene: &Scene) -> Result<(), Fault<'static>>
     ensures ok { OnOk result (IsSceneAccepted options.now scene.now) }
@@ -144,8 +149,8 @@ fn check_refusals(alloc: Global, options: &Options<'_>, scene: &Scene) -> Result
     }
 }
 
-// The fault of the line of this number, if the call of its event is refused. Where a reporter may refuse it, the call is made for this
-// alone, in these buffers.
+// The fault of the line of this number, if the call of its event is refused. Where a reporter may refuse it, the call
+// is made for this alone, in these buffers.
 #[tactic(auto, using(crate::proofs::lemmas::Refusals::judged_unmade))]
 fn check_refusal<'a>(
     alloc: Global,
@@ -181,11 +186,14 @@ pub fn report_scene<'a, R: Read + Drop, W: Write, S: Write>(
     writer: W,
     store_writer: S,
 ) -> (Result<(), Fault<'a>>, W, S)
-    ensures ok { (text : List ℕ) → R.remaining reader ≡ Some text →
-        OnOk result.0 (OfText text (Prints device device options.now (W.contents writer, S.contents store_writer) (W.contents result.1, S.contents result.2))) }
-    ensures err { (text : List ℕ) → R.remaining reader ≡ Some text →
-        IfErr result.0 (λ fault. IsRejected options.now text fault (writer, store_writer) (result.1, result.2)
-        ⊎ OfText text (λ run. Begins device device options.now (W.contents writer, S.contents store_writer) (W.contents result.1, S.contents result.2) run fault)) }
+    ensures ok { (text : List ℕ) → R.remaining reader ≡ Some text
+        → OnOk result.0 (OfText text
+        (Prints device device options.now (W.contents writer, S.contents store_writer)
+        (W.contents result.1, S.contents result.2))) }
+    ensures err { (text : List ℕ) → R.remaining reader ≡ Some text
+        → IfErr result.0 (λ fault. IsRejected options.now text fault (writer, store_writer) (result.1, result.2)
+        ⊎ OfText text (λ run. Begins device device options.now (W.contents writer, S.contents store_writer)
+        (W.contents result.1, S.contents result.2) run fault)) }
     ensures no_store { options.now.store ≡ None → result.2 ≡ store_writer }
 {
     let scene = match read_whole(alloc, options, reader) {
@@ -210,9 +218,19 @@ pub fn write_report<W: Write + Drop, S: Write + Drop>(
     writer: W,
     store_writer: S,
 ) -> Result<(), Fault<'static>>
-    ensures ok { OnOk result ((last : W) × (store_last : S) × Prints device device options.now (W.contents writer, S.contents store_writer) (W.contents last, S.contents store_last) (scene_lines scene.now)) }
-    ensures err { IfErr result (λ fault. IsSceneRefused options.now scene.now fault
-        ⊎ ((last : W) × (store_last : S) × Begins device device options.now (W.contents writer, S.contents store_writer) (W.contents last, S.contents store_last) (scene_lines scene.now) fault)) }
+    ensures ok { OnOk result
+        ((last : W) × (store_last : S)
+        × Prints device device options.now (W.contents writer, S.contents store_writer) (
+          W.contents last,
+          S.contents store_last,
+        ) (scene_lines scene.now)) }
+    ensures err { IfErr result
+        (λ fault. IsSceneRefused options.now scene.now fault
+        ⊎ ((last : W) × (store_last : S)
+        × Begins device device options.now (W.contents writer, S.contents store_writer) (
+          W.contents last,
+          S.contents store_last,
+        ) (scene_lines scene.now) fault)) }
 {
     let (outcome, _writer, _store_writer) = report_by_calls(
         alloc,
@@ -239,9 +257,15 @@ pub fn report_by_calls<W: Write, S: Write>(
     writer: W,
     store_writer: S,
 ) -> (Result<(), Fault<'static>>, W, S)
-    ensures ok { OnOk result.0 (Prints device device options.now (W.contents writer, S.contents store_writer) (W.contents result.1, S.contents result.2) (scene_lines scene.now)) }
-    ensures err { IfErr result.0 (λ fault. (IsSceneRefused options.now scene.now fault × (result.1 ≡ writer) × (result.2 ≡ store_writer))
-        ⊎ Begins device device options.now (W.contents writer, S.contents store_writer) (W.contents result.1, S.contents result.2) (scene_lines scene.now) fault) }
+    ensures ok { OnOk result.0
+        (Prints device device options.now (W.contents writer, S.contents store_writer)
+        (W.contents result.1, S.contents result.2) (scene_lines scene.now)) }
+    ensures err { IfErr result.0
+        (λ fault. (IsSceneRefused options.now scene.now fault × (result.1 ≡ writer) × (result.2 ≡ store_writer))
+        ⊎ Begins device device options.now (W.contents writer, S.contents store_writer) (
+          W.contents result.1,
+          S.contents result.2,
+        ) (scene_lines scene.now) fault) }
     ensures no_store { options.now.store ≡ None → result.2 ≡ store_writer }
 {
     let all = match scene.calls(alloc, options) {
@@ -284,8 +308,12 @@ pub fn report_accepted<W: Write, S: Write>(
     writer: W,
     store_writer: S,
 ) -> (Result<(), Fault<'static>>, W, S)
-    ensures ok { OnOk result.0 (Prints device device judged.now.options (W.contents writer, S.contents store_writer) (W.contents result.1, S.contents result.2) (scene_lines judged.now.scene)) }
-    ensures err { IfErr result.0 (Begins device device judged.now.options (W.contents writer, S.contents store_writer) (W.contents result.1, S.contents result.2) (scene_lines judged.now.scene)) }
+    ensures ok { OnOk result.0
+        (Prints device device judged.now.options (W.contents writer, S.contents store_writer)
+        (W.contents result.1, S.contents result.2) (scene_lines judged.now.scene)) }
+    ensures err { IfErr result.0
+        (Begins device device judged.now.options (W.contents writer, S.contents store_writer)
+        (W.contents result.1, S.contents result.2) (scene_lines judged.now.scene)) }
     ensures no_store { judged.now.options.store ≡ None → result.2 ≡ store_writer }
 {
     let (options, scene) = (judged.options, judged.scene);
@@ -319,8 +347,8 @@ pub fn report_accepted<W: Write, S: Write>(
     }
 }
 
-// Writes the report of a scene that is accepted, and its records where there is a store, and delivers both. On a fault the writers have
-// accepted a beginning. It gives both back.
+// Writes the report of a scene that is accepted, and its records where there is a store, and delivers both. On a fault
+// the writers have accepted a beginning. It gives both back.
 fn report_to<'w, W: WriteStr, S: WriteStr>(
     alloc: Global,
     options: &Options<'_>,
@@ -334,7 +362,8 @@ fn report_to<'w, W: WriteStr, S: WriteStr>(
     requires accepted { IsSceneAccepted options.now scene.now }
     ensures same_reference { result.1.ghost_name ≡ writer.entry.ghost_name }
     ensures same_store { IsSameStore store.entry result.2 }
-    ensures ends { Reported W.meaning (store_meaning S.meaning) options.now (writer.old, store.entry) (result.1.now, result.2) (scene_lines scene.now) result.0 }
+    ensures ends { Reported W.meaning (store_meaning S.meaning) options.now (writer.old, store.entry)
+        (result.1.now, result.2) (scene_lines scene.now) result.0 }
 {
     let builder = match builder_of(alloc, options, &scene.config) {
         Ok(builder) => builder,

@@ -1,7 +1,9 @@
-//! The reporter of a scene: what it is built from, what it decides by, and the faults of the program that its errors are.
+//! The reporter of a scene: what it is built from, what it decides by, and the faults of the program that its errors
+//! are.
 
 ghost use Rattle.std.specs.Prelude.{◌≡◌, IfOk, IfErr};
-ghost use Rattle.scenes.specs.Names.{builder_for, fault_at_call, kind_for, progress_for, surroundings_of, decider_for, Fault};
+ghost use Rattle.scenes.specs.Names.{builder_for, fault_at_call, kind_for, progress_for, surroundings_of, decider_for};
+ghost use Rattle.scenes.specs.Names.{Fault};
 
 use crate::scene::SceneConfig;
 use command_line::args::Options;

@@ -30,8 +30,8 @@ impl Scene {
         line_at(self.lines.as_slice(), place)
     }
 
-    /// The calls that the scene makes of a reporter, in order. They borrow its names. Where the options ask for it, the output
-    /// that the reporter does not show is left unread, which changes neither its report nor what it refuses.
+    /// The calls that the scene makes of a reporter, in order. They borrow its names. Where the options ask for it, the
+    /// output that the reporter does not show is left unread, which changes neither its report nor what it refuses.
     ///
     /// # Errors
     ///

@@ -36,8 +36,10 @@ impl<'a, W: WriteStr, S: WriteStr> SceneReporter<'a, W, S> {
     ) -> SceneReporter<'a, W, S>
         ensures same_reference { result.reporter.writer.ghost_name ≡ writer.entry.ghost_name }
         ensures writers { writers result ≡ (writer.old, store.entry) }
-        ensures start { (options : Options) → builder ≡ builder_for options config.now → config_of store.entry ≡ store_for options
-            → W.meaning.is_delivered writer.old → store_delivered S.meaning store.entry → Follows W.meaning S.meaning options result result (record { config = config.now; events = [] }) }
+        ensures start { (options : Options) → builder ≡ builder_for options config.now
+            → config_of store.entry ≡ store_for options → W.meaning.is_delivered writer.old
+            → store_delivered S.meaning store.entry
+            → Follows W.meaning S.meaning options result result (record { config = config.now; events = [] }) }
     {
         let reporter = builder.build_in(alloc, writer, store, surroundings_of(config));
         SceneReporter {
@@ -46,9 +48,9 @@ impl<'a, W: WriteStr, S: WriteStr> SceneReporter<'a, W, S> {
         }
     }
 
-    /// Reports the events of these lines, one after the other: the text of each is written and delivered, and then its record. An
-    /// event that is refused is the fault of its line, and is not reported, nor are those after it. Once a call has failed, none is made:
-    /// the result is then `WriteFailed`, unless memory is refused.
+    /// Reports the events of these lines, one after the other: the text of each is written and delivered, and then its
+    /// record. An event that is refused is the fault of its line, and is not reported, nor are those after it. Once a
+    /// call has failed, none is made: the result is then `WriteFailed`, unless memory is refused.
     pub(crate) fn report_events(
         &mut self,
         alloc: Global,
@@ -57,9 +59,14 @@ impl<'a, W: WriteStr, S: WriteStr> SceneReporter<'a, W, S> {
         lines: &[u64],
     ) -> Result<(), Fault<'static>>
         ensures same { IsSameReporter self.old.reporter self.new.reporter }
-        ensures reported { OnOk result ((config : SceneConfig) (start : SceneReporter W S) (base : List SceneEvent) → Follows W.meaning S.meaning options.now start self.old (record { config = config; events = base })
-            → Follows W.meaning S.meaning options.now start self.new (record { config = config; events = base ++ events.now })) }
-        ensures left { IfErr result (λ fault. (config : SceneConfig) (start : SceneReporter W S) (base : List SceneEvent) → Follows W.meaning S.meaning options.now start self.old (record { config = config; events = base })
+        ensures reported { OnOk result
+            ((config : SceneConfig) (start : SceneReporter W S) (base : List SceneEvent)
+            → Follows W.meaning S.meaning options.now start self.old (record { config = config; events = base })
+            → Follows W.meaning S.meaning options.now start self.new (record
+            { config = config; events = base ++ events.now })) }
+        ensures left { IfErr result
+            (λ fault. (config : SceneConfig) (start : SceneReporter W S) (base : List SceneEvent)
+            → Follows W.meaning S.meaning options.now start self.old (record { config = config; events = base })
             → StopsAtEvent W.meaning S.meaning options.now start self.new config events.now lines.now base fault) }
         // Once its reporter has failed, it does not change, and no event returns Ok.
         ensures failed { HasFailed self.old.reporter → (self.new ≡ self.old) × OnOk result (events.now ≡ []) }
@@ -110,8 +117,8 @@ fn ready_call<'r, 'a>(
     Ok(call)
 }
 
-/// Where the calls of events are made, one at a time: calls are large, and one that has the form of the last takes its place, with what that
-/// has allocated. A test that finishes has a place of its own, since most events are such.
+/// Where the calls of events are made, one at a time: calls are large, and one that has the form of the last takes its
+/// place, with what that has allocated. A test that finishes has a place of its own, since most events are such.
 #[derive(Drop)]
 pub(crate) struct CallBuffers<'a> {
     finished: Calls<'a>,

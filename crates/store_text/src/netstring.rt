@@ -6,7 +6,8 @@ ghost use Rattle.{writers.specs.Writer.Puts, store_text.specs.Netstring.netstrin
 use itoa::Buffer;
 use writers::write_str::{WriteFault, WriteStr, write_strs};
 
-/// Writes a text as a netstring: the number of its bytes in decimal, a colon, the text, and a comma. It allocates nothing.
+/// Writes a text as a netstring: the number of its bytes in decimal, a colon, the text, and a comma. It allocates
+/// nothing.
 ///
 /// ```
 /// write_netstring(&mut out, "t1")?;

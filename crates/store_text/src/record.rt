@@ -1,6 +1,7 @@
 //! The record of a finished test.
 
-ghost use Rattle.{text_parts.specs.ResultWords.short_word, writers.specs.Writer.Puts, store_text.specs.Netstring.netstring, store_text.specs.Record.record_text};
+ghost use Rattle.{text_parts.specs.ResultWords.short_word, writers.specs.Writer.Puts};
+ghost use Rattle.{store_text.specs.Netstring.netstring, store_text.specs.Record.record_text};
 
 use crate::config::StoreConfig;
 use crate::netstring::{write_joined_netstring, write_netstring};

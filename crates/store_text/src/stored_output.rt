@@ -12,8 +12,8 @@ use run_model::output::{
 use run_model::status::ExecutionStatuses;
 use writers::write_str::{WriteFault, WriteStr};
 
-/// Writes the output that the store keeps of a test as a netstring: that of the last attempt, if the store keeps it, standard
-/// output and then standard error, or both streams as they came. It allocates nothing.
+/// Writes the output that the store keeps of a test as a netstring: that of the last attempt, if the store keeps it,
+/// standard output and then standard error, or both streams as they came. It allocates nothing.
 ///
 /// ```
 /// let (stdout, stderr) = (Bytes::from_static("é\n".as_bytes()), Bytes::from_static(b"x"));

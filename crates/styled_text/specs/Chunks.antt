@@ -1,6 +1,7 @@
 -- A text in chunks of whole lines.
 use Rattle.std.specs.Prelude.{◌≡◌, ℕ, ◌<◌, ◌≤◌, ◌⊎◌, List, [], ◌∷◌, ◌++◌, length, map}
-use Rattle.{std.specs.Borrow.Bor, std.specs.List.FoldsTo, styled_text.specs.Texts.Text, styled_text.specs.Lines.HasNoLineFeed}
+use Rattle.{std.specs.Borrow.Bor, std.specs.List.FoldsTo, styled_text.specs.Texts.Text}
+use Rattle.{styled_text.specs.Lines.HasNoLineFeed}
 
 -- a last line without a line feed
 pub record IsLastLine (chunk rest : Text) : Type 0 where
@@ -29,10 +30,12 @@ IsChunk limit chunk rest = IsLastLine chunk rest ⊎ (IsLongestRun limit chunk r
 -- the chunks of a text, in order: joined they are the text
 abbrev pub AreChunks : ℕ → Text → List Text → Type 0
 AreChunks limit t [] = t ≡ []
-AreChunks limit t (chunk ∷ chunks) = (rest : Text) × (t ≡ chunk ++ rest) × IsChunk limit chunk rest × AreChunks limit rest chunks
+AreChunks limit t (chunk ∷ chunks) = (rest : Text) × (t ≡ chunk ++ rest) × IsChunk limit chunk rest
+    × AreChunks limit rest chunks
 
 -- the steps of a closure over the chunks of a text, one call for each
-pub record VisitsChunks {F : Type 0} (step : F → Bor Text → F → Type 0) (limit : ℕ) (t : Text) (before after : F) : Type 0 where
+pub record VisitsChunks {F : Type 0} (step : F → Bor Text → F → Type 0) (limit : ℕ) (t : Text) (before after : F) : Type
+    0 where
   pub chunks : List (Bor Text)
   pub are_chunks : AreChunks limit t (map (λ c. c.now) chunks)
   pub calls : FoldsTo step before chunks after

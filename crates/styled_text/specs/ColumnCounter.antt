@@ -1,9 +1,12 @@
 -- The columns of a text, counted while it is written.
-use Rattle.{std.specs.Prelude.chars, std.specs.Str.IsUtf8, styled_text.specs.Texts.Text, styled_text.specs.Fitting.char_columns, styled_text.specs.declared.escapes.Mode.Mode}
-use Rattle.std.proofs.Common.{◌≡◌, ℕ, ◌+◌, ◌-◌, ◌^◌, List, [], ◌∷◌, ◌++◌, Option, None, Some, min, refl, sym, ap, ◌∙◌, arith, subst}
+use Rattle.{std.specs.Prelude.chars, std.specs.Str.IsUtf8, styled_text.specs.Texts.Text}
+use Rattle.{styled_text.specs.Fitting.char_columns, styled_text.specs.declared.escapes.Mode.Mode}
+use Rattle.std.proofs.Common.{◌≡◌, ℕ, ◌+◌, ◌-◌, ◌^◌, List, [], ◌∷◌, ◌++◌, Option, None, Some, min, refl, sym, ap, ◌∙◌}
+use Rattle.std.proofs.Common.{arith, subst}
 use Rattle.std.proofs.lemmas.Str.{chars-append, chars-nil, IsUtf8-append, IsUtf8-nil}
 use Rattle.styled_text.specs.Scanner.{advanced, mode_after, modes_after}
-use Rattle.{styled_text.specs.declared.fitting.column_counter.ColumnCounter.ColumnCounter, writers.specs.Writer.Meaning, writers.specs.Writer.WriterLaws}
+use Rattle.{styled_text.specs.declared.fitting.column_counter.ColumnCounter.ColumnCounter, writers.specs.Writer.Meaning}
+use Rattle.{writers.specs.Writer.WriterLaws}
 
 -- the columns of a character in a sequence or in none
 abbrev pub columns_counted : ℕ → Option Mode → ℕ
@@ -19,7 +22,8 @@ columns_from m (c ∷ cs) = columns_counted c (advanced m c) + columns_from (mod
 abbrev pub saturated : ℕ → ℕ
 saturated n = min n (2 ^ 128 - 1)
 
-columns_from-append : (m : Mode) (cs ds : List ℕ) → columns_from m (cs ++ ds) ≡ columns_from m cs + columns_from (modes_after m cs) ds
+columns_from-append : (m : Mode) (cs ds : List ℕ)
+    → columns_from m (cs ++ ds) ≡ columns_from m cs + columns_from (modes_after m cs) ds
 unfolding columns_from modes_after
 columns_from-append m [] ds = omega arith
 columns_from-append m (c ∷ cs) ds = omega (arith, columns_from-append (mode_after m c) cs ds)
@@ -50,12 +54,18 @@ counter_meaning = record {
 pub counter_laws : WriterLaws counter_meaning
 unfolding columns_from modes_after
 counter_laws = record {
-  nothing = λ a. record { utf8 = IsUtf8-nil; mode = rw chars-nil refl; columns = rw chars-nil (omega (arith, a.bounded)) };
+  nothing = λ a. record {
+    utf8 = IsUtf8-nil;
+    mode = rw chars-nil refl;
+    columns = rw chars-nil (omega (arith, a.bounded));
+  };
   joins = λ a b c t u p q. record {
     utf8 = IsUtf8-append t u p.utf8 q.utf8;
-    mode = q.mode ∙ ap (λ m. modes_after m (chars u)) p.mode ∙ sym (modes_after-append a.mode (chars t) (chars u)) ∙ ap (modes_after a.mode) (sym (chars-append t u p.utf8));
+    mode = q.mode ∙ ap (λ m. modes_after m (chars u)) p.mode ∙ sym (modes_after-append a.mode (chars t) (chars u))
+        ∙ ap (modes_after a.mode) (sym (chars-append t u p.utf8));
     columns =
-        let more : c.columns ≡ saturated (b.columns + columns_from (modes_after a.mode (chars t)) (chars u)) = subst (λ m. c.columns ≡ saturated (b.columns + columns_from m (chars u))) p.mode q.columns in
+        let more : c.columns ≡ saturated (b.columns + columns_from (modes_after a.mode (chars t)) (chars u)) = subst
+        (λ m. c.columns ≡ saturated (b.columns + columns_from m (chars u))) p.mode q.columns in
         rw (chars-append t u p.utf8, columns_from-append a.mode (chars t) (chars u)) (omega (arith, more, p.columns));
   };
   goes_on = λ a b c t u e p q. q;

@@ -1,5 +1,6 @@
 -- Escape sequences, and the pieces of a text.
-use Rattle.std.specs.Prelude.{ℕ, zero, suc, ◌+◌, Bool, true, not, ◌&&◌, ◌||◌, ◌==◌, List, [], ◌∷◌, ◌++◌, nat_le, nat_lt, take, drop, IsTrue, if◌then◌else◌}
+use Rattle.std.specs.Prelude.{ℕ, zero, suc, ◌+◌, Bool, true, not, ◌&&◌, ◌||◌, ◌==◌, List, [], ◌∷◌, ◌++◌, nat_le, nat_lt}
+use Rattle.std.specs.Prelude.{take, drop, IsTrue, if◌then◌else◌}
 use Rattle.styled_text.specs.Texts.{Text}
 
 -- the byte lies from low to high
@@ -44,7 +45,8 @@ is_control c = nat_lt c 0x20 || (c == 0x7F)
 abbrev pub osc_len : Text → ℕ
 osc_len [] = 0
 osc_len (c ∷ []) = if c == 7 then 1 else (if is_control c then 0 else 1)
-osc_len (c ∷ d ∷ t) = if c == 7 then 1 else (if (c == 27) && (d == 92) then 2 else (if is_control c then 0 else suc (osc_len (d ∷ t))))
+osc_len (c ∷ d ∷ t) = if c == 7 then 1 else
+    (if (c == 27) && (d == 92) then 2 else (if is_control c then 0 else suc (osc_len (d ∷ t))))
 
 -- after any other ESC
 abbrev pub short_len : Text → ℕ

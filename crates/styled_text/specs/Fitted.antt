@@ -1,9 +1,12 @@
 -- A text that is cut while it is written, character by character.
-use Rattle.std.specs.Prelude.{◌≡◌, ℕ, ◌+◌, Bool, true, false, ◌&&◌, ◌||◌, List, [], ◌∷◌, ◌++◌, Option, None, Some, Result, nat_le, nat_lt, chars, encode_utf8, if◌then◌else◌, refl}
-use Rattle.{styled_text.specs.declared.fitting.fitted.Fitted.Fitted, std.specs.Str.IsUtf8, writers.specs.declared.write_str.WriteFault.WriteFault}
+use Rattle.std.specs.Prelude.{◌≡◌, ℕ, ◌+◌, Bool, true, false, ◌&&◌, ◌||◌, List, [], ◌∷◌, ◌++◌, Option, None, Some}
+use Rattle.std.specs.Prelude.{Result, nat_le, nat_lt, chars, encode_utf8, if◌then◌else◌, refl}
+use Rattle.{styled_text.specs.declared.fitting.fitted.Fitted.Fitted, std.specs.Str.IsUtf8}
+use Rattle.{writers.specs.declared.write_str.WriteFault.WriteFault}
 use Rattle.std.proofs.Common.{sym, ap, ◌∙◌, append_assoc, subst}
 use Rattle.std.proofs.lemmas.Str.{chars-append, chars-nil, IsUtf8-append, IsUtf8-nil}
-use Rattle.styled_text.specs.{Texts.Text, Scanner.advanced, Fitting.char_columns, declared.escapes.Mode.Mode, declared.fitting.scan_state.ScanState.ScanState}
+use Rattle.styled_text.specs.{Texts.Text, Scanner.advanced, Fitting.char_columns, declared.escapes.Mode.Mode}
+use Rattle.styled_text.specs.{declared.fitting.scan_state.ScanState.ScanState}
 use Rattle.writers.specs.Writer.{Meaning, WriterLaws, Puts}
 use Rattle.styled_text.specs.declared.escapes.Mode.TheVariants as mode
 
@@ -14,7 +17,11 @@ next_place end place width = if nat_lt end place then place else place + width
 -- the state after the character, which belongs to a sequence or to none
 abbrev pub moved_by : ℕ → ScanState → ℕ → Option Mode → ScanState
 moved_by end s c (Some m) = record { mode = m; place = s.place; is_open = false }
-moved_by end s c None = record { mode = mode.Text; place = next_place end s.place (char_columns c); is_open = s.is_open || nat_lt s.place end }
+moved_by end s c None = record {
+  mode = mode.Text;
+  place = next_place end s.place (char_columns c);
+  is_open = s.is_open || nat_lt s.place end;
+}
 
 -- the state after the character, inside or outside a sequence
 abbrev pub moved : ℕ → ScanState → ℕ → ScanState
@@ -23,7 +30,8 @@ moved end s c = moved_by end s c (advanced s.mode c)
 -- whether the character is kept: one of a sequence always, and another if it fits
 abbrev pub is_char_kept_by : ℕ → ℕ → ScanState → ℕ → Option Mode → Bool
 is_char_kept_by start end s c (Some m) = true
-is_char_kept_by start end s c None = (s.is_open || nat_lt s.place end) && (nat_le start s.place && nat_le (s.place + char_columns c) end)
+is_char_kept_by start end s c None = (s.is_open || nat_lt s.place end) &&
+    (nat_le start s.place && nat_le (s.place + char_columns c) end)
 
 -- whether the character is kept, inside or outside a sequence
 abbrev pub is_char_kept : ℕ → ℕ → ScanState → ℕ → Bool
@@ -43,14 +51,18 @@ unfoldable pub scan_after : ℕ → ScanState → List ℕ → ScanState
 scan_after end s [] = s
 scan_after end s (c ∷ cs) = scan_after end (moved end s c) cs
 
-kept_from-append : (start end : ℕ) (s : ScanState) (cs ds : List ℕ) → kept_from start end s (cs ++ ds) ≡ kept_from start end s cs ++ kept_from start end (scan_after end s cs) ds
+kept_from-append : (start end : ℕ) (s : ScanState) (cs ds : List ℕ)
+    → kept_from start end s (cs ++ ds) ≡ kept_from start end s cs ++ kept_from start end (scan_after end s cs) ds
 unfolding kept_from scan_after
 kept_from-append start end s [] ds = refl
 kept_from-append start end s (c ∷ cs) ds =
     ap (λ x. kept_char start end s c ++ x) (kept_from-append start end (moved end s c) cs ds)
-    ∙ sym (append_assoc (kept_char start end s c) (kept_from start end (moved end s c) cs) (kept_from start end (scan_after end (moved end s c) cs) ds))
+    ∙ sym
+    (append_assoc (kept_char start end s c) (kept_from start end (moved end s c) cs)
+    (kept_from start end (scan_after end (moved end s c) cs) ds))
 
-scan_after-append : (end : ℕ) (s : ScanState) (cs ds : List ℕ) → scan_after end s (cs ++ ds) ≡ scan_after end (scan_after end s cs) ds
+scan_after-append : (end : ℕ) (s : ScanState) (cs ds : List ℕ)
+    → scan_after end s (cs ++ ds) ≡ scan_after end (scan_after end s cs) ds
 unfolding scan_after
 scan_after-append end s [] ds = refl
 scan_after-append end s (c ∷ cs) ds = scan_after-append end (moved end s c) cs ds
@@ -60,8 +72,10 @@ abbrev pub fitted_text : {W : Type 0} → Fitted W → Text → Text
 fitted_text a t = kept_from a.start a.end a.scan (chars t)
 
 -- what is kept of two pieces, the first of which is UTF-8
-pub fitted_text-append : {W : Type 0} (a : Fitted W) (t u : Text) → IsUtf8 t → fitted_text a (t ++ u) ≡ fitted_text a t ++ kept_from a.start a.end (scan_after a.end a.scan (chars t)) (chars u)
-fitted_text-append a t u h = ap (kept_from a.start a.end a.scan) (chars-append t u h) ∙ kept_from-append a.start a.end a.scan (chars t) (chars u)
+pub fitted_text-append : {W : Type 0} (a : Fitted W) (t u : Text) → IsUtf8 t
+    → fitted_text a (t ++ u) ≡ fitted_text a t ++ kept_from a.start a.end (scan_after a.end a.scan (chars t)) (chars u)
+fitted_text-append a t u h = ap (kept_from a.start a.end a.scan) (chars-append t u h)
+    ∙ kept_from-append a.start a.end a.scan (chars t) (chars u)
 
 pub fitted_text-nil : {W : Type 0} (a : Fitted W) → fitted_text a [] ≡ []
 unfolding kept_from
@@ -107,8 +121,10 @@ module _ {W : Type 0} (m : Meaning W) where
   }
 
 -- what stops within a prefix stops within the text
-pub stops_kept : {W : Type 0} (m : Meaning W) → WriterLaws m → (a b : Fitted W) (t : Text) (e : WriteFault) → FittedStops m a t e b → m.stops a.inner.now (fitted_text a t) e b.inner.now
-stops_kept m laws a b t e p = rw (p.whole, fitted_text-append a p.front p.rest p.utf8) (laws.stops_within _ _ _ _ e p.below)
+pub stops_kept : {W : Type 0} (m : Meaning W) → WriterLaws m → (a b : Fitted W) (t : Text) (e : WriteFault)
+    → FittedStops m a t e b → m.stops a.inner.now (fitted_text a t) e b.inner.now
+stops_kept m laws a b t e p = rw (p.whole, fitted_text-append a p.front p.rest p.utf8)
+    (laws.stops_within _ _ _ _ e p.below)
 
 pub fitted_laws : {W : Type 0} (m : Meaning W) → WriterLaws m → WriterLaws (fitted_meaning m)
 unfolding scan_after
@@ -126,7 +142,8 @@ fitted_laws m laws = record {
     below = subst (λ x. m.accepts a.inner.now x c.inner.now) (sym (fitted_text-append a t u p.utf8))
         (laws.joins a.inner.now b.inner.now c.inner.now _ _ p.below
         (subst (λ x. m.accepts b.inner.now x c.inner.now) (rw (p.start, p.end, p.scan) refl) q.below));
-    scan = q.scan ∙ rw (p.end, p.scan) refl ∙ sym (scan_after-append a.end a.scan (chars t) (chars u)) ∙ ap (scan_after a.end a.scan) (sym (chars-append t u p.utf8));
+    scan = q.scan ∙ rw (p.end, p.scan) refl ∙ sym (scan_after-append a.end a.scan (chars t) (chars u))
+        ∙ ap (scan_after a.end a.scan) (sym (chars-append t u p.utf8));
     start = q.start ∙ p.start;
     end = q.end ∙ p.end;
     same = q.same ∙ p.same;

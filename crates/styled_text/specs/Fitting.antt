@@ -1,5 +1,6 @@
 -- Columns, and a text cut to some of them.
-use Rattle.std.specs.Prelude.{◌≡◌, ℕ, ◌+◌, ◌-◌, ◌≤◌, Bool, true, false, ◌&&◌, List, [], ◌∷◌, ◌++◌, nat_le, nat_lt, chars, encode_utf8_all, unwrap_or, sum_by, if◌then◌else◌}
+use Rattle.std.specs.Prelude.{◌≡◌, ℕ, ◌+◌, ◌-◌, ◌≤◌, Bool, true, false, ◌&&◌, List, [], ◌∷◌, ◌++◌, nat_le, nat_lt}
+use Rattle.std.specs.Prelude.{chars, encode_utf8_all, unwrap_or, sum_by, if◌then◌else◌}
 use Rattle.{std.specs.Str.IsUtf8, unicode_width.specs.Width.char_width}
 use Rattle.styled_text.specs.{Texts.Text, Escapes.PieceText.SequenceText, Escapes.PieceText.StretchText}
 use Rattle.styled_text.specs.Escapes.{PieceText, pieces, visible}
@@ -31,7 +32,8 @@ kept_stretch start end pos s = if nat_lt pos end then encode_utf8_all (kept_char
 abbrev pub fit_pieces : ℕ → ℕ → ℕ → List PieceText → Text
 fit_pieces start end pos [] = []
 fit_pieces start end pos (SequenceText s ∷ ps) = s ++ fit_pieces start end pos ps
-fit_pieces start end pos (StretchText s ∷ ps) = kept_stretch start end pos s ++ fit_pieces start end (pos + columns_of (chars s)) ps
+fit_pieces start end pos (StretchText s ∷ ps) = kept_stretch start end pos s
+    ++ fit_pieces start end (pos + columns_of (chars s)) ps
 
 -- the text cut to the columns from start to end
 unfoldable pub fit : Text → ℕ → ℕ → Text
@@ -64,7 +66,8 @@ IsPainted t = IsUtf8 t × AreClosed (sequences (pieces t))
 
 -- the part cut to r columns, from its front or, for a name, from its end
 abbrev pub shrunk : Bool → Text → ℕ → Text
-shrunk is_name t r = if nat_le (columns t) r then t else (if is_name then fit t (columns t - r) (columns t) else fit t 0 r)
+shrunk is_name t r = if nat_le (columns t) r then t else
+    (if is_name then fit t (columns t - r) (columns t) else fit t 0 r)
 
 -- parts, each cut to the columns of r that the parts before it leave
 abbrev pub shrunk_parts : List Text → Text → ℕ → Text

@@ -1,7 +1,10 @@
 -- What an `Indented` accepts.
-use Rattle.{std.specs.Fmt.WritesInCalls, std.specs.List.onto_first, std.specs.List.join_with_byte, std.proofs.lemmas.Bool.cases_Bool, styled_text.specs.Texts.Text}
-use Rattle.std.proofs.Common.{◌≡◌, ◌≢◌, List, [], ◌∷◌, ◌++◌, Bool, true, false, cond, ◌==◌, Result, refl, sym, ap, ◌∙◌, append_assoc, subst, inl, inr}
-use Rattle.{styled_text.specs.Lines.lines, styled_text.specs.declared.indenter.indentation.Indented.Indented, writers.specs.declared.write_str.WriteFault.WriteFault}
+use Rattle.{std.specs.Fmt.WritesInCalls, std.specs.List.onto_first, std.specs.List.join_with_byte}
+use Rattle.{std.proofs.lemmas.Bool.cases_Bool, styled_text.specs.Texts.Text}
+use Rattle.std.proofs.Common.{◌≡◌, ◌≢◌, List, [], ◌∷◌, ◌++◌, Bool, true, false, cond, ◌==◌, Result, refl, sym, ap, ◌∙◌}
+use Rattle.std.proofs.Common.{append_assoc, subst, inl, inr}
+use Rattle.{styled_text.specs.Lines.lines, styled_text.specs.declared.indenter.indentation.Indented.Indented}
+use Rattle.{writers.specs.declared.write_str.WriteFault.WriteFault}
 use Rattle.styled_text.specs.Indent.{indented_line, indented_lines, indent, margin, begins_line, after}
 use Rattle.writers.specs.Writer.{Meaning, WriterLaws, Puts}
 
@@ -17,7 +20,8 @@ after_onward b (c ∷ t) = after_onward (c == 10) t
 
 -- indentation by lines is this scan
 abbrev pub IndentsByBytes : Type 0
-IndentsByBytes = (p : Text) (b : Bool) (t : Text) → (indent p b t ≡ indent_onward p b t) × (after b t ≡ after_onward b t)
+IndentsByBytes = (p : Text) (b : Bool) (t : Text)
+    → (indent p b t ≡ indent_onward p b t) × (after b t ≡ after_onward b t)
 
 some_lines : (t : Text) → lines t ≢ []
 some_lines [] = λ e. cc
@@ -39,16 +43,20 @@ onto_front q l (m ∷ ls) = append_assoc q l (10 ∷ join_with_byte 10 (m ∷ ls
 pub indent-onward : (p : Text) (b : Bool) (t : Text) → indent p b t ≡ indent_onward p b t
 unfolding indent
 indent-onward p b [] = refl
-indent-onward p b (c ∷ t) = let next = indent-onward p true t in let more = indent-onward p false t in elim (cases_Bool (c == 10)) [
-  | inl y ↦ rw y (feed (lines t) (some_lines t) ∙ ap (λ x. 10 ∷ x) next)
-  | inr n ↦ rw n (onto (lines t) (some_lines t) ∙ ap (λ x. cond b p [] ++ c ∷ x) more)
-]
+indent-onward p b (c ∷ t) = let next = indent-onward p true t in let more = indent-onward p false t in elim
+    (cases_Bool (c == 10)) [
+      | inl y ↦ rw y (feed (lines t) (some_lines t) ∙ ap (λ x. 10 ∷ x) next)
+      | inr n ↦ rw n (onto (lines t) (some_lines t) ∙ ap (λ x. cond b p [] ++ c ∷ x) more)
+    ]
   where
-    feed : (ls : List Text) → ls ≢ [] → join_with_byte 10 ([] ∷ indented_lines p true ls) ≡ 10 ∷ join_with_byte 10 (indented_lines p true ls)
+    feed : (ls : List Text) → ls ≢ []
+        → join_with_byte 10 ([] ∷ indented_lines p true ls) ≡ 10 ∷ join_with_byte 10 (indented_lines p true ls)
     feed [] h = absurd (h refl)
     feed (l ∷ ls) h = refl
 
-    onto : (ls : List Text) → ls ≢ [] → join_with_byte 10 (indented_lines p b (onto_first c ls)) ≡ cond b p [] ++ c ∷ join_with_byte 10 (indented_lines p false ls)
+    onto : (ls : List Text) → ls ≢ []
+        → join_with_byte 10 (indented_lines p b (onto_first c ls)) ≡ cond b p [] ++ c ∷ join_with_byte 10
+        (indented_lines p false ls)
     onto [] h = absurd (h refl)
     onto (l ∷ ls) h = onto_front (cond b p []) (c ∷ l) (indented_lines p true ls)
         ∙ ap (λ x. cond b p [] ++ x) (onto_front (c ∷ []) l (indented_lines p true ls))
@@ -57,10 +65,11 @@ indent-onward p b (c ∷ t) = let next = indent-onward p true t in let more = in
 pub after-onward : (b : Bool) (t : Text) → after b t ≡ after_onward b t
 unfolding after
 after-onward b [] = refl
-after-onward b (c ∷ t) = let next = after-onward true t in let more = after-onward false t in elim (cases_Bool (c == 10)) [
-  | inl y ↦ rw y (feed (lines t) (some_lines t) ∙ next)
-  | inr n ↦ rw n (onto (lines t) (some_lines t) ∙ more)
-]
+after-onward b (c ∷ t) = let next = after-onward true t in let more = after-onward false t in elim
+    (cases_Bool (c == 10)) [
+      | inl y ↦ rw y (feed (lines t) (some_lines t) ∙ next)
+      | inr n ↦ rw n (onto (lines t) (some_lines t) ∙ more)
+    ]
   where
     feed : (ls : List Text) → ls ≢ [] → begins_line b ([] ∷ ls) ≡ begins_line true ls
     feed [] h = absurd (h refl)
@@ -72,12 +81,16 @@ after-onward b (c ∷ t) = let next = after-onward true t in let more = after-on
     onto ((d ∷ l) ∷ []) h = refl
     onto (l ∷ m ∷ ls) h = refl
 
-onward-append : (p : Text) (b : Bool) (t u : Text) → indent_onward p b (t ++ u) ≡ indent_onward p b t ++ indent_onward p (after_onward b t) u
+onward-append : (p : Text) (b : Bool) (t u : Text)
+    → indent_onward p b (t ++ u) ≡ indent_onward p b t ++ indent_onward p (after_onward b t) u
 onward-append p b [] u = refl
-onward-append p b (c ∷ t) u = let next = onward-append p true t u in let more = onward-append p false t u in elim (cases_Bool (c == 10)) [
-  | inl y ↦ rw y (ap (λ x. 10 ∷ x) next)
-  | inr n ↦ rw n (ap (λ x. cond b p [] ++ c ∷ x) more ∙ sym (append_assoc (cond b p []) (c ∷ indent_onward p false t) (indent_onward p (after_onward false t) u)))
-]
+onward-append p b (c ∷ t) u = let next = onward-append p true t u in let more = onward-append p false t u in elim
+    (cases_Bool (c == 10)) [
+      | inl y ↦ rw y (ap (λ x. 10 ∷ x) next)
+      | inr n ↦ rw n
+          (ap (λ x. cond b p [] ++ c ∷ x) more
+          ∙ sym (append_assoc (cond b p []) (c ∷ indent_onward p false t) (indent_onward p (after_onward false t) u)))
+    ]
 
 after_onward-append : (b : Bool) (t u : Text) → after_onward b (t ++ u) ≡ after_onward (after_onward b t) u
 after_onward-append b [] u = refl
@@ -85,10 +98,13 @@ after_onward-append b (c ∷ t) u = after_onward-append (c == 10) t u
 
 -- an indented text in two pieces
 pub indent-append : (p : Text) (b : Bool) (t u : Text) → indent p b (t ++ u) ≡ indent p b t ++ indent p (after b t) u
-indent-append p b t u = rw (indent-onward p b (t ++ u), indent-onward p b t, indent-onward p (after b t) u, after-onward b t) (onward-append p b t u)
+indent-append p b t u = rw
+    (indent-onward p b (t ++ u), indent-onward p b t, indent-onward p (after b t) u, after-onward b t)
+    (onward-append p b t u)
 
 pub after-append : (b : Bool) (t u : Text) → after b (t ++ u) ≡ after (after b t) u
-after-append b t u = rw (after-onward b (t ++ u), after-onward (after b t) u, after-onward b t) (after_onward-append b t u)
+after-append b t u = rw (after-onward b (t ++ u), after-onward (after b t) u, after-onward b t)
+    (after_onward-append b t u)
 
 pub indent-none : (p : Text) (b : Bool) → indent p b [] ≡ []
 unfolding indent
@@ -134,7 +150,8 @@ module _ {W : Type 0} (m : Meaning W) where
 pub indented_laws : {W : Type 0} (m : Meaning W) → WriterLaws m → WriterLaws (indented_meaning m)
 indented_laws m laws = record {
   nothing = λ a. record {
-    below = subst (λ x. m.accepts a.inner.now x a.inner.now) (sym (indent-none a.indentation.now a.needs_indent)) (laws.nothing a.inner.now);
+    below = subst (λ x. m.accepts a.inner.now x a.inner.now) (sym (indent-none a.indentation.now a.needs_indent))
+        (laws.nothing a.inner.now);
     line = sym (after-none a.needs_indent);
     indentation = refl;
     same = refl;

@@ -1,8 +1,11 @@
 -- What the scanner's states and steps mean.
-use Rattle.std.specs.Prelude.{◌≡◌, ℕ, suc, Bool, false, ◌==◌, ◌&&◌, List, [], ◌∷◌, Option, None, Some, unwrap_or, if◌then◌else◌}
+use Rattle.std.specs.Prelude.{◌≡◌, ℕ, suc, Bool, false, ◌==◌, ◌&&◌, List, [], ◌∷◌, Option, None, Some, unwrap_or}
+use Rattle.std.specs.Prelude.{if◌then◌else◌}
 use Rattle.styled_text.specs.Texts.{Text}
-use Rattle.styled_text.specs.Escapes.{csi_len, osc_len, short_len, sequence_len, then_len, front_len, one_len, is_within, is_parameter, is_intermediate, is_control}
-use Rattle.styled_text.specs.declared.escapes.{Mode.Mode, State.State, Step.Step, Step.TheVariants.Inside, Step.TheVariants.Ends}
+use Rattle.styled_text.specs.Escapes.{csi_len, osc_len, short_len, sequence_len, then_len, front_len, one_len}
+use Rattle.styled_text.specs.Escapes.{is_within, is_parameter, is_intermediate, is_control}
+use Rattle.styled_text.specs.declared.escapes.{Mode.Mode, State.State, Step.Step, Step.TheVariants.Inside}
+use Rattle.styled_text.specs.declared.escapes.{Step.TheVariants.Ends}
 use Rattle.styled_text.specs.declared.escapes.Mode.TheVariants as mode
 use Rattle.styled_text.specs.declared.escapes.State.TheVariants.{Start, Parameters, Intermediates, Command, Short}
 
@@ -37,7 +40,8 @@ abbrev pub step_of : State → ℕ → Bool → Step
 step_of Start c b = if c == 0x5B then Inside Parameters else (if c == 0x5D then Inside Command else short_step_of c)
 step_of Parameters c b = if is_parameter c then Inside Parameters else final_step_of c
 step_of Intermediates c b = final_step_of c
-step_of Command c b = if c == 7 then Ends 1 else (if (c == 27) && b then Ends 2 else (if is_control c then Ends 0 else Inside Command))
+step_of Command c b = if c == 7 then Ends 1 else
+    (if (c == 27) && b then Ends 2 else (if is_control c then Ends 0 else Inside Command))
 step_of Short c b = short_step_of c
 
 -- the mode after a character that begins a sequence
@@ -56,7 +60,8 @@ advanced mode.Terminator c = if c == 92 then Some mode.Text else mode_after_step
 advanced (mode.Sequence Start) c = mode_after_step c (step_of Start c false)
 advanced (mode.Sequence Parameters) c = mode_after_step c (step_of Parameters c false)
 advanced (mode.Sequence Intermediates) c = mode_after_step c (step_of Intermediates c false)
-advanced (mode.Sequence Command) c = if c == 27 then Some mode.Terminator else mode_after_step c (step_of Command c false)
+advanced (mode.Sequence Command) c = if c == 27 then Some mode.Terminator else mode_after_step c
+    (step_of Command c false)
 advanced (mode.Sequence Short) c = mode_after_step c (step_of Short c false)
 
 -- the mode after a character

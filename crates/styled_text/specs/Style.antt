@@ -37,8 +37,18 @@ styled s t = style_prefix s ++ (t ++ style_suffix s)
 
 -- the styles of a report: all plain, or with colours
 abbrev pub list_styles_of : Bool → ListStyles
-list_styles_of false = record { binary_id = style.Plain; test_name = style.Plain; module_path = style.Plain; count = style.Plain }
-list_styles_of true = record { binary_id = style.BoldMagenta; test_name = style.BoldBlue; module_path = style.Cyan; count = style.Bold }
+list_styles_of false = record {
+  binary_id = style.Plain;
+  test_name = style.Plain;
+  module_path = style.Plain;
+  count = style.Plain;
+}
+list_styles_of true = record {
+  binary_id = style.BoldMagenta;
+  test_name = style.BoldBlue;
+  module_path = style.Cyan;
+  count = style.Bold;
+}
 
 abbrev pub styles_of : Bool → Styles
 styles_of false = record {

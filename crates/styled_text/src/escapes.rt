@@ -11,8 +11,10 @@
 //! scanned once, and its pieces are slices of it.
 
 ghost use Rattle.std.specs.Prelude.{◌≡◌, ℕ, false, [], ◌∷◌, List, IfOk, IfSome, MatchOption, string_bytes};
-ghost use Rattle.styled_text.specs.Names.{YieldsFirstBy, item_count, sequence_len, csi_len, front_len, is_within, is_visible, is_parameter, pieces, visible, HasNoEscape, piece_text};
-ghost use Rattle.styled_text.specs.Names.{rest_len, is_before_backslash, StepCounts, step_of, short_step_of, final_step_of, advanced, Puts};
+ghost use Rattle.styled_text.specs.Names.{YieldsFirstBy, item_count, sequence_len, csi_len, front_len, is_within};
+ghost use Rattle.styled_text.specs.Names.{is_visible, is_parameter, pieces, visible, HasNoEscape, piece_text};
+ghost use Rattle.styled_text.specs.Names.{rest_len, is_before_backslash, StepCounts, step_of, short_step_of};
+ghost use Rattle.styled_text.specs.Names.{final_step_of, advanced, Puts};
 ghost use Rattle.styled_text.specs.declared.escapes.Mode.TheVariants.{Text};
 ghost use Rattle.styled_text.specs.declared.escapes.State.TheVariants.{Parameters, Intermediates, Command, Short};
 
@@ -270,7 +272,8 @@ enum Step {
 // A step of a scan.
 #[tactic(auto, using(crate::proofs::lemmas::Cuts::steps), unfolding(crate::specs::Escapes::sequence_len))]
 fn next_step(state: State, code: u32, precedes_backslash: bool) -> Step
-    ensures counts { (t : List ℕ) → precedes_backslash ≡ is_before_backslash t → StepCounts result (rest_len state (code ∷ t)) t }
+    ensures counts { (t : List ℕ) → precedes_backslash ≡ is_before_backslash t
+        → StepCounts result (rest_len state (code ∷ t)) t }
     ensures table { result ≡ step_of state code precedes_backslash }
 {
     match state {
@@ -316,7 +319,8 @@ fn final_step(code: u32) -> Step
 // A step of a command.
 #[tactic(auto, using(crate::proofs::lemmas::Cuts::steps))]
 fn command_step(code: u32, precedes_backslash: bool) -> Step
-    ensures counts { (t : List ℕ) → precedes_backslash ≡ is_before_backslash t → StepCounts result (rest_len Command (code ∷ t)) t }
+    ensures counts { (t : List ℕ) → precedes_backslash ≡ is_before_backslash t
+        → StepCounts result (rest_len Command (code ∷ t)) t }
     ensures table { result ≡ step_of Command code precedes_backslash }
 {
     match code {

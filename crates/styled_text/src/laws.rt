@@ -14,8 +14,10 @@
 //! ```
 
 ghost use Rattle.std.specs.Prelude.{◌≡◌, ℕ, ◌-◌, ◌≤◌, ◌++◌, List};
-ghost use Rattle.styled_text.specs.Names.{IsUtf8, HasNoEscape, pieces, visible, joined, stretches, sequences, part_sequences};
-ghost use Rattle.styled_text.specs.Names.{columns, fit, shrunk_parts, IsPainted, ArePainted, IndentsInPieces, IndentsByBytes};
+ghost use Rattle.styled_text.specs.Names.{IsUtf8, HasNoEscape, pieces, visible, joined, stretches, sequences};
+ghost use Rattle.styled_text.specs.Names.{part_sequences};
+ghost use Rattle.styled_text.specs.Names.{columns, fit, shrunk_parts, IsPainted, ArePainted, IndentsInPieces};
+ghost use Rattle.styled_text.specs.Names.{IndentsByBytes};
 
 /// Pieces of a text: joined they are the text, and the stretches joined are the text without its sequences.
 #[tactic(auto, using(crate::proofs::lemmas::Pieces::piece_laws))]
@@ -35,9 +37,12 @@ pub fn indent_laws()
 #[tactic(auto, using(crate::proofs::lemmas::Widths::width_laws))]
 pub fn width_laws()
     ensures columns { (t : List ℕ) (start end : ℕ) → IsPainted t → columns (fit t start end) ≤ end - start }
-    ensures sequences { (t : List ℕ) (start end : ℕ) → IsPainted t → sequences (pieces (fit t start end)) ≡ sequences (pieces t) }
-    ensures part_columns { (ts : List (List ℕ)) (name : List ℕ) (width : ℕ) → ArePainted ts → IsPainted name → columns (shrunk_parts ts name width) ≤ width }
-    ensures part_sequences { (ts : List (List ℕ)) (name : List ℕ) (width : ℕ) → ArePainted ts → IsPainted name → sequences (pieces (shrunk_parts ts name width)) ≡ part_sequences ts ++ sequences (pieces name) }
+    ensures sequences { (t : List ℕ) (start end : ℕ) → IsPainted t
+        → sequences (pieces (fit t start end)) ≡ sequences (pieces t) }
+    ensures part_columns { (ts : List (List ℕ)) (name : List ℕ) (width : ℕ) → ArePainted ts → IsPainted name
+        → columns (shrunk_parts ts name width) ≤ width }
+    ensures part_sequences { (ts : List (List ℕ)) (name : List ℕ) (width : ℕ) → ArePainted ts → IsPainted name
+        → sequences (pieces (shrunk_parts ts name width)) ≡ part_sequences ts ++ sequences (pieces name) }
     ensures plain { (t : List ℕ) → IsUtf8 t → HasNoEscape t → IsPainted t }
     ensures joined { (a b : List ℕ) → IsPainted a → IsPainted b → IsPainted (a ++ b) }
 {}

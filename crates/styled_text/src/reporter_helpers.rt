@@ -15,7 +15,8 @@ use bstr::ByteSlice;
 pub fn highlight_end(slice: &[u8]) -> usize
     ensures value { result ≡ highlight_end slice.now }
     ensures within { result ≤ length slice.now }
-    ensures second { result < length slice.now → (slice_index slice.now result ≡ 10) × (count_by (λ b. b == 10) (take result slice.now) ≡ 1) }
+    ensures second { result < length slice.now
+        → (slice_index slice.now result ≡ 10) × (count_by (λ b. b == 10) (take result slice.now) ≡ 1) }
 {
     let Some(first) = slice.find_byte(b'\n') else {
         return slice.len();

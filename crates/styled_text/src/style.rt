@@ -4,7 +4,8 @@
 //! kinds of report.
 
 ghost use Rattle.std.specs.Prelude.{◌≡◌, true};
-ghost use Rattle.styled_text.specs.Names.{decimal, right_in, style_prefix, style_suffix, styled, styles_of, list_styles_of, Puts};
+ghost use Rattle.styled_text.specs.Names.{decimal, right_in, style_prefix, style_suffix, styled, styles_of};
+ghost use Rattle.styled_text.specs.Names.{list_styles_of, Puts};
 
 use crate::numbers::write_right;
 use itoa::Buffer;

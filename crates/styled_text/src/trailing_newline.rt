@@ -36,7 +36,8 @@ impl TrailingNewline {
     /// The writer's fault. It has accepted a prefix of the text.
     #[tactic(auto, using(crate::proofs::lemmas::TrailingNewlines::held_laws))]
     pub fn write<W: WriteStr>(&mut self, w: &mut W, piece: &str) -> Result<(), WriteFault>
-        ensures text { Puts W.meaning w.old (without_trailing_newline (held self.old.is_held ++ piece.now)) result w.new }
+        ensures text { Puts W.meaning w.old (without_trailing_newline (held self.old.is_held ++ piece.now)) result
+            w.new }
         ensures held { OnOk result (self.new.is_held ≡ ends_in_line_feed (held self.old.is_held ++ piece.now)) }
     {
         if piece.is_empty() {

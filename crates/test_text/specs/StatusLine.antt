@@ -1,14 +1,19 @@
 -- The line of a finished test.
 use Rattle.std.specs.Prelude.{ℕ, Bool, true, false, ◌++◌, ◌&&◌, ◌==◌, codes, if◌then◌else◌, refl}
 use Rattle.styled_text.specs.Names.{decimal, Text, HasNoEscape}
-use Rattle.text_parts.specs.Names.{ExecutionResultDescription, FlakyResult, RetryData, StatusCase, StatusSummary, instance_part, bracketed, abort_line, long_word, short_word, success_word}
+use Rattle.text_parts.specs.Names.{ExecutionResultDescription, FlakyResult, RetryData, StatusCase, StatusSummary}
+use Rattle.text_parts.specs.Names.{instance_part, bracketed, abort_line, long_word, short_word, success_word}
 use Rattle.text_parts.specs.Names.{is_plain_success}
 use Rattle.run_model.specs.declared.status.FlakyResult.TheVariants as flaky
 use Rattle.run_model.specs.declared.status.StatusCase.TheVariants.{Success, Flaky, Failure}
 use Rattle.styled_text.proofs.lemmas.{Closed.decimal_free, Widths.free_both}
-use Rattle.text_parts.{proofs.lemmas.ResultColourPairs.free-success_word, specs.declared.instance.CountedInstance.CountedInstance}
-use Rattle.report_words.specs.Parts.{Fixed, Parts, Open, Line, Lines, Tone, Pass, Fail, Skip, none, words, toned, Right, given_right, ◌⧺◌, choice, plainly}
-use Rattle.test_text.specs.declared.status_line.{StatusLine.StatusLine, StatusLineKind.StatusLineKind, StatusLineKind.TheVariants.Intermediate, StatusLineKind.TheVariants.Final}
+use Rattle.text_parts.{proofs.lemmas.ResultColourPairs.free-success_word}
+use Rattle.text_parts.{specs.declared.instance.CountedInstance.CountedInstance}
+use Rattle.report_words.specs.Parts.{Fixed, Parts, Open, Line, Lines, Tone, Pass, Fail, Skip, none, words, toned, Right}
+use Rattle.report_words.specs.Parts.{given_right, ◌⧺◌, choice, plainly}
+use Rattle.test_text.specs.declared.status_line.{StatusLine.StatusLine, StatusLineKind.StatusLineKind}
+use Rattle.test_text.specs.declared.status_line.{StatusLineKind.TheVariants.Intermediate}
+use Rattle.test_text.specs.declared.status_line.{StatusLineKind.TheVariants.Final}
 
 -- a word after the number of its attempt
 abbrev pub attempt_words : ℕ → Text → Text
@@ -28,20 +33,25 @@ flaky_label flaky.Fail = codes "FLKY-FL "
 
 abbrev pub flaky_words : StatusLineKind → FlakyResult → RetryData → Text
 flaky_words Intermediate result retry = attempt_words retry.attempt (codes "PASS")
-flaky_words Final result retry = flaky_label result ++ (decimal retry.attempt ++ (codes "/" ++ decimal retry.total_attempts))
+flaky_words Final result retry = flaky_label result
+    ++ (decimal retry.attempt ++ (codes "/" ++ decimal retry.total_attempts))
 
 -- these words hold no escape character
-pub free-flaky_words : (kind : StatusLineKind) (x : FlakyResult) (retry : RetryData) → HasNoEscape (flaky_words kind x retry)
+pub free-flaky_words : (kind : StatusLineKind) (x : FlakyResult) (retry : RetryData)
+    → HasNoEscape (flaky_words kind x retry)
 free-flaky_words Intermediate x retry = free-attempt_words retry.attempt (codes "PASS") refl
-free-flaky_words Final flaky.Pass retry = free_both (decimal retry.attempt) (codes "/" ++ decimal retry.total_attempts) (decimal_free _) (decimal_free retry.total_attempts)
-free-flaky_words Final flaky.Fail retry = free_both (decimal retry.attempt) (codes "/" ++ decimal retry.total_attempts) (decimal_free _) (decimal_free retry.total_attempts)
+free-flaky_words Final flaky.Pass retry = free_both (decimal retry.attempt) (codes "/" ++ decimal retry.total_attempts)
+    (decimal_free _) (decimal_free retry.total_attempts)
+free-flaky_words Final flaky.Fail retry = free_both (decimal retry.attempt) (codes "/" ++ decimal retry.total_attempts)
+    (decimal_free _) (decimal_free retry.total_attempts)
 
 -- a success at the first attempt: only the summary says that it was slow
 abbrev pub success_tone : Bool → ExecutionResultDescription → Tone
 success_tone is_slow result = if is_plain_success is_slow result then Pass else Skip
 
 abbrev pub success_text : Bool → ExecutionResultDescription → Fixed Open
-success_text is_slow result = Right 12 (success_tone is_slow result) (success_word is_slow result) (free-success_word is_slow result)
+success_text is_slow result = Right 12 (success_tone is_slow result) (success_word is_slow result)
+    (free-success_word is_slow result)
 
 -- a failure, after its attempt's number if that is not 1
 abbrev pub failure_words : ℕ → ExecutionResultDescription → Text
@@ -65,7 +75,8 @@ is_final_line Final = true
 -- the words that begin the line, by the outcome of the attempts
 abbrev pub status_words : StatusLineKind → StatusCase → StatusSummary → Parts false Open
 status_words kind Success x = plainly (success_text (is_final_line kind && x.is_slow) x.result)
-status_words kind (Flaky result) x = plainly (Right 12 (flaky_tone result) (flaky_words kind result x.retry_data) (free-flaky_words kind result x.retry_data))
+status_words kind (Flaky result) x = plainly
+    (Right 12 (flaky_tone result) (flaky_words kind result x.retry_data) (free-flaky_words kind result x.retry_data))
 status_words kind Failure x = given_right 12 Fail (failure_words x.retry_data.attempt x.result)
 
 -- the word of the line, and a space

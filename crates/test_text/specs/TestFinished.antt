@@ -1,11 +1,15 @@
 -- A finished test, and its text.
 use Rattle.std.specs.Prelude.{◌≡◌, ℕ, true, false, Option}
-use Rattle.run_model.specs.Names.{Attempts, has_loaded_output, described_last, described_summary, summary_of, TestOutputDisplay, TestInstanceId, StressIndex}
-use Rattle.text_parts.specs.Names.{ChildOutputDescription, LiveSpec, RunStats, ExecuteStatus, StatusSummary, display_of, output_timing, is_ever_shown, is_line_shown, timed_at_once, finished_counter}
+use Rattle.run_model.specs.Names.{Attempts, has_loaded_output, described_last, described_summary, summary_of}
+use Rattle.run_model.specs.Names.{TestOutputDisplay, TestInstanceId, StressIndex}
+use Rattle.text_parts.specs.Names.{ChildOutputDescription, LiveSpec, RunStats, ExecuteStatus, StatusSummary, display_of}
+use Rattle.text_parts.specs.Names.{output_timing, is_ever_shown, is_line_shown, timed_at_once, finished_counter}
 use Rattle.text_parts.specs.Names.{attempt_output}
-use Rattle.text_parts.specs.declared.{finish.OutputTiming.OutputTiming, instance.CountedInstance.CountedInstance, settings.Settings.Settings}
+use Rattle.text_parts.specs.declared.{finish.OutputTiming.OutputTiming, instance.CountedInstance.CountedInstance}
+use Rattle.text_parts.specs.declared.{settings.Settings.Settings}
 use Rattle.report_words.specs.Parts.{Parts, Lines, none, ◌⧺◌, choice}
-use Rattle.test_text.specs.{StatusLine.status_line, declared.status_line.StatusLineKind.TheVariants.Intermediate, declared.test_finished.FinishedTest.FinishedTest}
+use Rattle.test_text.specs.{StatusLine.status_line, declared.status_line.StatusLineKind.TheVariants.Intermediate}
+use Rattle.test_text.specs.{declared.test_finished.FinishedTest.FinishedTest}
 
 -- What is shown of a finished test: the test as its line names it, the display setting of its output, when that output
 -- is shown under the run's cancel reason, the outcome of its attempts, and the last of them.
@@ -16,7 +20,8 @@ pub record FinishReport : Type 0 where
   pub summary : StatusSummary
   pub last : ExecuteStatus LiveSpec ChildOutputDescription
 
-abbrev pub test_finish : Settings → ℕ → Option StressIndex → TestInstanceId → TestOutputDisplay → TestOutputDisplay → Attempts LiveSpec ChildOutputDescription → RunStats → FinishReport
+abbrev pub test_finish : Settings → ℕ → Option StressIndex → TestInstanceId → TestOutputDisplay → TestOutputDisplay
+    → Attempts LiveSpec ChildOutputDescription → RunStats → FinishReport
 test_finish s reason stress instance success failure statuses stats = record {
   test = record { stress_index = stress; counter = finished_counter s stats; instance = instance };
   display = display_of s success failure (summary_of statuses);

@@ -1,12 +1,15 @@
 -- A failed attempt that is retried.
 use Rattle.std.specs.Prelude.{◌≡◌, ℕ, ◌+◌, Bool, true, false, Option, ◌++◌, ◌==◌, codes, unwrap_or}
 use Rattle.styled_text.specs.Names.{decimal, Text, HasNoEscape}
-use Rattle.run_model.specs.Names.{Attempt, is_immediate, has_loaded_output, TestOutputDisplay, TestInstanceId, StressIndex}
-use Rattle.text_parts.specs.Names.{RetryData, instance_end, padded_instance, short_word, is_level_shown, bracketed, by_delay, attempt_output}
+use Rattle.run_model.specs.Names.{Attempt, is_immediate, has_loaded_output, TestOutputDisplay, TestInstanceId}
+use Rattle.run_model.specs.Names.{StressIndex}
+use Rattle.text_parts.specs.Names.{RetryData, instance_end, padded_instance, short_word, is_level_shown, bracketed}
+use Rattle.text_parts.specs.Names.{by_delay, attempt_output}
 use Rattle.run_names.specs.declared.level.StatusLevel.TheVariants as status
 use Rattle.styled_text.proofs.lemmas.{Closed.decimal_free, Widths.free_both}
 use Rattle.report_words.specs.Parts.{Parts, Line, Lines, Retry, none, words, Right, given_right, ◌⧺◌, choice}
-use Rattle.{text_parts.specs.declared.instance.CountedInstance.CountedInstance, text_parts.specs.declared.settings.Settings.Settings, test_text.specs.StatusLine.attempt_words}
+use Rattle.{text_parts.specs.declared.instance.CountedInstance.CountedInstance}
+use Rattle.{text_parts.specs.declared.settings.Settings.Settings, test_text.specs.StatusLine.attempt_words}
 
 -- the line of the failed attempt
 unfoldable pub attempt_failed_line : CountedInstance → Attempt → Parts false Line
@@ -34,15 +37,18 @@ abbrev pub delay_words : RetryData → Text
 delay_words r = codes "DELAY " ++ (decimal (r.attempt + 1) ++ (codes "/" ++ decimal r.total_attempts))
 
 pub free-delay_words : (r : RetryData) → HasNoEscape (delay_words r)
-free-delay_words r = free_both (decimal (r.attempt + 1)) (codes "/" ++ decimal r.total_attempts) (decimal_free (r.attempt + 1)) (decimal_free r.total_attempts)
+free-delay_words r = free_both (decimal (r.attempt + 1)) (codes "/" ++ decimal r.total_attempts)
+    (decimal_free (r.attempt + 1)) (decimal_free r.total_attempts)
 
 -- how long the next attempt waits, if it does
 unfoldable pub delay_line : CountedInstance → RetryData → ℕ → Parts false Lines
 delay_line test r delay =
-    choice (delay == 0) none (Right 12 Retry (delay_words r) (free-delay_words r) ⧺ words (codes " ") ⧺ by_delay delay ⧺ instance_end test)
+    choice (delay == 0) none
+    (Right 12 Retry (delay_words r) (free-delay_words r) ⧺ words (codes " ") ⧺ by_delay delay ⧺ instance_end test)
 
 -- an attempt has failed and is retried: nothing if such attempts are not shown
-unfoldable pub attempt_failed_text : Settings → Option StressIndex → TestInstanceId → Attempt → ℕ → TestOutputDisplay → Parts false Lines
+unfoldable pub attempt_failed_text : Settings → Option StressIndex → TestInstanceId → Attempt → ℕ → TestOutputDisplay
+    → Parts false Lines
 attempt_failed_text s stress instance x delay failure =
     choice (is_level_shown s status.Retry)
     (attempt_failed_line (padded_instance s stress instance) x

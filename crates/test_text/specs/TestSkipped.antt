@@ -12,4 +12,5 @@ skip_line test = right 12 Skip (codes "SKIP") ⧺ untimed_end test
 
 -- the line, if skipped tests are shown
 unfoldable pub test_skipped_text : Settings → Option StressIndex → TestInstanceId → Parts false Lines
-test_skipped_text s stress instance = choice (is_level_shown s status.Skip) (skip_line (padded_instance s stress instance)) none
+test_skipped_text s stress instance = choice (is_level_shown s status.Skip)
+    (skip_line (padded_instance s stress instance)) none

@@ -3,8 +3,10 @@ use Rattle.std.specs.Prelude.{ℕ, Bool, true, false, ◌&&◌, Option, codes, n
 use Rattle.run_model.specs.Names.{status_rank, StatusLevel, TestInstanceId, StressIndex}
 use Rattle.text_parts.specs.Names.{RetryData, instance_end, padded_instance, is_level_shown, exceeded}
 use Rattle.run_names.specs.declared.level.StatusLevel.TheVariants as status
-use Rattle.{styled_text.specs.Names.HasNoEscape, styled_text.specs.Names.Text, test_text.specs.StatusLine.attempt_words, test_text.specs.StatusLine.free-attempt_words}
-use Rattle.{text_parts.specs.declared.instance.CountedInstance.CountedInstance, text_parts.specs.declared.settings.Settings.Settings, report_words.proofs.lemmas.FreeWords.free-if}
+use Rattle.{styled_text.specs.Names.HasNoEscape, styled_text.specs.Names.Text, test_text.specs.StatusLine.attempt_words}
+use Rattle.{test_text.specs.StatusLine.free-attempt_words}
+use Rattle.{text_parts.specs.declared.instance.CountedInstance.CountedInstance}
+use Rattle.{text_parts.specs.declared.settings.Settings.Settings, report_words.proofs.lemmas.FreeWords.free-if}
 use Rattle.report_words.specs.Parts.{Parts, Line, Lines, Tone, Fail, Retry, Skip, none, words, Right, ◌⧺◌, choice}
 
 -- the end of a slow test's line: how long the attempt has taken, and the test
@@ -22,7 +24,8 @@ free-slow_word attempt = free-if (nat_lt 1 attempt) _ _ (free-attempt_words atte
 -- an attempt is slow: the line, if slow tests are shown
 unfoldable pub slow_text : Settings → CountedInstance → ℕ → ℕ → Parts false Lines
 slow_text s test attempt elapsed =
-    choice (is_level_shown s status.Slow) (Right 12 Skip (slow_word attempt) (free-slow_word attempt) ⧺ slow_end test elapsed) none
+    choice (is_level_shown s status.Slow)
+    (Right 12 Skip (slow_word attempt) (free-slow_word attempt) ⧺ slow_end test elapsed) none
 
 -- no attempt follows
 unfoldable pub is_last_attempt : RetryData → Bool
@@ -63,5 +66,7 @@ abbrev pub slow_or_terminating : Settings → CountedInstance → RetryData → 
 slow_or_terminating s test r elapsed true = terminating_text s test r elapsed
 slow_or_terminating s test r elapsed false = slow_text s test r.attempt elapsed
 
-unfoldable pub test_slow_text : Settings → Option StressIndex → TestInstanceId → RetryData → ℕ → Bool → Parts false Lines
-test_slow_text s stress instance r elapsed will_terminate = slow_or_terminating s (padded_instance s stress instance) r elapsed will_terminate
+unfoldable pub test_slow_text : Settings → Option StressIndex → TestInstanceId → RetryData → ℕ → Bool
+    → Parts false Lines
+test_slow_text s stress instance r elapsed will_terminate = slow_or_terminating s (padded_instance s stress instance) r
+    elapsed will_terminate

@@ -1,6 +1,7 @@
 //! The number of an attempt.
 
-ghost use Rattle.{styled_text.specs.Names.styled, styled_text.specs.Names.right_in, test_text.specs.StatusLine.attempt_words};
+ghost use Rattle.{styled_text.specs.Names.styled, styled_text.specs.Names.right_in};
+ghost use Rattle.{test_text.specs.StatusLine.attempt_words};
 
 use itoa::Buffer;
 use styled_text::style::Style;

@@ -2,9 +2,12 @@
 
 ghost use Rattle.std.specs.Prelude.{◌≡◌, ◌++◌, codes};
 ghost use Rattle.styled_text.specs.Names.{OnTrue, Puts, plain, styled, right_in};
-ghost use Rattle.{run_model.specs.Statuses.described_summary, text_parts.specs.ResultWords.long_failure_word, text_parts.specs.ResultWords.long_word};
+ghost use Rattle.{run_model.specs.Statuses.described_summary, text_parts.specs.ResultWords.long_failure_word};
+ghost use Rattle.{text_parts.specs.ResultWords.long_word};
 ghost use Rattle.report_words.specs.Parts.{paint, style_of};
-ghost use Rattle.test_text.specs.StatusLine.{is_final_line, shown_summary, flaky_tone, flaky_words, failure_words, success_text, is_flaky_failure, status_prefix, flaky_note, flaky_failure_line, status_line};
+ghost use Rattle.test_text.specs.StatusLine.{is_final_line, shown_summary, flaky_tone, flaky_words, failure_words};
+ghost use Rattle.test_text.specs.StatusLine.{success_text, is_flaky_failure, status_prefix, flaky_note};
+ghost use Rattle.test_text.specs.StatusLine.{flaky_failure_line, status_line};
 
 use crate::attempt::Try;
 use itoa::Buffer;
@@ -110,7 +113,8 @@ pub fn write_status_line<W: WriteStr>(
     test: &CountedInstance<'_>,
     line: StatusLine<'_>,
 ) -> Result<(), WriteFault>
-    ensures { Puts W.meaning w.old (paint styles.now (status_line kind test.now (shown_summary line.entry))) result w.new }
+    ensures { Puts W.meaning w.old (paint styles.now (status_line kind test.now (shown_summary line.entry))) result
+        w.new }
 {
     write_line(w, styles, kind, test, &line)
 }
@@ -124,7 +128,8 @@ fn write_line<W: WriteStr>(
     test: &CountedInstance<'_>,
     line: &StatusLine<'_>,
 ) -> Result<(), WriteFault>
-    ensures { Puts W.meaning w.old (paint styles.now (status_line kind test.now (shown_summary line.now))) result w.new }
+    ensures { Puts W.meaning w.old (paint styles.now (status_line kind test.now (shown_summary line.now))) result
+        w.new }
 {
     write_status_prefix(w, styles, kind, line)?;
     DisplayBracketedDuration(line.time_taken).write_to(w)?;
@@ -163,7 +168,8 @@ fn write_success_word<W: WriteStr>(
     is_slow: bool,
     outcome: &ExecutionResultDescription,
 ) -> Result<(), WriteFault>
-    ensures { Puts W.meaning w.old (paint styles.now (success_text is_slow outcome.now) ++ plain (codes " ")) result w.new }
+    ensures { Puts W.meaning w.old (paint styles.now (success_text is_slow outcome.now) ++ plain (codes " ")) result
+        w.new }
 {
     match outcome {
         // Most tests pass: their word is a constant, with its padding.
@@ -208,7 +214,10 @@ fn write_flaky_word<W: WriteStr>(
     flaky_result: FlakyResult,
     retry_data: RetryData,
 ) -> Result<(), WriteFault>
-    ensures { Puts W.meaning w.old (styled (style_of styles.now (flaky_tone flaky_result)) (right_in 12 (flaky_words kind flaky_result retry_data))) result w.new }
+    ensures { Puts W.meaning w.old
+        (styled (style_of styles.now (flaky_tone flaky_result))
+        (right_in 12 (flaky_words kind flaky_result retry_data)))
+        result w.new }
 {
     let (style, label) = match flaky_result {
         FlakyResult::Pass => (styles.skip, "FLAKY "),
@@ -232,7 +241,8 @@ fn write_failure_word<W: WriteStr>(
     attempt: u32,
     failed: &ExecutionResultDescription,
 ) -> Result<(), WriteFault>
-    ensures { Puts W.meaning w.old (styled styles.now.fail (right_in 12 (failure_words attempt failed.now)) ++ plain (codes " ")) result w.new }
+    ensures { Puts W.meaning w.old
+        (styled styles.now.fail (right_in 12 (failure_words attempt failed.now)) ++ plain (codes " ")) result w.new }
 {
     if is_plain_failure(attempt, failed) {
         return write_word(w, styles.fail, "        FAIL", "        FAIL ");
@@ -273,7 +283,8 @@ fn write_other_failure<W: WriteStr>(
     attempt: u32,
     failed: &ExecutionResultDescription,
 ) -> Result<(), WriteFault>
-    ensures { Puts W.meaning w.old (styled styles.now.fail (right_in 12 (failure_words attempt failed.now))) result w.new }
+    ensures { Puts W.meaning w.old (styled styles.now.fail (right_in 12 (failure_words attempt failed.now))) result
+        w.new }
 {
     let mut signal = Buffer::new();
     if attempt == 1 {

@@ -2,7 +2,8 @@
 
 ghost use Rattle.std.specs.Prelude.{◌≡◌};
 ghost use Rattle.{run_names.specs.Levels.reason_rank, writers.specs.Writer.Puts, report_words.specs.Parts.paint};
-ghost use Rattle.test_text.specs.TestFinished.{HasShownOutput, finish_of, line_at_once, output_at_once, test_finish, test_finished_text};
+ghost use Rattle.test_text.specs.TestFinished.{HasShownOutput, finish_of, line_at_once, output_at_once, test_finish};
+ghost use Rattle.test_text.specs.TestFinished.{test_finished_text};
 
 use crate::status_line::{StatusLine, StatusLineKind, write_status_line};
 use run_model::config::TestOutputDisplay;
@@ -44,7 +45,9 @@ impl<'e, 'a> FinishedTest<'e, 'a> {
         run_statuses: &'e ExecutionStatuses<LiveSpec>,
         stats: &RunStats,
     ) -> FinishedTest<'e, 'a>
-        ensures { finish_of result ≡ test_finish settings.now (reason_rank reason) stress_index instance.entry success_output failure_output run_statuses.now stats.now }
+        ensures { finish_of result
+            ≡ test_finish settings.now (reason_rank reason) stress_index instance.entry success_output failure_output
+            run_statuses.now stats.now }
     {
         let describe = run_statuses.describe();
         FinishedTest {
@@ -81,7 +84,8 @@ pub fn write_test_finished<W: WriteStr>(
     finished: &FinishedTest<'_, '_>,
 ) -> Result<(), WriteFault>
     requires { HasShownOutput (finish_of finished.now) }
-    ensures { Puts W.meaning w.old (paint settings.now.styles (test_finished_text settings.now (finish_of finished.now))) result w.new }
+    ensures { Puts W.meaning w.old
+        (paint settings.now.styles (test_finished_text settings.now (finish_of finished.now))) result w.new }
 {
     write_line_at_once(w, settings, finished)?;
     write_output_at_once(w, settings, finished)
@@ -93,7 +97,8 @@ fn write_line_at_once<W: WriteStr>(
     settings: &Settings,
     finished: &FinishedTest<'_, '_>,
 ) -> Result<(), WriteFault>
-    ensures { Puts W.meaning w.old (paint settings.now.styles (line_at_once settings.now (finish_of finished.now))) result w.new }
+    ensures { Puts W.meaning w.old (paint settings.now.styles (line_at_once settings.now (finish_of finished.now)))
+        result w.new }
 {
     if settings.is_line_shown(&finished.describe) {
         let line = StatusLine::of_description(&finished.describe);
@@ -117,7 +122,8 @@ fn write_output_at_once<W: WriteStr>(
     finished: &FinishedTest<'_, '_>,
 ) -> Result<(), WriteFault>
     requires { HasShownOutput (finish_of finished.now) }
-    ensures { Puts W.meaning w.old (paint settings.now.styles (output_at_once settings.now (finish_of finished.now))) result w.new }
+    ensures { Puts W.meaning w.old (paint settings.now.styles (output_at_once settings.now (finish_of finished.now)))
+        result w.new }
 {
     if finished.row.is_shown_at_once(finished.display) {
         let last = finished.describe.last_status();

@@ -3,8 +3,10 @@
 ghost use Rattle.std.specs.Prelude.{◌≡◌, true};
 ghost use Rattle.styled_text.specs.Names.{styled, right_in, Puts};
 ghost use Rattle.{report_words.specs.Parts.paint, test_text.specs.StatusLine.attempt_words};
-ghost use Rattle.test_text.specs.TestRetry.{HasFailedAttemptOutput, attempt_failed_text, delay_words, failed_output, is_failed_output_shown};
-ghost use Rattle.{text_parts.specs.Names.is_level_shown, text_parts.specs.Names.short_word, run_names.specs.declared.level.StatusLevel.TheVariants.Retry};
+ghost use Rattle.test_text.specs.TestRetry.{HasFailedAttemptOutput, attempt_failed_text, delay_words, failed_output};
+ghost use Rattle.test_text.specs.TestRetry.{is_failed_output_shown};
+ghost use Rattle.{text_parts.specs.Names.is_level_shown, text_parts.specs.Names.short_word};
+ghost use Rattle.{run_names.specs.declared.level.StatusLevel.TheVariants.Retry};
 
 use itoa::Buffer;
 use run_model::config::TestOutputDisplay;
@@ -48,8 +50,13 @@ pub fn write_attempt_failed<W: WriteStr>(
     delay_before_next_attempt: Nanos,
     failure_output: TestOutputDisplay,
 ) -> Result<(), WriteFault>
-    requires { is_level_shown settings.now Retry ≡ true → HasFailedAttemptOutput settings.now run_status.now failure_output }
-    ensures { Puts W.meaning w.old (paint settings.now.styles (attempt_failed_text settings.now stress_index instance.entry run_status.now delay_before_next_attempt.0 failure_output)) result w.new }
+    requires { is_level_shown settings.now Retry ≡ true
+        → HasFailedAttemptOutput settings.now run_status.now failure_output }
+    ensures { Puts W.meaning w.old
+        (paint settings.now.styles
+        (attempt_failed_text settings.now stress_index instance.entry run_status.now
+        delay_before_next_attempt.0 failure_output))
+        result w.new }
 {
     if !settings.is_level_shown(StatusLevel::Retry) {
         return Ok(());
@@ -101,7 +108,8 @@ fn write_failed_output<W: WriteStr>(
     failure_output: TestOutputDisplay,
 ) -> Result<(), WriteFault>
     requires { HasFailedAttemptOutput settings.now run_status.now failure_output }
-    ensures { Puts W.meaning w.old (paint settings.now.styles (failed_output settings.now run_status.now failure_output)) result w.new }
+    ensures { Puts W.meaning w.old
+        (paint settings.now.styles (failed_output settings.now run_status.now failure_output)) result w.new }
 {
     if !shows_failed_output(settings, failure_output) {
         return Ok(());

@@ -1,6 +1,7 @@
 //! A skipped test.
 
-ghost use Rattle.{writers.specs.Writer.Puts, report_words.specs.Parts.paint, test_text.specs.TestSkipped.skip_line, test_text.specs.TestSkipped.test_skipped_text};
+ghost use Rattle.{writers.specs.Writer.Puts, report_words.specs.Parts.paint, test_text.specs.TestSkipped.skip_line};
+ghost use Rattle.{test_text.specs.TestSkipped.test_skipped_text};
 
 use run_model::level::StatusLevel;
 use run_model::name::TestInstanceId;
@@ -22,7 +23,8 @@ pub fn write_test_skipped<W: WriteStr>(
     stress_index: Option<StressIndex>,
     instance: TestInstanceId<'_>,
 ) -> Result<(), WriteFault>
-    ensures { Puts W.meaning w.old (paint settings.now.styles (test_skipped_text settings.now stress_index instance.entry)) result w.new }
+    ensures { Puts W.meaning w.old
+        (paint settings.now.styles (test_skipped_text settings.now stress_index instance.entry)) result w.new }
 {
     if !settings.is_level_shown(StatusLevel::Skip) {
         return Ok(());

@@ -3,7 +3,8 @@
 ghost use Rattle.std.specs.Prelude.{◌≡◌};
 ghost use Rattle.styled_text.specs.Names.{styled, right_in, Puts};
 ghost use Rattle.report_words.specs.Parts.{paint, style_of};
-ghost use Rattle.test_text.specs.TestSlow.{has_number, is_last_attempt, is_level_exceeded, slow_word, terminating_level, terminating_tone, terminating_word, test_slow_text};
+ghost use Rattle.test_text.specs.TestSlow.{has_number, is_last_attempt, is_level_exceeded, slow_word};
+ghost use Rattle.test_text.specs.TestSlow.{terminating_level, terminating_tone, terminating_word, test_slow_text};
 
 use crate::attempt::Try;
 use run_model::level::StatusLevel;
@@ -38,7 +39,10 @@ pub fn write_test_slow<W: WriteStr>(
     elapsed: Nanos,
     will_terminate: bool,
 ) -> Result<(), WriteFault>
-    ensures { Puts W.meaning w.old (paint settings.now.styles (test_slow_text settings.now stress_index instance.entry retry_data elapsed.0 will_terminate)) result w.new }
+    ensures { Puts W.meaning w.old
+        (paint settings.now.styles
+        (test_slow_text settings.now stress_index instance.entry retry_data elapsed.0 will_terminate))
+        result w.new }
 {
     let test = settings.padded_instance(stress_index, instance);
     let styles = &settings.styles;
@@ -79,7 +83,8 @@ impl WriteText for SlowWord {
 struct TerminatingWord<'a>(&'a Settings, RetryData);
 
 impl WriteText for TerminatingWord<'_> {
-    ghost text = { λ t. styled (style_of t.0.now.styles (terminating_tone t.1)) (right_in 12 (terminating_word t.0.now t.1)) };
+    ghost text = { λ t. styled (style_of t.0.now.styles (terminating_tone t.1))
+        (right_in 12 (terminating_word t.0.now t.1)) };
 
     #[tactic(auto, unfolding(crate::specs::TestSlow::terminating_word))]
     fn write_to<W: WriteStr>(&self, w: &mut W) -> Result<(), WriteFault> {

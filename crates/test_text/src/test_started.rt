@@ -36,7 +36,10 @@ pub fn write_test_started<W: WriteStr>(
     stats: &RunStats,
     command_line: &CommandLine,
 ) -> Result<(), WriteFault>
-    ensures { Puts W.meaning w.old (paint settings.now.styles (test_started_text settings.now stress_index instance.entry stats.now command_line.now)) result w.new }
+    ensures { Puts W.meaning w.old
+        (paint settings.now.styles
+        (test_started_text settings.now stress_index instance.entry stats.now command_line.now))
+        result w.new }
 {
     let test = CountedInstance {
         stress_index,
@@ -63,7 +66,10 @@ pub fn write_test_retry_started<W: WriteStr>(
     retry_data: RetryData,
     command_line: &CommandLine,
 ) -> Result<(), WriteFault>
-    ensures { Puts W.meaning w.old (paint settings.now.styles (test_retry_started_text settings.now stress_index instance.entry retry_data command_line.now)) result w.new }
+    ensures { Puts W.meaning w.old
+        (paint settings.now.styles
+        (test_retry_started_text settings.now stress_index instance.entry retry_data command_line.now))
+        result w.new }
 {
     let test = settings.padded_instance(stress_index, instance);
     let styles = &settings.styles;
@@ -78,7 +84,8 @@ fn write_command_line<W: WriteStr>(
     settings: &Settings,
     command_line: &CommandLine,
 ) -> Result<(), WriteFault>
-    ensures { Puts W.meaning w.old (paint settings.now.styles (command_text settings.now command_line.now)) result w.new }
+    ensures { Puts W.meaning w.old (paint settings.now.styles (command_text settings.now command_line.now)) result
+        w.new }
 {
     if !settings.verbose {
         return Ok(());

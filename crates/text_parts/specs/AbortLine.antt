@@ -1,9 +1,15 @@
 -- The line after the line of a test whose process was aborted, on Windows.
 use Rattle.std.specs.Prelude.{ℤ, false, Option, None, Some, [], ◌++◌, codes}
-use Rattle.run_names.specs.declared.abort.AbortDescription.{AbortDescription, TheVariants.UnixSignal, TheVariants.WindowsNtStatus, TheVariants.WindowsJobObject}
-use Rattle.run_model.specs.declared.status.{ExecutionResultDescription.ExecutionResultDescription, FailureDescription.FailureDescription, FailureDescription.TheVariants.ExitCode, FailureDescription.TheVariants.Abort}
-use Rattle.{report_text.specs.Failure.nt_status_text, report_text.proofs.lemmas.FreeDetails.free-hex_text, styled_text.specs.Names.indent, styled_text.specs.Names.Text, styled_text.specs.Names.plain}
-use Rattle.report_words.specs.Parts.{Parts, Fixed, Line, Lines, Count, Fail, none, words, toned, Toned, drawn_given, ◌⧺◌, plainly, loosely}
+use Rattle.run_names.specs.declared.abort.AbortDescription.{AbortDescription, TheVariants.UnixSignal}
+use Rattle.run_names.specs.declared.abort.AbortDescription.{TheVariants.WindowsNtStatus, TheVariants.WindowsJobObject}
+use Rattle.run_model.specs.declared.status.{ExecutionResultDescription.ExecutionResultDescription}
+use Rattle.run_model.specs.declared.status.{FailureDescription.FailureDescription}
+use Rattle.run_model.specs.declared.status.{FailureDescription.TheVariants.ExitCode}
+use Rattle.run_model.specs.declared.status.{FailureDescription.TheVariants.Abort}
+use Rattle.{report_text.specs.Failure.nt_status_text, report_text.proofs.lemmas.FreeDetails.free-hex_text}
+use Rattle.{styled_text.specs.Names.indent, styled_text.specs.Names.Text, styled_text.specs.Names.plain}
+use Rattle.report_words.specs.Parts.{Parts, Fixed, Line, Lines, Count, Fail, none, words, toned, Toned, drawn_given}
+use Rattle.report_words.specs.Parts.{◌⧺◌, plainly, loosely}
 use Rattle.run_model.specs.declared.status.ExecutionResultDescription.TheVariants as outcome
 
 -- the message of a status, if it is known: its later lines have the margin too, if they are not empty
@@ -27,7 +33,8 @@ nt_line code message =
 -- the end of the job that the process belonged to
 unfoldable pub job_object_line : Fixed Line
 job_object_line =
-    words (codes "           - ") ⧺ toned Fail (codes "terminated") ⧺ words (codes " via ") ⧺ toned Count (codes "job object") ⧺ words (codes "\n")
+    words (codes "           - ") ⧺ toned Fail (codes "terminated") ⧺ words (codes " via ") ⧺ toned Count
+    (codes "job object") ⧺ words (codes "\n")
 
 -- a signal is named in the test's own line
 abbrev pub line_of_abort : AbortDescription → Parts false Lines

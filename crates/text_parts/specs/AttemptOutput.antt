@@ -1,10 +1,20 @@
 -- The output of a finished attempt or of a setup script, and how it ended.
 use Rattle.styled_text.specs.Names.{int_eq, Text, HasNoEscape}
-use Rattle.report_words.specs.Names.{Style, Styles, Parts, Line, Lines, none, words, Word, ◌⧺◌, choice, drawn_given_line}
+use Rattle.report_words.specs.Names.{Style, Styles, Parts, Line, Lines, none, words, Word, ◌⧺◌, choice}
+use Rattle.report_words.specs.Names.{drawn_given_line}
 use Rattle.std.specs.Prelude.{pos, Bool, true, false, not, ◌&&◌, None, Some, [], codes, if◌then◌else◌, refl}
-use Rattle.run_model.specs.{Names.Written, Names.UnitKind, declared.status.ExecutionResultDescription.ExecutionResultDescription, declared.status.FailureDescription.FailureDescription, declared.status.FailureDescription.TheVariants.ExitCode, declared.status.FailureDescription.TheVariants.Abort}
-use Rattle.{report_words.specs.declared.theme.ThemeCharacters.ThemeCharacters, unit_report.proofs.lemmas.UnitColourPairs.ends-execution_output, text_parts.specs.InfoResult.info_text, text_parts.specs.declared.settings.Settings.Settings}
-use Rattle.unit_report.specs.{UnitOutput.OutputLayout, UnitOutput.execution_output, declared.unit_output.header.OutputHeader.OutputHeader, declared.unit_output.header.OutputHeader.TheVariants.Bars, declared.unit_output.header.OutputName.OutputName}
+use Rattle.run_model.specs.{Names.Written, Names.UnitKind}
+use Rattle.run_model.specs.{declared.status.ExecutionResultDescription.ExecutionResultDescription}
+use Rattle.run_model.specs.{declared.status.FailureDescription.FailureDescription}
+use Rattle.run_model.specs.{declared.status.FailureDescription.TheVariants.ExitCode}
+use Rattle.run_model.specs.{declared.status.FailureDescription.TheVariants.Abort}
+use Rattle.{report_words.specs.declared.theme.ThemeCharacters.ThemeCharacters}
+use Rattle.{unit_report.proofs.lemmas.UnitColourPairs.ends-execution_output, text_parts.specs.InfoResult.info_text}
+use Rattle.{text_parts.specs.declared.settings.Settings.Settings}
+use Rattle.unit_report.specs.{UnitOutput.OutputLayout, UnitOutput.execution_output}
+use Rattle.unit_report.specs.{declared.unit_output.header.OutputHeader.OutputHeader}
+use Rattle.unit_report.specs.{declared.unit_output.header.OutputHeader.TheVariants.Bars}
+use Rattle.unit_report.specs.{declared.unit_output.header.OutputName.OutputName}
 use Rattle.run_model.specs.declared.status.ExecutionResultDescription.TheVariants as outcome
 use Rattle.run_model.specs.declared.status.LeakTimeoutResult.TheVariants as leak
 use Rattle.run_model.specs.declared.status.SlowTimeoutResult.TheVariants as slow
@@ -49,7 +59,8 @@ layout_in kind no_indent theme style = record {
 
 -- the layout of the output of a unit with this result
 abbrev pub finished_layout : Settings → UnitKind → ExecutionResultDescription → Bool → OutputLayout
-finished_layout s kind result is_retry = layout_in kind s.no_output_indent s.theme_characters (header_style s.styles result is_retry)
+finished_layout s kind result is_retry = layout_in kind s.no_output_indent s.theme_characters
+    (header_style s.styles result is_retry)
 
 -- The result is repeated after the output, but for plain ones: a pass, a process that could not be started, a panic
 -- (code 101), and an exit code if handles were left open.
@@ -76,7 +87,8 @@ free-info_line_start unit.Script = refl
 
 -- the line that repeats the result, aligned with the output, and an empty line
 unfoldable pub shown_info_line : UnitKind → ExecutionResultDescription → Parts false Line
-shown_info_line kind result = Word (info_line_start kind) (free-info_line_start kind) ⧺ info_text false result ⧺ words (codes ")\n\n")
+shown_info_line kind result = Word (info_line_start kind) (free-info_line_start kind) ⧺ info_text false result ⧺ words
+    (codes ")\n\n")
 
 unfoldable pub info_line : UnitKind → ExecutionResultDescription → Parts false Lines
 info_line kind result = choice (has_info_line result) (shown_info_line kind result) none
@@ -85,7 +97,8 @@ info_line kind result = choice (has_info_line result) (shown_info_line kind resu
 abbrev pub written_part : Settings → UnitKind → Bool → ExecutionResultDescription → Written → Parts false Line
 written_part s kind is_retry result output =
     drawn_given_line
-    (λ t. execution_output s.unit_output t (layout_in kind s.no_output_indent s.theme_characters (header_style t result is_retry)) output)
+    (λ t. execution_output s.unit_output t
+    (layout_in kind s.no_output_indent s.theme_characters (header_style t result is_retry)) output)
     (λ t. ends-execution_output s.unit_output t _ output)
 
 -- the output, and the result; the flag says that another attempt follows

@@ -1,8 +1,15 @@
 -- When a finished test is shown: immediately, and at the end of the run.
-use Rattle.{std.specs.Ordering.int_eq, unit_report.specs.Overrides.display_for, text_parts.specs.declared.finish.OutputTiming.OutputTiming, text_parts.specs.declared.settings.Settings.Settings}
-use Rattle.std.specs.Prelude.{◌≡◌, ℕ, ◌<◌, pos, Bool, true, false, not, Some, ◌&&◌, ◌||◌, ◌==◌, nat_le, nat_lt, if◌then◌else◌}
-use Rattle.run_model.specs.Names.{is_immediate, is_final, final_rank, reason_rank, status_rank, final_level_of, status_level_of, AbortDescription, TestOutputDisplay}
-use Rattle.run_model.specs.declared.status.{ExecutionResultDescription.ExecutionResultDescription, StatusSummary.StatusSummary, FailureDescription.FailureDescription, FailureDescription.TheVariants.ExitCode, FailureDescription.TheVariants.Abort}
+use Rattle.{std.specs.Ordering.int_eq, unit_report.specs.Overrides.display_for}
+use Rattle.{text_parts.specs.declared.finish.OutputTiming.OutputTiming}
+use Rattle.{text_parts.specs.declared.settings.Settings.Settings}
+use Rattle.std.specs.Prelude.{◌≡◌, ℕ, ◌<◌, pos, Bool, true, false, not, Some, ◌&&◌, ◌||◌, ◌==◌, nat_le, nat_lt}
+use Rattle.std.specs.Prelude.{if◌then◌else◌}
+use Rattle.run_model.specs.Names.{is_immediate, is_final, final_rank, reason_rank, status_rank, final_level_of}
+use Rattle.run_model.specs.Names.{status_level_of, AbortDescription, TestOutputDisplay}
+use Rattle.run_model.specs.declared.status.{ExecutionResultDescription.ExecutionResultDescription}
+use Rattle.run_model.specs.declared.status.{StatusSummary.StatusSummary, FailureDescription.FailureDescription}
+use Rattle.run_model.specs.declared.status.{FailureDescription.TheVariants.ExitCode}
+use Rattle.run_model.specs.declared.status.{FailureDescription.TheVariants.Abort}
 use Rattle.run_names.specs.declared.abort.AbortDescription.TheVariants.{UnixSignal, WindowsNtStatus, WindowsJobObject}
 use Rattle.run_names.specs.declared.level.CancelReason.TheVariants as cause
 use Rattle.run_model.specs.declared.status.ExecutionResultDescription.TheVariants as outcome
@@ -67,7 +74,8 @@ is_shown_at_once reason display result = timed_at_once (output_timing reason res
 
 -- the summary should list it: for its output, or for its level
 unfoldable pub is_final_wanted : Settings → TestOutputDisplay → StatusSummary → Bool
-is_final_wanted s display x = is_final display || nat_le (final_rank (final_level_of x)) (final_rank s.status_levels.final_status_level)
+is_final_wanted s display x = is_final display || nat_le (final_rank (final_level_of x))
+    (final_rank s.status_levels.final_status_level)
 
 -- the summary shows its output
 abbrev pub is_shown_at_end : ℕ → TestOutputDisplay → ExecutionResultDescription → Bool
@@ -80,10 +88,12 @@ Showing = ℕ → TestOutputDisplay → ExecutionResultDescription → Bool
 -- with a reason no output is shown that is not shown without one
 abbrev pub IsOnlyHidden : Showing → Type 0
 IsOnlyHidden shown =
-    (reason : ℕ) (display : TestOutputDisplay) (result : ExecutionResultDescription) → shown reason display result ≡ true → shown 0 display result ≡ true
+    (reason : ℕ) (display : TestOutputDisplay) (result :
+    ExecutionResultDescription) → shown reason display result ≡ true → shown 0 display result ≡ true
 
 -- a reason less severe than `TestFailureImmediate` changes nothing
 abbrev pub IsSameBelowImmediate : Showing → Type 0
 IsSameBelowImmediate shown =
-    (reason : ℕ) (display : TestOutputDisplay) (result : ExecutionResultDescription) → reason < reason_rank (Some cause.TestFailureImmediate) →
+    (reason : ℕ) (display : TestOutputDisplay) (result : ExecutionResultDescription) → reason < reason_rank (Some
+    cause.TestFailureImmediate) →
     shown reason display result ≡ shown 0 display result

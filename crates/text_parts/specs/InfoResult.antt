@@ -2,9 +2,15 @@
 use Rattle.std.specs.Prelude.{ℤ, Bool, true, false, Option, None, Some, [], ◌++◌, codes, refl}
 use Rattle.styled_text.specs.Names.{signed_decimal, Text, plain, HasNoEscape}
 use Rattle.report_words.proofs.lemmas.FreeWords.{free-signed}
-use Rattle.run_names.specs.declared.abort.AbortDescription.{AbortDescription, TheVariants.UnixSignal, TheVariants.WindowsNtStatus, TheVariants.WindowsJobObject}
-use Rattle.run_model.specs.declared.status.{ExecutionResultDescription.ExecutionResultDescription, LeakTimeoutResult.LeakTimeoutResult, SlowTimeoutResult.SlowTimeoutResult, FailureDescription.FailureDescription, FailureDescription.TheVariants.ExitCode, FailureDescription.TheVariants.Abort}
-use Rattle.report_words.specs.Parts.{Parts, Fixed, Open, Count, Pass, Fail, Skip, words, toned, Toned, Verbatim, ◌⧺◌, choice, plainly, drawn_given}
+use Rattle.run_names.specs.declared.abort.AbortDescription.{AbortDescription, TheVariants.UnixSignal}
+use Rattle.run_names.specs.declared.abort.AbortDescription.{TheVariants.WindowsNtStatus, TheVariants.WindowsJobObject}
+use Rattle.run_model.specs.declared.status.{ExecutionResultDescription.ExecutionResultDescription}
+use Rattle.run_model.specs.declared.status.{LeakTimeoutResult.LeakTimeoutResult, SlowTimeoutResult.SlowTimeoutResult}
+use Rattle.run_model.specs.declared.status.{FailureDescription.FailureDescription}
+use Rattle.run_model.specs.declared.status.{FailureDescription.TheVariants.ExitCode}
+use Rattle.run_model.specs.declared.status.{FailureDescription.TheVariants.Abort}
+use Rattle.report_words.specs.Parts.{Parts, Fixed, Open, Count, Pass, Fail, Skip, words, toned, Toned, Verbatim, ◌⧺◌}
+use Rattle.report_words.specs.Parts.{choice, plainly, drawn_given}
 use Rattle.run_model.specs.declared.status.ExecutionResultDescription.TheVariants as outcome
 use Rattle.run_model.specs.declared.status.LeakTimeoutResult.TheVariants as leak
 use Rattle.run_model.specs.declared.status.SlowTimeoutResult.TheVariants as slow
@@ -25,7 +31,8 @@ leaked_part leaked = Verbatim (leaked_note leaked) (free-leaked_note leaked)
 -- a process that ended with a code
 unfoldable pub exit_code_info : ℤ → Bool → Fixed Open
 exit_code_info code leaked =
-    toned Fail (codes "failed") ⧺ words (codes " with exit code ") ⧺ Toned Count (signed_decimal code) (free-signed code) ⧺ leaked_part leaked
+    toned Fail (codes "failed") ⧺ words (codes " with exit code ") ⧺ Toned Count (signed_decimal code)
+    (free-signed code) ⧺ leaked_part leaked
 
 -- the name of a signal, if it has one
 unfoldable pub signal_name : Option Text → Text

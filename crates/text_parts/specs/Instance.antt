@@ -1,7 +1,10 @@
 -- The tests that lines are about.
 use Rattle.report_words.specs.Parts.{Parts, Line, words, ◌⧺◌}
 use Rattle.{std.specs.Prelude.false, std.specs.Prelude.Option, std.specs.Prelude.codes}
-use Rattle.{run_model.specs.Names.TestInstanceId, run_model.specs.Names.StressIndex, report_text.specs.Instance.instance_part, text_parts.specs.Settings.padded_counter, text_parts.specs.declared.instance.CountedInstance.CountedInstance, text_parts.specs.declared.settings.Settings.Settings}
+use Rattle.{run_model.specs.Names.TestInstanceId, run_model.specs.Names.StressIndex}
+use Rattle.{report_text.specs.Instance.instance_part, text_parts.specs.Settings.padded_counter}
+use Rattle.{text_parts.specs.declared.instance.CountedInstance.CountedInstance}
+use Rattle.{text_parts.specs.declared.settings.Settings.Settings}
 
 -- a test in a line that counts nothing
 abbrev pub padded_instance : Settings → Option StressIndex → TestInstanceId → CountedInstance

@@ -1,6 +1,8 @@
 -- Results without escape characters.
-use Rattle.{report_words.specs.PlainTexts.IsPlainAbort, run_model.specs.declared.status.ExecutionResultDescription.ExecutionResultDescription}
-use Rattle.run_model.specs.declared.status.FailureDescription.{FailureDescription, TheVariants.ExitCode, TheVariants.Abort}
+use Rattle.{report_words.specs.PlainTexts.IsPlainAbort}
+use Rattle.{run_model.specs.declared.status.ExecutionResultDescription.ExecutionResultDescription}
+use Rattle.run_model.specs.declared.status.FailureDescription.{FailureDescription, TheVariants.ExitCode}
+use Rattle.run_model.specs.declared.status.FailureDescription.{TheVariants.Abort}
 use Rattle.run_model.specs.declared.status.ExecutionResultDescription.TheVariants as outcome
 
 -- the signal's name and the message of a failure hold no escape character

@@ -1,8 +1,12 @@
 -- The words of results in the lines of tests.
 use Rattle.std.specs.Prelude.{Bool, true, false, None, Some, ◌++◌, codes}
-use Rattle.{styled_text.specs.Names.signed_decimal, styled_text.specs.Names.Text, run_model.specs.declared.status.ExecutionResultDescription.ExecutionResultDescription, text_parts.specs.declared.result_words.ShortWord.ShortWord}
-use Rattle.run_names.specs.declared.abort.AbortDescription.{AbortDescription, TheVariants.UnixSignal, TheVariants.WindowsNtStatus, TheVariants.WindowsJobObject}
-use Rattle.run_model.specs.declared.status.FailureDescription.{FailureDescription, TheVariants.ExitCode, TheVariants.Abort}
+use Rattle.{styled_text.specs.Names.signed_decimal, styled_text.specs.Names.Text}
+use Rattle.{run_model.specs.declared.status.ExecutionResultDescription.ExecutionResultDescription}
+use Rattle.{text_parts.specs.declared.result_words.ShortWord.ShortWord}
+use Rattle.run_names.specs.declared.abort.AbortDescription.{AbortDescription, TheVariants.UnixSignal}
+use Rattle.run_names.specs.declared.abort.AbortDescription.{TheVariants.WindowsNtStatus, TheVariants.WindowsJobObject}
+use Rattle.run_model.specs.declared.status.FailureDescription.{FailureDescription, TheVariants.ExitCode}
+use Rattle.run_model.specs.declared.status.FailureDescription.{TheVariants.Abort}
 use Rattle.run_model.specs.declared.status.ExecutionResultDescription.TheVariants as outcome
 use Rattle.run_model.specs.declared.status.LeakTimeoutResult.TheVariants as leak
 use Rattle.run_model.specs.declared.status.SlowTimeoutResult.TheVariants as slow

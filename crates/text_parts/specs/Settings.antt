@@ -1,9 +1,13 @@
 -- The settings of a reporter, from its configuration.
 use Rattle.std.specs.Prelude.{ℕ, ◌+◌, Bool, true, false, ◌||◌, Option, None, Some, length, nat_le}
-use Rattle.{std.specs.Fmt.decimal, text_parts.specs.declared.settings.Settings.Settings, report_words.specs.Theme.hbar_character, report_words.specs.declared.theme.ThemeCharacters.ThemeCharacters}
-use Rattle.run_model.specs.{Names.status_rank, Names.TestOutputDisplay, Names.StatusLevel, declared.stats.RunStats.RunStats}
-use Rattle.report_text.specs.declared.helpers.instance.DisplayCounterIndex.{DisplayCounterIndex, TheVariants.Counter, TheVariants.Padded}
-use Rattle.unit_report.specs.declared.{config.ProgressDisplay.ProgressDisplay, unit_output.overrides.OutputDisplayOverrides.OutputDisplayOverrides}
+use Rattle.{std.specs.Fmt.decimal, text_parts.specs.declared.settings.Settings.Settings}
+use Rattle.{report_words.specs.Theme.hbar_character, report_words.specs.declared.theme.ThemeCharacters.ThemeCharacters}
+use Rattle.run_model.specs.{Names.status_rank, Names.TestOutputDisplay, Names.StatusLevel}
+use Rattle.run_model.specs.{declared.stats.RunStats.RunStats}
+use Rattle.report_text.specs.declared.helpers.instance.DisplayCounterIndex.{DisplayCounterIndex, TheVariants.Counter}
+use Rattle.report_text.specs.declared.helpers.instance.DisplayCounterIndex.{TheVariants.Padded}
+use Rattle.unit_report.specs.declared.{config.ProgressDisplay.ProgressDisplay}
+use Rattle.unit_report.specs.declared.{unit_output.overrides.OutputDisplayOverrides.OutputDisplayOverrides}
 use Rattle.run_names.specs.declared.config.TestOutputDisplay.TheVariants as display
 use Rattle.unit_report.specs.declared.config.ProgressDisplay.TheVariants as shown
 

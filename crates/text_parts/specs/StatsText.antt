@@ -1,7 +1,9 @@
 -- The counts of a run in words, and their style.
 use Rattle.std.specs.Prelude.{ℕ, Bool, true, false, ◌&&◌, ◌==◌, codes, if◌then◌else◌, refl}
-use Rattle.{run_model.specs.Stats.has_failures, run_model.specs.declared.stats.RunStats.RunStats, styled_text.specs.Names.Text, styled_text.specs.Names.HasNoEscape}
-use Rattle.report_words.specs.Parts.{Fixed, Open, Tone, Pass, Fail, Skip, Count, none, words, Word, toned, number, ◌⧺◌, choice}
+use Rattle.{run_model.specs.Stats.has_failures, run_model.specs.declared.stats.RunStats.RunStats}
+use Rattle.{styled_text.specs.Names.Text, styled_text.specs.Names.HasNoEscape}
+use Rattle.report_words.specs.Parts.{Fixed, Open, Tone, Pass, Fail, Skip, Count, none, words, Word, toned, number, ◌⧺◌}
+use Rattle.report_words.specs.Parts.{choice}
 
 -- the style of a run, by whether something in it has failed
 abbrev pub failure_tone : RunStats → Tone
@@ -45,12 +47,15 @@ passed_notes x =
 -- how many of the failed tests failed because they leaked handles
 unfoldable pub leaky_failed_note : ℕ → Fixed Open
 leaky_failed_note n =
-    choice (n == 0) none (words (codes " (") ⧺ number Count n ⧺ words (codes " due to being ") ⧺ toned Skip (codes "leaky") ⧺ words (codes ")"))
+    choice (n == 0) none
+    (words (codes " (") ⧺ number Count n ⧺ words (codes " due to being ") ⧺ toned Skip (codes "leaky") ⧺ words
+    (codes ")"))
 
 -- the tests that failed, if any
 unfoldable pub failed_count : RunStats → Fixed Open
 failed_count x =
-    choice (x.failed == 0) none (counted_text x.failed (toned Fail (codes "failed")) ⧺ leaky_failed_note x.leaky_failed ⧺ words (codes ", "))
+    choice (x.failed == 0) none
+    (counted_text x.failed (toned Fail (codes "failed")) ⧺ leaky_failed_note x.leaky_failed ⧺ words (codes ", "))
 
 -- the tests that did not succeed in another way, if any
 abbrev pub other_failed_count : ℕ → Fixed Open → Fixed Open

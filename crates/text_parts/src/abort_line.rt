@@ -1,6 +1,7 @@
 //! The line after the line of a test whose process was aborted, on Windows.
 
-ghost use Rattle.text_parts.specs.Names.{nt_status_text, nt_line, nt_message, line_of_abort, line_of_failure, abort_line};
+ghost use Rattle.text_parts.specs.Names.{nt_status_text, nt_line, nt_message, line_of_abort, line_of_failure};
+ghost use Rattle.text_parts.specs.Names.{abort_line};
 ghost use Rattle.{styled_text.specs.Names.styled, styled_text.specs.Names.Puts, report_words.specs.Parts.paint};
 
 use report_text::helpers::write_nt_status;

@@ -2,7 +2,9 @@
 
 ghost use Rattle.std.specs.Prelude.{◌≡◌, true};
 ghost use Rattle.{run_model.specs.Outputs.has_loaded_output, writers.specs.Writer.Puts, report_words.specs.Parts.paint};
-ghost use Rattle.text_parts.specs.Names.{layout_of, attempt_output, exec_fail_header, finished_layout, has_info_after_failure, has_info_line, info_line_start, layout_in, output_margin, result_style, script_output, stream_header, unit_output};
+ghost use Rattle.text_parts.specs.Names.{layout_of, attempt_output, exec_fail_header, finished_layout};
+ghost use Rattle.text_parts.specs.Names.{has_info_after_failure, has_info_line, info_line_start, layout_in};
+ghost use Rattle.text_parts.specs.Names.{output_margin, result_style, script_output, stream_header, unit_output};
 
 use crate::info_result::InfoResult;
 use crate::settings::Settings;
@@ -38,7 +40,8 @@ pub fn write_test_execute_status<W: WriteStr>(
     output: &ChildExecutionOutputDescription<LiveSpec>,
 ) -> Result<(), WriteFault>
     requires { has_loaded_output output.now ≡ true }
-    ensures { Puts W.meaning w.old (paint settings.now.styles (attempt_output settings.now is_retry outcome.now output.now)) result w.new }
+    ensures { Puts W.meaning w.old
+        (paint settings.now.styles (attempt_output settings.now is_retry outcome.now output.now)) result w.new }
 {
     let kind = UnitKind::Test;
     write_unit_execute_status(w, settings, kind, is_retry, outcome, output)
@@ -57,7 +60,8 @@ pub fn write_setup_script_execute_status<W: WriteStr>(
     output: &ChildExecutionOutputDescription<LiveSpec>,
 ) -> Result<(), WriteFault>
     requires { has_loaded_output output.now ≡ true }
-    ensures { Puts W.meaning w.old (paint settings.now.styles (script_output settings.now outcome.now output.now)) result w.new }
+    ensures { Puts W.meaning w.old (paint settings.now.styles (script_output settings.now outcome.now output.now))
+        result w.new }
 {
     let kind = UnitKind::Script;
     write_unit_execute_status(w, settings, kind, false, outcome, output)
@@ -74,7 +78,8 @@ fn write_unit_execute_status<W: WriteStr>(
     output: &ChildExecutionOutputDescription<LiveSpec>,
 ) -> Result<(), WriteFault>
     requires { has_loaded_output output.now ≡ true }
-    ensures { Puts W.meaning w.old (paint settings.now.styles (unit_output settings.now kind is_retry outcome.now output.now)) result w.new }
+    ensures { Puts W.meaning w.old
+        (paint settings.now.styles (unit_output settings.now kind is_retry outcome.now output.now)) result w.new }
 {
     let spec = output_spec_for_finished(settings, kind, outcome, is_retry);
     settings

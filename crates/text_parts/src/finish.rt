@@ -2,7 +2,9 @@
 
 ghost use Rattle.std.specs.Prelude.{◌≡◌, true};
 ghost use Rattle.run_model.specs.Names.{reason_rank, described_summary};
-ghost use Rattle.text_parts.specs.Finish.{display_of, output_timing, is_ever_shown, is_final_wanted, is_line_shown, is_terminated, is_terminated_abort, is_terminated_failure, timed_at_end, timed_at_once, timed_listed};
+ghost use Rattle.text_parts.specs.Finish.{display_of, output_timing, is_ever_shown, is_final_wanted, is_line_shown};
+ghost use Rattle.text_parts.specs.Finish.{is_terminated, is_terminated_abort, is_terminated_failure, timed_at_end};
+ghost use Rattle.text_parts.specs.Finish.{timed_at_once, timed_listed};
 
 use crate::settings::Settings;
 use run_model::abort::AbortDescription;

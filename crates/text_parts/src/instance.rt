@@ -56,7 +56,8 @@ pub fn write_instance<W: WriteStr>(
     styles: &Styles,
     test: &CountedInstance<'_>,
 ) -> Result<(), WriteFault>
-    ensures { Puts W.meaning w.old (instance_text styles.now.list_styles test.now.stress_index test.now.counter test.now.instance) result w.new }
+    ensures { Puts W.meaning w.old
+        (instance_text styles.now.list_styles test.now.stress_index test.now.counter test.now.instance) result w.new }
 {
     write_test_instance(
         w,

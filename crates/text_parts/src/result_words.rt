@@ -1,7 +1,9 @@
 //! The words of results in the lines of tests.
 
 ghost use Rattle.std.specs.Prelude.{◌≡◌, ◌++◌, codes};
-ghost use Rattle.text_parts.specs.ResultWords.{long_word, long_failure_word, long_abort_word, short_word, short_failure_word, short_abort_word, shown_word, success_word, is_plain_success};
+ghost use Rattle.text_parts.specs.ResultWords.{long_word, long_failure_word, long_abort_word, short_word};
+ghost use Rattle.text_parts.specs.ResultWords.{short_failure_word, short_abort_word, shown_word, success_word};
+ghost use Rattle.text_parts.specs.ResultWords.{is_plain_success};
 
 use itoa::Buffer;
 use run_model::abort::AbortDescription;

@@ -1,6 +1,7 @@
 //! The setup script that a line is about.
 
-ghost use Rattle.{report_words.specs.Parts.paint, text_parts.specs.Script.script_of, text_parts.specs.Script.shown_script};
+ghost use Rattle.{report_words.specs.Parts.paint, text_parts.specs.Script.script_of};
+ghost use Rattle.{text_parts.specs.Script.shown_script};
 
 use report_text::helpers::write_script_instance;
 use run_model::command::CommandLine;

@@ -2,7 +2,8 @@
 
 ghost use Rattle.std.specs.Prelude.{◌≡◌};
 ghost use Rattle.styled_text.specs.Style.{styles_of};
-ghost use Rattle.text_parts.specs.Settings.{counter_width_of, finished_counter, is_level_shown, overrides_by, padded_counter, shows_starts, started_counter, theme_of};
+ghost use Rattle.text_parts.specs.Settings.{counter_width_of, finished_counter, is_level_shown, overrides_by};
+ghost use Rattle.text_parts.specs.Settings.{padded_counter, shows_starts, started_counter, theme_of};
 
 use report_text::helpers::{DisplayCounterIndex, ThemeCharacters, decimal_char_width};
 use run_model::config::{CompiledDefaultFilter, NextestRunMode, TestOutputDisplay};

@@ -2,7 +2,8 @@
 
 ghost use Rattle.std.specs.Prelude.{◌≡◌, ◌==◌, ◌++◌, [], if◌then◌else◌};
 ghost use Rattle.{styled_text.specs.Style.styled, report_words.specs.Parts.paint, report_words.specs.Parts.style_of};
-ghost use Rattle.text_parts.specs.StatsText.{counted_front, failed_count, failed_counts, failure_tone, passed_front, passed_notes, progress_message, summary_text};
+ghost use Rattle.text_parts.specs.StatsText.{counted_front, failed_count, failed_counts, failure_tone, passed_front};
+ghost use Rattle.text_parts.specs.StatsText.{passed_notes, progress_message, summary_text};
 
 use run_model::stats::RunStats;
 use styled_text::style::{Style, Styles};

@@ -1,7 +1,9 @@
 -- The progress display and the levels of a report.
 use Rattle.std.specs.Prelude.{Bool, true, false, not, ◌&&◌, Some, unwrap_or, nat_lt, if◌then◌else◌}
 use Rattle.run_model.specs.Names.{status_rank, StatusLevel, FinalStatusLevel}
-use Rattle.unit_report.specs.declared.config.{ShowProgress.ShowProgress, ProgressDisplay.ProgressDisplay, StatusLevels.StatusLevels, ResolvedDisplay.ResolvedDisplay, DisplayConfig.DisplayConfig}
+use Rattle.unit_report.specs.declared.config.{ShowProgress.ShowProgress, ProgressDisplay.ProgressDisplay}
+use Rattle.unit_report.specs.declared.config.{StatusLevels.StatusLevels, ResolvedDisplay.ResolvedDisplay}
+use Rattle.unit_report.specs.declared.config.{DisplayConfig.DisplayConfig}
 use Rattle.run_names.specs.declared.level.StatusLevel.TheVariants as status
 use Rattle.run_names.specs.declared.level.FinalStatusLevel.TheVariants as final
 use Rattle.unit_report.specs.declared.config.ShowProgress.TheVariants as asked
@@ -40,12 +42,14 @@ suppresses asked.None can_bar = false
 
 -- without capture the level is at least Pass
 abbrev pub raised : Bool → StatusLevel → StatusLevel
-raised no_capture level = if no_capture && nat_lt (status_rank level) (status_rank status.Pass) then status.Pass else level
+raised no_capture level = if no_capture && nat_lt (status_rank level) (status_rank status.Pass) then status.Pass else
+    level
 
 -- the levels: those asked for, else Slow and None if successes are suppressed, else the profile's
 abbrev pub resolved_levels : DisplayConfig → Bool → StatusLevels
 resolved_levels c suppressed = record {
-  status_level = raised c.no_capture (unwrap_or c.status_level (if suppressed then status.Slow else c.profile_status_level));
+  status_level = raised c.no_capture
+      (unwrap_or c.status_level (if suppressed then status.Slow else c.profile_status_level));
   final_status_level = unwrap_or c.final_status_level (if suppressed then final.None else c.profile_final_status_level);
 }
 

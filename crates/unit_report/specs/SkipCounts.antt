@@ -1,9 +1,14 @@
 -- How many tests and binaries a run skips, and why.
 use Rattle.std.specs.Prelude.{ℕ, ◌-◌, Bool, false, ◌++◌, ◌&&◌, ◌||◌, ◌==◌, codes}
-use Rattle.run_model.specs.{Names.NextestRunMode, Names.CompiledDefaultFilter, Names.CompiledDefaultFilterSection, declared.event.SkipCounts.SkipCounts}
-use Rattle.run_names.specs.declared.config.{NextestRunMode.TheVariants.Test, NextestRunMode.TheVariants.Benchmark, CompiledDefaultFilterSection.TheVariants.Profile, CompiledDefaultFilterSection.TheVariants.Override}
-use Rattle.report_words.specs.Names.{tests_word, binaries_word, Parts, Fixed, Open, Count, Skip, none, words, Word, toned, number, given_toned, ◌⧺◌, choice}
-use Rattle.{report_words.proofs.lemmas.FreeWords.free-tests_word_if, report_words.proofs.lemmas.FreeWords.free-binaries_word, styled_text.specs.Texts.Text}
+use Rattle.run_model.specs.{Names.NextestRunMode, Names.CompiledDefaultFilter, Names.CompiledDefaultFilterSection}
+use Rattle.run_model.specs.{declared.event.SkipCounts.SkipCounts}
+use Rattle.run_names.specs.declared.config.{NextestRunMode.TheVariants.Test, NextestRunMode.TheVariants.Benchmark}
+use Rattle.run_names.specs.declared.config.{CompiledDefaultFilterSection.TheVariants.Profile}
+use Rattle.run_names.specs.declared.config.{CompiledDefaultFilterSection.TheVariants.Override}
+use Rattle.report_words.specs.Names.{tests_word, binaries_word, Parts, Fixed, Open, Count, Skip, none, words, Word}
+use Rattle.report_words.specs.Names.{toned, number, given_toned, ◌⧺◌, choice}
+use Rattle.{report_words.proofs.lemmas.FreeWords.free-tests_word_if}
+use Rattle.{report_words.proofs.lemmas.FreeWords.free-binaries_word, styled_text.specs.Texts.Text}
 
 -- the tests that are skipped, in benchmark mode without those that are no benchmarks
 abbrev pub skipped_tests_in : NextestRunMode → SkipCounts → ℕ
@@ -12,11 +17,13 @@ skipped_tests_in Benchmark c = c.skipped_tests - c.skipped_tests_non_benchmark
 
 -- n tests, unless there are none
 unfoldable pub tests_text : NextestRunMode → ℕ → Fixed Open
-tests_text mode n = choice (n == 0) none (number Count n ⧺ words (codes " ") ⧺ Word (tests_word mode n) (free-tests_word_if mode _))
+tests_text mode n = choice (n == 0) none
+    (number Count n ⧺ words (codes " ") ⧺ Word (tests_word mode n) (free-tests_word_if mode _))
 
 -- n binaries, unless there are none
 unfoldable pub binaries_text : ℕ → Fixed Open
-binaries_text n = choice (n == 0) none (number Count n ⧺ words (codes " ") ⧺ Word (binaries_word n) (free-binaries_word n))
+binaries_text n = choice (n == 0) none
+    (number Count n ⧺ words (codes " ") ⧺ Word (binaries_word n) (free-binaries_word n))
 
 -- the words between two numbers, if neither is 0
 abbrev pub between : Fixed Open → Bool → Bool → Fixed Open
@@ -29,7 +36,8 @@ tests_and_binaries mode tests binaries =
 
 -- the name of the overrides' default filter
 unfoldable pub override_name : Text → Parts false Open
-override_name profile = toned Count (codes "default-filter") ⧺ words (codes " in ") ⧺ given_toned Count (codes "profile." ++ (profile ++ codes ".overrides"))
+override_name profile = toned Count (codes "default-filter") ⧺ words (codes " in ") ⧺ given_toned Count
+    (codes "profile." ++ (profile ++ codes ".overrides"))
 
 -- the name of a default filter
 abbrev pub filter_name : Text → CompiledDefaultFilterSection → Parts false Open
@@ -50,7 +58,8 @@ has_no_filtered c = (c.skipped_tests_default_filter == 0) && (c.skipped_binaries
 -- what the default filter leaves out, unless it leaves out nothing
 unfoldable pub filtered_text : NextestRunMode → SkipCounts → CompiledDefaultFilter → Parts false Open
 filtered_text mode c f =
-    choice (has_no_filtered c) none (tests_and_binaries mode c.skipped_tests_default_filter c.skipped_binaries_default_filter ⧺ via_filter f)
+    choice (has_no_filtered c) none
+    (tests_and_binaries mode c.skipped_tests_default_filter c.skipped_binaries_default_filter ⧺ via_filter f)
 
 -- of the skipped tests, those that passed before and those that the default filter leaves out
 unfoldable pub included_text : NextestRunMode → SkipCounts → CompiledDefaultFilter → Parts false Open
@@ -65,7 +74,8 @@ included_text mode c f =
 unfoldable pub skip_reason : NextestRunMode → ℕ → SkipCounts → CompiledDefaultFilter → Parts false Open
 skip_reason mode tests c f =
     choice ((tests == c.skipped_tests_rerun) && (c.skipped_binaries == 0)) (words (codes " that already passed"))
-    (choice ((tests == c.skipped_tests_default_filter) && (c.skipped_binaries == c.skipped_binaries_default_filter)) (via_filter f)
+    (choice ((tests == c.skipped_tests_default_filter) && (c.skipped_binaries == c.skipped_binaries_default_filter))
+    (via_filter f)
     (included_text mode c f))
 
 -- the note in parentheses, unless nothing is skipped

@@ -1,6 +1,7 @@
 -- The words for units.
 use Rattle.report_words.specs.Parts.{Fixed, Open, Verbatim}
-use Rattle.{std.specs.Prelude.codes, std.specs.Prelude.refl, run_model.specs.Names.NextestRunMode, run_model.specs.Names.UnitKind, styled_text.specs.Names.HasNoEscape, styled_text.specs.Names.Text}
+use Rattle.{std.specs.Prelude.codes, std.specs.Prelude.refl, run_model.specs.Names.NextestRunMode}
+use Rattle.{run_model.specs.Names.UnitKind, styled_text.specs.Names.HasNoEscape, styled_text.specs.Names.Text}
 use Rattle.run_names.specs.declared.config.NextestRunMode.TheVariants as mode
 use Rattle.run_names.specs.declared.unit.UnitKind.TheVariants as kind
 

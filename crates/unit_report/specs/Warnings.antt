@@ -1,10 +1,13 @@
 -- Warnings of tests that a run left out.
 use Rattle.std.specs.Prelude.{ℕ, not, ◌&&◌, ◌==◌, Option, None, Some, codes}
 use Rattle.run_model.specs.Names.{reason_words, NextestRunMode, CancelReason}
-use Rattle.run_model.specs.{declared.stats.RunStatsFailureKind.RunStatsFailureKind, declared.stats.RunStatsFailureKind.TheVariants.SetupScript, declared.stats.RunStatsFailureKind.TheVariants.Test}
+use Rattle.run_model.specs.{declared.stats.RunStatsFailureKind.RunStatsFailureKind}
+use Rattle.run_model.specs.{declared.stats.RunStatsFailureKind.TheVariants.SetupScript}
+use Rattle.run_model.specs.{declared.stats.RunStatsFailureKind.TheVariants.Test}
 use Rattle.run_model.specs.declared.stats.FinalRunStats.TheVariants.{Success, NoTestsRun, Cancelled, Failed}
 use Rattle.run_model.specs.declared.stats.FinalRunStats.{FinalRunStats}
-use Rattle.report_words.specs.Names.{tests_word_if, were_word, Fixed, Open, Lines, Count, Skip, none, words, Word, toned, Toned, number, ◌⧺◌, choice, openly}
+use Rattle.report_words.specs.Names.{tests_word_if, were_word, Fixed, Open, Lines, Count, Skip, none, words, Word}
+use Rattle.report_words.specs.Names.{toned, Toned, number, ◌⧺◌, choice, openly}
 use Rattle.report_words.proofs.lemmas.FreeWords.{free-tests_word_if, free-were_word, free-reason_words}
 use Rattle.run_names.specs.declared.level.CancelReason.TheVariants as reason
 

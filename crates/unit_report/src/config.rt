@@ -1,7 +1,8 @@
 //! The progress display and the levels of a report: what a user and a profile ask for, and what the report gets.
 
 ghost use Rattle.std.specs.Prelude.{◌≡◌, ◌≤◌, true, false};
-ghost use Rattle.unit_report.specs.Levels.{progress_display_of, suppresses, raised, resolved_levels, resolved_display, overridden};
+ghost use Rattle.unit_report.specs.Levels.{progress_display_of, suppresses, raised, resolved_levels, resolved_display};
+ghost use Rattle.unit_report.specs.Levels.{overridden};
 ghost use Rattle.run_names.specs.Levels.{status_rank};
 
 use run_model::level::{FinalStatusLevel, StatusLevel};
@@ -98,7 +99,8 @@ impl DisplayConfig {
     /// Without capture the status level is at least Pass: the tests' own output then comes between the lines.
     ///
     /// ```
-    /// let config = DisplayConfig::with_overrides(ShowProgress::Running, true, StatusLevel::Fail, FinalStatusLevel::Fail);
+    /// let (level, final_level) = (StatusLevel::Fail, FinalStatusLevel::Fail);
+    /// let config = DisplayConfig::with_overrides(ShowProgress::Running, true, level, final_level);
     /// let resolved = config.resolve(true, false);
     /// assert_eq!(resolved.progress_display, ProgressDisplay::None);
     /// assert_eq!(resolved.status_levels.status_level, StatusLevel::Pass);
@@ -106,8 +108,10 @@ impl DisplayConfig {
     #[tactic(auto, unfolding(crate::specs::Levels::resolved_display))]
     pub fn resolve(&self, is_terminal: bool, is_ci: bool) -> ResolvedDisplay
         ensures table { result ≡ resolved_display self.now is_terminal is_ci }
-        ensures bar { result.progress_display ≡ ProgressDisplay.Bar → (self.now.no_capture ≡ false) × (is_terminal ≡ true) × (is_ci ≡ false) }
-        ensures no_capture { self.now.no_capture ≡ true → status_rank StatusLevel.Pass ≤ status_rank result.status_levels.status_level }
+        ensures bar { result.progress_display ≡ ProgressDisplay.Bar
+            → (self.now.no_capture ≡ false) × (is_terminal ≡ true) × (is_ci ≡ false) }
+        ensures no_capture { self.now.no_capture ≡ true
+            → status_rank StatusLevel.Pass ≤ status_rank result.status_levels.status_level }
     {
         let can_bar = !self.no_capture && (is_terminal && !is_ci);
         ResolvedDisplay {

@@ -2,10 +2,14 @@
 use Rattle.std.proofs.Common.{sym, ap, ◌∙◌, subst, append_assoc, ◌∷◌, ◌≡◌, ℕ, List, [], ◌++◌, None, refl}
 use Rattle.std.specs.{Fmt.HasWritten, Fmt.IsPlainFormatter, declared.fmt.Formatter.Formatter, List.FoldsTo, List.concat}
 use Rattle.writers.specs.Writer.{Meaning, WriterLaws, successor}
-use Rattle.writers.specs.{declared.write_str.WriteFault.WriteFault, declared.write_str.on_formatter.OnFormatter.OnFormatter, declared.write_str.WriteFault.TheVariants.Memory, declared.write_str.WriteFault.TheVariants.Device}
+use Rattle.writers.specs.{declared.write_str.WriteFault.WriteFault}
+use Rattle.writers.specs.{declared.write_str.on_formatter.OnFormatter.OnFormatter}
+use Rattle.writers.specs.{declared.write_str.WriteFault.TheVariants.Memory}
+use Rattle.writers.specs.{declared.write_str.WriteFault.TheVariants.Device}
 
 -- the steps of two lists, in sequence, are those of the joined list
-pub folds_append : {W : Type 0} (took : W → List ℕ → W → Type 0) (s t u : W) (xs ys : List (List ℕ)) → FoldsTo took s xs t → FoldsTo took t ys u → FoldsTo took s (xs ++ ys) u
+pub folds_append : {W : Type 0} (took : W → List ℕ → W → Type 0) (s t u : W) (xs ys : List (List ℕ))
+    → FoldsTo took s xs t → FoldsTo took t ys u → FoldsTo took s (xs ++ ys) u
 folds_append took s t u [] ys p q = subst (λ x. FoldsTo took x ys u) (sym p) q
 folds_append took s t u (x ∷ xs) ys p q = (p.0, p.1, folds_append took p.0 t u xs ys p.2 q)
 
@@ -14,7 +18,8 @@ concat_append [] ys = refl
 concat_append (x ∷ xs) ys = ap (λ l. x ++ l) (concat_append xs ys) ∙ sym (append_assoc x (concat xs) (concat ys))
 
 -- two writes in a row
-pub written_twice : {W : Type 0} (took : W → List ℕ → W → Type 0) (f g h : Formatter W) (t u : List ℕ) → HasWritten took f t g → HasWritten took g u h → HasWritten took f (t ++ u) h
+pub written_twice : {W : Type 0} (took : W → List ℕ → W → Type 0) (f g h : Formatter W) (t u : List ℕ)
+    → HasWritten took f t g → HasWritten took g u h → HasWritten took f (t ++ u) h
 written_twice took f g h t u p q = record {
   wrote = record {
     parts = p.wrote.parts ++ q.wrote.parts;
@@ -58,7 +63,11 @@ formatter_laws took = record {
     same = q.same ∙ p.same;
     kept = q.kept ∙ p.kept;
   };
-  goes_on = λ a b c t u e p q. record { same = q.same ∙ p.same; count = q.count ∙ ap successor p.kept; device = q.device };
+  goes_on = λ a b c t u e p q. record {
+    same = q.same ∙ p.same;
+    count = q.count ∙ ap successor p.kept;
+    device = q.device;
+  };
   stops_within = λ a b t u e p. record { same = p.same; count = p.count; device = p.device };
   grows = λ a b t p. tt;
   grows_within = λ a b t e p. record { front = []; rest = t; whole = refl; grown = tt };

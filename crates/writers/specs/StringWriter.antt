@@ -1,6 +1,10 @@
 -- What a `String` accepts.
-use Rattle.std.proofs.Common.{sym, ap, ◌∙◌, append_assoc, append-nil, ◌≡◌, ℕ, List, ◌++◌, Some, String, string_bytes, refl}
-use Rattle.{std.specs.declared.alloc.Global.Global, writers.specs.Writer.Meaning, writers.specs.Writer.WriterLaws, writers.specs.declared.write_str.WriteFault.WriteFault, writers.specs.declared.write_str.WriteFault.TheVariants.Memory, writers.specs.declared.write_str.WriteFault.TheVariants.Device}
+use Rattle.std.proofs.Common.{sym, ap, ◌∙◌, append_assoc, append-nil, ◌≡◌, ℕ, List, ◌++◌, Some, String, string_bytes}
+use Rattle.std.proofs.Common.{refl}
+use Rattle.{std.specs.declared.alloc.Global.Global, writers.specs.Writer.Meaning, writers.specs.Writer.WriterLaws}
+use Rattle.{writers.specs.declared.write_str.WriteFault.WriteFault}
+use Rattle.{writers.specs.declared.write_str.WriteFault.TheVariants.Memory}
+use Rattle.{writers.specs.declared.write_str.WriteFault.TheVariants.Device}
 
 -- the string grows by the text
 pub record StringAccepts (a : String Global) (t : List ℕ) (b : String Global) : Type 0 where

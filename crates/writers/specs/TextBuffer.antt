@@ -1,8 +1,12 @@
 -- What a `TextBuffer` accepts.
 use Rattle.std.proofs.Common.{sym, ap, ◌∙◌, append_assoc, ◌≡◌, ℕ, List, [], ◌++◌, Option, refl}
-use Rattle.std.{specs.Io.KnownBytes.Appends, specs.Io.KnownBytes.append_known, proofs.KnownBytes.Appends-nil, proofs.KnownBytes.Appends-trans}
+use Rattle.std.{specs.Io.KnownBytes.Appends, specs.Io.KnownBytes.append_known, proofs.KnownBytes.Appends-nil}
+use Rattle.std.{proofs.KnownBytes.Appends-trans}
 use Rattle.writers.specs.Writer.{Meaning, WriterLaws, AppendsFront, successor}
-use Rattle.writers.specs.{declared.write_str.WriteFault.WriteFault, declared.write_str.text_buffer.TextBuffer.TextBuffer, declared.write_str.WriteFault.TheVariants.Memory, declared.write_str.WriteFault.TheVariants.Device}
+use Rattle.writers.specs.{declared.write_str.WriteFault.WriteFault}
+use Rattle.writers.specs.{declared.write_str.text_buffer.TextBuffer.TextBuffer}
+use Rattle.writers.specs.{declared.write_str.WriteFault.TheVariants.Memory}
+use Rattle.writers.specs.{declared.write_str.WriteFault.TheVariants.Device}
 
 -- bytes grew by a prefix of the text
 pub record GrowsWithin (old new text : List ℕ) : Type 0 where
@@ -64,8 +68,16 @@ module _ {W : Type 0} (contents : W → Option (List ℕ)) where
 
 pub buffer_laws : {W : Type 0} (contents : W → Option (List ℕ)) → WriterLaws (buffer_meaning contents)
 buffer_laws contents = record {
-  nothing = λ a. record { grown = Appends-nil (buffer_text contents a); holds = Holds-all (contents a.writer); kept = refl };
-  joins = λ a b c t u p q. record { grown = Appends-trans _ _ _ t u p.grown q.grown; holds = Holds-trans _ _ _ p.holds q.holds; kept = q.kept ∙ p.kept };
+  nothing = λ a. record {
+    grown = Appends-nil (buffer_text contents a);
+    holds = Holds-all (contents a.writer);
+    kept = refl;
+  };
+  joins = λ a b c t u p q. record {
+    grown = Appends-trans _ _ _ t u p.grown q.grown;
+    holds = Holds-trans _ _ _ p.holds q.holds;
+    kept = q.kept ∙ p.kept;
+  };
   goes_on = λ a b c t u e p q. record {
     grown = record {
       front = t ++ q.grown.front;

@@ -51,8 +51,10 @@ pub record WriterLaws {S : Type 0} (m : Meaning S) : Type 0 where
   pub stops_within : (a b : S) (t u : List ℕ) (e : WriteFault) → m.stops a t e b → m.stops a (t ++ u) e b
   -- the accepted text grows by what is added, and at a fault by a prefix of it
   pub grows : (a b : S) (t : List ℕ) → m.accepts a t b → Appends (m.text a) (m.text b) (m.adds a t)
-  pub grows_within : (a b : S) (t : List ℕ) (e : WriteFault) → m.stops a t e b → AppendsFront (m.text a) (m.text b) (m.adds a t)
+  pub grows_within : (a b : S) (t : List ℕ) (e : WriteFault) → m.stops a t e b
+      → AppendsFront (m.text a) (m.text b) (m.adds a t)
   -- a device failed if `Device` is returned, and memory can be refused if `Memory` is
-  pub kept : (a b : S) (t : List ℕ) → m.accepts a t b → (m.failures b ≡ m.failures a) × (m.may_refuse b → m.may_refuse a)
+  pub kept : (a b : S) (t : List ℕ) → m.accepts a t b
+      → (m.failures b ≡ m.failures a) × (m.may_refuse b → m.may_refuse a)
   pub device : (a b : S) (t : List ℕ) → m.stops a t Device b → m.failures b ≡ successor (m.failures a)
   pub memory : (a b : S) (t : List ℕ) → m.stops a t Memory b → m.may_refuse a

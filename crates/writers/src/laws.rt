@@ -12,7 +12,8 @@
 
 ghost use Rattle.std.specs.Prelude.{◌≡◌, ℕ, [], List, Some};
 ghost use Rattle.writers.specs.TextBuffer.{buffer_meaning, Delivers, DeliversWithin, GrowsWithin};
-ghost use Rattle.writers.specs.{declared.write_str.WriteFault.WriteFault, declared.write_str.text_buffer.TextBuffer.TextBuffer};
+ghost use Rattle.writers.specs.{declared.write_str.WriteFault.WriteFault};
+ghost use Rattle.writers.specs.{declared.write_str.text_buffer.TextBuffer.TextBuffer};
 
 use std::io::Write;
 
@@ -23,10 +24,13 @@ use std::io::Write;
 /// device took a prefix of the text.
 #[tactic(auto, using(crate::proofs::lemmas::Deliveries::accepted_delivers))]
 pub fn delivery_law<W: Write>()
-    ensures accepted { (a b : TextBuffer W) (old new text : List ℕ) → W.contents a.writer ≡ Some old → W.contents b.writer ≡ Some new →
-        (buffer_meaning W.contents).accepts a text b → Delivers old a.pending new b.pending text }
-    ensures stopped { (a b : TextBuffer W) (old new text : List ℕ) (fault : WriteFault) → W.contents a.writer ≡ Some old → W.contents b.writer ≡ Some new →
-        (buffer_meaning W.contents).stops a text fault b → DeliversWithin old a.pending new b.pending text }
-    ensures begins { (a b : TextBuffer W) (old new text : List ℕ) (fault : WriteFault) → W.contents a.writer ≡ Some old → W.contents b.writer ≡ Some new →
-        a.pending ≡ [] → (buffer_meaning W.contents).stops a text fault b → GrowsWithin old new text }
+    ensures accepted { (a b : TextBuffer W) (old new text : List ℕ) → W.contents a.writer ≡ Some old
+        → W.contents b.writer ≡ Some new → (buffer_meaning W.contents).accepts a text b
+        → Delivers old a.pending new b.pending text }
+    ensures stopped { (a b : TextBuffer W) (old new text : List ℕ) (fault : WriteFault)
+        → W.contents a.writer ≡ Some old → W.contents b.writer ≡ Some new
+        → (buffer_meaning W.contents).stops a text fault b → DeliversWithin old a.pending new b.pending text }
+    ensures begins { (a b : TextBuffer W) (old new text : List ℕ) (fault : WriteFault)
+        → W.contents a.writer ≡ Some old → W.contents b.writer ≡ Some new → a.pending ≡ []
+        → (buffer_meaning W.contents).stops a text fault b → GrowsWithin old new text }
 {}

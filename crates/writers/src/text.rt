@@ -1,7 +1,8 @@
 //! Texts as values. Parts in sequence are a tuple.
 
 ghost use Rattle.std.specs.Prelude.{◌≡◌, ◌++◌, [], List, ℕ, if◌then◌else◌};
-ghost use Rattle.{std.specs.Option.option_map_or, std.specs.Fmt.decimal, writers.specs.Texts.plain, writers.specs.Writer.Puts};
+ghost use Rattle.{std.specs.Option.option_map_or, std.specs.Fmt.decimal, writers.specs.Texts.plain};
+ghost use Rattle.{writers.specs.Writer.Puts};
 
 use crate::write_str::{WriteFault, WriteStr};
 use itoa::Buffer;

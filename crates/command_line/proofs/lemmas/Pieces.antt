@@ -1,11 +1,17 @@
 -- A text that is read in pieces of whole lines (for `next_piece`, `take_at_hand`).
-use Rattle.std.proofs.Common.{◌≡◌, ℕ, zero, suc, ◌+◌, ◌<◌, Bool, true, false, List, [], ◌∷◌, ◌++◌, Option, None, Some, length, get_or, take, drop, refl, sym, ap, ◌∙◌, subst, arith, append_assoc, inl, inr, not, ◌==◌, if◌then◌else◌}
+use Rattle.std.proofs.Common.{◌≡◌, ℕ, zero, suc, ◌+◌, ◌<◌, Bool, true, false, List, [], ◌∷◌, ◌++◌, Option, None, Some}
+use Rattle.std.proofs.Common.{length, get_or, take, drop, refl, sym, ap, ◌∙◌, subst, arith, append_assoc, inl, inr, not}
+use Rattle.std.proofs.Common.{◌==◌, if◌then◌else◌}
 use native.Mathlib.Numerals.{unary_clauses}
-use Rattle.{std.specs.Io.KnownBytes.Keeps, std.specs.Io.KnownBytes.prepend_known, std.proofs.lemmas.Bool.Decides.nat_tests, memchr.specs.Find.IsLastByte, memchr.specs.Find.is_byte, command_line.specs.Pieces.IsBehind, command_line.specs.Pieces.IsNextPiece}
+use Rattle.{std.specs.Io.KnownBytes.Keeps, std.specs.Io.KnownBytes.prepend_known}
+use Rattle.{std.proofs.lemmas.Bool.Decides.nat_tests, memchr.specs.Find.IsLastByte, memchr.specs.Find.is_byte}
+use Rattle.{command_line.specs.Pieces.IsBehind, command_line.specs.Pieces.IsNextPiece}
 use Rattle.command_line.specs.declared.pieces.Chunk.TheVariants as taken
 
 -- what a reader has buffered is a prefix of what is left, if that is known
-pub at_hand_first : (shows_nothing : Bool) (at_hand : List ℕ) (inner : Option (List ℕ)) (text : List ℕ) → (if shows_nothing then None else prepend_known at_hand inner) ≡ Some text → (left : List ℕ) × (at_hand ++ left ≡ text)
+pub at_hand_first : (shows_nothing : Bool) (at_hand : List ℕ) (inner : Option (List ℕ)) (text : List ℕ)
+    → (if shows_nothing then None else prepend_known at_hand inner) ≡ Some text
+    → (left : List ℕ) × (at_hand ++ left ≡ text)
 at_hand_first true at_hand inner text known = absurd (grind (arith, known))
 at_hand_first false at_hand None text known = absurd (grind (arith, known))
 at_hand_first false at_hand (Some left) text known = (left, grind (arith, known))
@@ -17,7 +23,8 @@ kept_known (Some xs) None text known keeps = absurd keeps
 kept_known (Some xs) (Some ys) text known keeps = ap Some keeps ∙ known
 
 -- a text that has a line feed here
-feed_here : (front left : List ℕ) (k : ℕ) → k < length front → get_or front k 0 ≡ 10 → front ++ left ≡ take k front ++ 10 ∷ drop (k + 1) (front ++ left)
+feed_here : (front left : List ℕ) (k : ℕ) → k < length front → get_or front k 0 ≡ 10
+    → front ++ left ≡ take k front ++ 10 ∷ drop (k + 1) (front ++ left)
 feed_here [] left k within feed = absurd (omega (arith, within))
 feed_here (c ∷ t) left zero within feed = ap (λ b. b ∷ t ++ left) feed
 feed_here (c ∷ t) left (suc k) within feed =
@@ -25,10 +32,12 @@ feed_here (c ∷ t) left (suc k) within feed =
     simp unary_clauses (ap (λ u. c ∷ u) (simp unary_clauses at later))
 
 -- the lines that end in the last line feed of the buffer
-pub lines_taken : (k : ℕ) (old at_hand text : List ℕ) → (left : List ℕ) × (at_hand ++ left ≡ text) → IsLastByte (is_byte 10) at_hand (Some k) → old ++ text ≡ (old ++ take k at_hand) ++ 10 ∷ drop (k + 1) text
+pub lines_taken : (k : ℕ) (old at_hand text : List ℕ) → (left : List ℕ) × (at_hand ++ left ≡ text)
+    → IsLastByte (is_byte 10) at_hand (Some k) → old ++ text ≡ (old ++ take k at_hand) ++ 10 ∷ drop (k + 1) text
 lines_taken k old at_hand text left last =
     let feed : get_or at_hand k 0 ≡ 10 = grind (arith, nat_tests, last.1) in
-    let here = subst (λ t. t ≡ take k at_hand ++ 10 ∷ drop (k + 1) t) left.1 (feed_here at_hand left.0 k last.0.high feed) in
+    let here = subst (λ t. t ≡ take k at_hand ++ 10 ∷ drop (k + 1) t) left.1
+    (feed_here at_hand left.0 k last.0.high feed) in
     ap (λ u. old ++ u) here ∙ sym (append_assoc old (take k at_hand) (10 ∷ drop (k + 1) text))
 
 -- lines, or part of a line, were taken from what was left of the text
@@ -36,11 +45,13 @@ module _ (text old left at_hand new : List ℕ) (rest : Option (List ℕ)) (so_f
   pub lines_behind : IsBehind taken.Lines at_hand left old new rest → IsNextPiece text true new rest
   lines_behind taken = (taken.0, taken.1, inl (so_far ∙ taken.2))
 
-  pub part_behind : IsBehind taken.Part at_hand left old new rest → (more : List ℕ) × (rest ≡ Some more) × (text ≡ new ++ more)
+  pub part_behind : IsBehind taken.Part at_hand left old new rest
+      → (more : List ℕ) × (rest ≡ Some more) × (text ≡ new ++ more)
   part_behind taken = (taken.0, taken.1, so_far ∙ taken.2)
 
 -- at the end of the file: what was taken is the last piece, or nothing
-pub at_end : (text piece : List ℕ) (rest : Option (List ℕ)) (no_byte : Bool) → no_byte ≡ (length piece == 0) → text ≡ piece → rest ≡ Some [] → IsNextPiece text (not no_byte) piece rest
+pub at_end : (text piece : List ℕ) (rest : Option (List ℕ)) (no_byte : Bool) → no_byte ≡ (length piece == 0)
+    → text ≡ piece → rest ≡ Some [] → IsNextPiece text (not no_byte) piece rest
 at_end text [] rest false size is end = absurd (grind (arith, nat_tests, size))
 at_end text [] rest true size is end = (is, end)
 at_end text (c ∷ t) rest false size is end = ([], end, inr (is, refl, omega (arith)))

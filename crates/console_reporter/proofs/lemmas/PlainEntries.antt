@@ -1,17 +1,26 @@
 -- The entries of the calls, and what is given for them (for `free-event_parts`).
 use Rattle.std.proofs.Common.{◌≡◌, ℕ, Bool, true, false, cond, refl, List, [], ◌∷◌, ◌++◌, Option, None, Some, ap₂}
 use Rattle.report_words.specs.Names.{Styles, HoldsIf, paint}
-use Rattle.{styled_text.specs.Names.AllByRecursion, styled_text.specs.Names.option_to_list, reporter_state.proofs.lemmas.Keys.is_before-ranks, reporter_state.proofs.lemmas.Orders.All-ordered_by}
-use Rattle.text_parts.specs.Names.{TestEventKind, ReportCall, IsPlainResult, IsPlainWritten, unit_output, display_of, is_final_wanted, timed_at_end}
+use Rattle.{styled_text.specs.Names.AllByRecursion, styled_text.specs.Names.option_to_list}
+use Rattle.{reporter_state.proofs.lemmas.Keys.is_before-ranks, reporter_state.proofs.lemmas.Orders.All-ordered_by}
+use Rattle.text_parts.specs.Names.{TestEventKind, ReportCall, IsPlainResult, IsPlainWritten, unit_output, display_of}
+use Rattle.text_parts.specs.Names.{is_final_wanted, timed_at_end}
 use Rattle.run_model.specs.declared.call.ReportCall.TheVariants.{Event, Header, Prefix}
-use Rattle.run_model.specs.declared.{event.TestEventKind.TheVariants.TestFinished, event.TestEventKind.TheVariants.TestSkipped}
-use Rattle.reporter_state.specs.Names.{CountedInstance, Settings, FinishReport, test_finish, final_output, finished_entry, is_kept, is_skip_kept, entry_of, cancel, prefix, kept, final_order, is_before, final_text, entries_text, borrowed_test}
+use Rattle.run_model.specs.declared.{event.TestEventKind.TheVariants.TestFinished}
+use Rattle.run_model.specs.declared.{event.TestEventKind.TheVariants.TestSkipped}
+use Rattle.reporter_state.specs.Names.{CountedInstance, Settings, FinishReport, test_finish, final_output}
+use Rattle.reporter_state.specs.Names.{finished_entry, is_kept, is_skip_kept, entry_of, cancel, prefix, kept}
+use Rattle.reporter_state.specs.Names.{final_order, is_before, final_text, entries_text, borrowed_test}
 use Rattle.reporter_state.specs.declared.final_output.FinalOutput.TheVariants.{Executed, ExecutedWithOutput, Skipped}
 use Rattle.reporter_state.specs.declared.final_output.{FinalOutput.FinalOutput, FinalOutputEntry.FinalOutputEntry}
-use Rattle.{report_words.proofs.lemmas.PartsInColour.AreFree, text_parts.proofs.lemmas.OutputColourPairs.free-unit_output, test_text.specs.declared.status_line.StatusLineKind.TheVariants.Final, test_text.proofs.lemmas.FreeTests.free-skip_line}
+use Rattle.{report_words.proofs.lemmas.PartsInColour.AreFree}
+use Rattle.{text_parts.proofs.lemmas.OutputColourPairs.free-unit_output}
+use Rattle.{test_text.specs.declared.status_line.StatusLineKind.TheVariants.Final}
+use Rattle.{test_text.proofs.lemmas.FreeTests.free-skip_line}
 use Rattle.text_parts.proofs.lemmas.LineColourPairs.{painted, IsPlainTest, plain-finished_counter, plain-padded}
 use Rattle.console_reporter.specs.Names.{IsPlainPrefix, IsPlainKind, IsPlainCall}
-use Rattle.{test_text.proofs.lemmas.FreeStatusLines.IsPlainFinish, test_text.proofs.lemmas.FreeStatusLines.free-status_line}
+use Rattle.{test_text.proofs.lemmas.FreeStatusLines.IsPlainFinish}
+use Rattle.{test_text.proofs.lemmas.FreeStatusLines.free-status_line}
 use Rattle.run_names.specs.declared.unit.UnitKind.TheVariants as unit
 
 -- an entry holds no escape character, except in an output that may
@@ -23,23 +32,29 @@ IsPlainFinal k Skipped = Unit {0}
 abbrev pub IsPlainEntry : Bool → FinalOutputEntry → Type 0
 IsPlainEntry k e = IsPlainTest (borrowed_test e.test) × IsPlainFinal k e.output
 
-free-final_text : (k : Bool) (s : Settings) (test : CountedInstance) (x : FinalOutput) → IsPlainTest test → IsPlainFinal k x → AreFree k (final_text s test x)
+free-final_text : (k : Bool) (s : Settings) (test : CountedInstance) (x : FinalOutput) → IsPlainTest test
+    → IsPlainFinal k x → AreFree k (final_text s test x)
 unfolding final_text
 free-final_text k s test (Executed summary) h j = free-status_line k Final test summary h j
-free-final_text k s test (ExecutedWithOutput summary output) h j = (free-status_line k Final test summary h j.0, free-unit_output k s unit.Test false summary.result output j.0 j.1)
+free-final_text k s test (ExecutedWithOutput summary output) h j =
+    (free-status_line k Final test summary h j.0, free-unit_output k s unit.Test false summary.result output j.0 j.1)
 free-final_text k s test Skipped h j = free-skip_line k test h
 
-pub free-entries_text : (k : Bool) (s : Settings) (es : List FinalOutputEntry) → AllByRecursion (IsPlainEntry k) es → AreFree k (entries_text s es)
+pub free-entries_text : (k : Bool) (s : Settings) (es : List FinalOutputEntry) → AllByRecursion (IsPlainEntry k) es
+    → AreFree k (entries_text s es)
 free-entries_text k s [] h = tt
-free-entries_text k s (e ∷ es) h = (free-final_text k s (borrowed_test e.test) e.output h.0.0 h.0.1, free-entries_text k s es h.1)
+free-entries_text k s (e ∷ es) h =
+    (free-final_text k s (borrowed_test e.test) e.output h.0.0 h.0.1, free-entries_text k s es h.1)
 
 -- lists of what is plain
-pub All-append : {X : Type 0} (P : X → Type 0) (xs ys : List X) → AllByRecursion P xs → AllByRecursion P ys → AllByRecursion P (xs ++ ys)
+pub All-append : {X : Type 0} (P : X → Type 0) (xs ys : List X) → AllByRecursion P xs → AllByRecursion P ys
+    → AllByRecursion P (xs ++ ys)
 All-append P [] ys h j = j
 All-append P (x ∷ xs) ys h j = (h.0, All-append P xs ys h.1 j)
 
 -- the final order holds the entries that were kept
-pub All-final_order : (P : FinalOutputEntry → Type 0) (es : List FinalOutputEntry) → AllByRecursion P es → AllByRecursion P (final_order es)
+pub All-final_order : (P : FinalOutputEntry → Type 0) (es : List FinalOutputEntry) → AllByRecursion P es
+    → AllByRecursion P (final_order es)
 All-final_order P es h = All-ordered_by is_before is_before-ranks P es h
 
 -- the entry of a finished test
@@ -55,33 +70,41 @@ plain-finished k f h = go (timed_at_end f.row f.display)
 abbrev entry_if : Bool → FinalOutputEntry → Option FinalOutputEntry
 entry_if b e = cond b (Some e) None
 
-plain-entry_if : (k b : Bool) (e : FinalOutputEntry) → IsPlainEntry k e → AllByRecursion (IsPlainEntry k) (option_to_list (entry_if b e))
+plain-entry_if : (k b : Bool) (e : FinalOutputEntry) → IsPlainEntry k e
+    → AllByRecursion (IsPlainEntry k) (option_to_list (entry_if b e))
 plain-entry_if k true e h = (h, tt)
 plain-entry_if k false e h = tt
 
 -- what is known of a finished test of an event
-pub plain-test_finish : (k : Bool) (s : Settings) (reason : ℕ) (stress : _) (instance : _) (success failure : _) (statuses : _) (stats : _) → IsPlainKind k (TestFinished stress instance success failure statuses stats)
+pub plain-test_finish : (k : Bool) (s : Settings) (reason : ℕ) (stress : _) (instance : _) (success failure : _)
+    (statuses : _) (stats : _)
+    → IsPlainKind k (TestFinished stress instance success failure statuses stats)
     → IsPlainFinish k (test_finish s reason stress instance success failure statuses stats)
 plain-test_finish k s reason stress instance success failure statuses stats h =
     record { test = (plain-finished_counter s stats, h.0); summary = h.1.0; last = h.1.0; output = h.1.1 }
 
-plain-entry_of : (k : Bool) (s : Settings) (reason : ℕ) (e : TestEventKind) → IsPlainKind k e → AllByRecursion (IsPlainEntry k) (option_to_list (entry_of s reason e))
+plain-entry_of : (k : Bool) (s : Settings) (reason : ℕ) (e : TestEventKind) → IsPlainKind k e
+    → AllByRecursion (IsPlainEntry k) (option_to_list (entry_of s reason e))
 plain-entry_of k s reason (TestFinished stress instance success failure statuses stats) h =
     let f = test_finish s reason stress instance success failure statuses stats in
     let all = plain-test_finish k s reason stress instance success failure statuses stats h in
     plain-entry_if k (is_kept s f) (finished_entry f) (all.test, plain-finished k f all)
-plain-entry_of k s reason (TestSkipped stress instance) h = plain-entry_if k (is_skip_kept s) _ (plain-padded s stress instance h, tt)
+plain-entry_of k s reason (TestSkipped stress instance) h = plain-entry_if k (is_skip_kept s) _
+    (plain-padded s stress instance h, tt)
 plain-entry_of k s reason other h = tt
 
-pub plain-kept : (k : Bool) (s : Settings) (past : List ReportCall) → AllByRecursion (IsPlainCall k) past → AllByRecursion (IsPlainEntry k) (kept s past)
+pub plain-kept : (k : Bool) (s : Settings) (past : List ReportCall) → AllByRecursion (IsPlainCall k) past
+    → AllByRecursion (IsPlainEntry k) (kept s past)
 unfolding kept
 plain-kept k s [] h = tt
-plain-kept k s (Event e ∷ past) h = All-append (IsPlainEntry k) (kept s past) _ (plain-kept k s past h.1) (plain-entry_of k s (cancel past) e.kind h.0)
+plain-kept k s (Event e ∷ past) h = All-append (IsPlainEntry k) (kept s past) _ (plain-kept k s past h.1)
+    (plain-entry_of k s (cancel past) e.kind h.0)
 plain-kept k s (Header x ∷ past) h = plain-kept k s past h.1
 plain-kept k s (Prefix p ∷ past) h = plain-kept k s past h.1
 
 -- the entry of an event does not depend on colour
-same-entry_of : (s : Settings) (reason : ℕ) (e : TestEventKind) → entry_of (painted true s) reason e ≡ entry_of (painted false s) reason e
+same-entry_of : (s : Settings) (reason : ℕ) (e : TestEventKind)
+    → entry_of (painted true s) reason e ≡ entry_of (painted false s) reason e
 unfolding display_of is_final_wanted
 same-entry_of s reason (TestFinished stress instance success failure statuses stats) = refl
 same-entry_of s reason (TestSkipped stress instance) = refl
@@ -90,23 +113,28 @@ same-entry_of s reason other = refl
 pub same-kept : (s : Settings) (past : List ReportCall) → kept (painted true s) past ≡ kept (painted false s) past
 unfolding kept
 same-kept s [] = refl
-same-kept s (Event e ∷ past) = ap₂ (λ es o. es ++ option_to_list o) (same-kept s past) (same-entry_of s (cancel past) e.kind)
+same-kept s (Event e ∷ past) = ap₂ (λ es o. es ++ option_to_list o) (same-kept s past)
+    (same-entry_of s (cancel past) e.kind)
 same-kept s (Header x ∷ past) = same-kept s past
 same-kept s (Prefix p ∷ past) = same-kept s past
 
 -- the entry's text depends on these settings only
-same-final : (b : Bool) (t : Styles) (s : Settings) (test : CountedInstance) (x : FinalOutput) → paint t (final_text (painted b s) test x) ≡ paint t (final_text s test x)
+same-final : (b : Bool) (t : Styles) (s : Settings) (test : CountedInstance) (x : FinalOutput)
+    → paint t (final_text (painted b s) test x) ≡ paint t (final_text s test x)
 unfolding final_text unit_output
 same-final b t s test (Executed summary) = refl
 same-final b t s test (ExecutedWithOutput summary output) = refl
 same-final b t s test Skipped = refl
 
-pub same-entries : (b : Bool) (t : Styles) (s : Settings) (es : List FinalOutputEntry) → paint t (entries_text (painted b s) es) ≡ paint t (entries_text s es)
+pub same-entries : (b : Bool) (t : Styles) (s : Settings) (es : List FinalOutputEntry)
+    → paint t (entries_text (painted b s) es) ≡ paint t (entries_text s es)
 same-entries b t s [] = refl
-same-entries b t s (e ∷ es) = ap₂ (λ x y. x ++ y) (same-final b t s (borrowed_test e.test) e.output) (same-entries b t s es)
+same-entries b t s (e ∷ es) = ap₂ (λ x y. x ++ y) (same-final b t s (borrowed_test e.test) e.output)
+    (same-entries b t s es)
 
 -- the current prefix
-pub plain-prefix : (k : Bool) (past : List ReportCall) → AllByRecursion (IsPlainCall k) past → HoldsIf IsPlainPrefix (prefix past)
+pub plain-prefix : (k : Bool) (past : List ReportCall) → AllByRecursion (IsPlainCall k) past
+    → HoldsIf IsPlainPrefix (prefix past)
 unfolding prefix
 plain-prefix k [] h = tt
 plain-prefix k (Event e ∷ past) h = plain-prefix k past h.1

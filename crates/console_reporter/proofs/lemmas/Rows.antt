@@ -1,15 +1,30 @@
 -- Worked rows: what the definitions say of a short run.
-use Rattle.text_parts.specs.Names.{SkipCounts, TestEvent, RunStats, ExecutionResultDescription, ChildOutputDescription, LiveSpec, skip_note, abort_line, theme_of, long_word, display_of, output_timing, timed_listed, is_final_wanted, summary_text, counted_front, passed_notes, passed_front}
-use Rattle.std.proofs.Common.{◌≡◌, ℕ, ℤ, Bool, false, List, [], ◌∷◌, codes, refl, pos, None, Some, Option}
+use Rattle.text_parts.specs.Names.{SkipCounts, TestEvent, RunStats, ExecutionResultDescription, ChildOutputDescription}
+use Rattle.text_parts.specs.Names.{LiveSpec, skip_note, abort_line, theme_of, long_word, display_of, output_timing}
+use Rattle.text_parts.specs.Names.{timed_listed, is_final_wanted, summary_text, counted_front, passed_notes}
+use Rattle.text_parts.specs.Names.{passed_front}
+use Rattle.std.proofs.Common.{◌≡◌, ℕ, ℤ, Bool, false, List, [], ◌∷◌, ◌++◌, codes, refl, pos, None, Some, Option}
 use Rattle.styled_text.specs.Names.{digits, chars, plain, styled, styles_of, Text, right_in, seconds, with_point}
-use Rattle.{uuid.specs.Text.by_index, unit_report.specs.declared.unit_output.DisplayerKind.TheVariants.Live, run_names.specs.declared.abort.AbortDescription.TheVariants.UnixSignal, run_names.specs.Names.last_colons}
-use Rattle.run_names.specs.declared.config.{NextestRunMode.TheVariants.Test, CompiledDefaultFilterSection.TheVariants.Profile, TestOutputDisplay.TheVariants.Never}
-use Rattle.text_parts.specs.Names.{failed_counts, failed_count, leaky_failed_note, exec_failed_count, timed_out_count, test_text, stress_prefix, counter_prefix, test_name_text, bracketed_duration}
-use Rattle.run_model.specs.Names.{planned_stats, reason_rank, TestInstanceId, TestOutputDisplay, StressIndex, Nanos, Attempts, Written, summary_of}
-use Rattle.reporter_state.specs.Names.{Settings, ordered_by, put_in, cancel, kept, final_order, test_finish, finished_entry, status_prefix, flaky_failure_line, status_line, StatusLineKind}
-use Rattle.run_model.specs.declared.{event.TestEventKind.TheVariants.TestFinished, event.TestEventKind.TheVariants.RunFinished, stats.RunFinishedStats.TheVariants.Single, call.ReportCall.TheVariants.Event, status.FailureDescription.TheVariants.ExitCode, status.FailureDescription.TheVariants.Abort}
+use Rattle.{uuid.specs.Text.by_index, unit_report.specs.declared.unit_output.DisplayerKind.TheVariants.Live}
+use Rattle.{run_names.specs.declared.abort.AbortDescription.TheVariants.UnixSignal, run_names.specs.Names.last_colons}
+use Rattle.run_names.specs.declared.config.{NextestRunMode.TheVariants.Test}
+use Rattle.run_names.specs.declared.config.{CompiledDefaultFilterSection.TheVariants.Profile}
+use Rattle.run_names.specs.declared.config.{TestOutputDisplay.TheVariants.Never}
+use Rattle.text_parts.specs.Names.{failed_counts, failed_count, leaky_failed_note, exec_failed_count, timed_out_count}
+use Rattle.text_parts.specs.Names.{test_text, stress_prefix, counter_prefix, test_name_text, bracketed_duration}
+use Rattle.run_model.specs.Names.{planned_stats, reason_rank, TestInstanceId, TestOutputDisplay, StressIndex, Nanos}
+use Rattle.run_model.specs.Names.{Attempts, Written, summary_of}
+use Rattle.reporter_state.specs.Names.{Settings, ordered_by, put_in, cancel, kept, final_order, test_finish}
+use Rattle.reporter_state.specs.Names.{finished_entry, status_prefix, flaky_failure_line, status_line, StatusLineKind}
+use Rattle.run_model.specs.declared.{event.TestEventKind.TheVariants.TestFinished}
+use Rattle.run_model.specs.declared.{event.TestEventKind.TheVariants.RunFinished}
+use Rattle.run_model.specs.declared.{stats.RunFinishedStats.TheVariants.Single, call.ReportCall.TheVariants.Event}
+use Rattle.run_model.specs.declared.{status.FailureDescription.TheVariants.ExitCode}
+use Rattle.run_model.specs.declared.{status.FailureDescription.TheVariants.Abort}
 use Rattle.report_words.specs.Names.{tests_word_if, binaries_word, hbar_text, paint}
-use Rattle.console_reporter.specs.Names.{id_text, run_id_text, profile_text, run_id_line, test_counts_text, starting_line, run_started_text, initial_count_text, run_counts_text, summary_line, run_finished_text}
+use Rattle.console_reporter.specs.Names.{id_text, run_id_text, profile_text, run_id_line, test_counts_text}
+use Rattle.console_reporter.specs.Names.{starting_line, run_started_text, initial_count_text, run_counts_text}
+use Rattle.console_reporter.specs.Names.{summary_line, run_finished_text}
 use Rattle.test_text.specs.declared.status_line.StatusLineKind.TheVariants.{Intermediate, Final}
 use Rattle.run_names.specs.declared.level.CancelReason.TheVariants as cause
 use Rattle.run_names.specs.declared.level.StatusLevel.TheVariants as status
@@ -51,18 +66,27 @@ none_skipped = record {
 abbrev run_id : List ℕ
 run_id = 0 ∷ 0 ∷ 0 ∷ 0 ∷ 0 ∷ 0 ∷ 64 ∷ 0 ∷ 128 ∷ 0 ∷ 0 ∷ 0 ∷ 0 ∷ 0 ∷ 0 ∷ 1 ∷ []
 
-start : paint settings.styles (run_started_text settings None (record { run_count = 2; listed_binary_count = 1; skip_counts = none_skipped }) run_id (codes "default"))
-    ≡ codes "------------\n Nextest run ID 00000000-0000-4000-8000-000000000001 with nextest profile: default\n    Starting 2 tests across 1 binary\n"
-unfolding run_started_text run_id_line profile_text id_text run_id_text starting_line test_counts_text skip_note hbar_text lib.Utf8.encode plain styled right_in chars by_index digits tests_word_if binaries_word
+start : paint settings.styles (run_started_text settings None (record {
+  run_count = 2;
+  listed_binary_count = 1;
+  skip_counts = none_skipped;
+}) run_id (codes "default"))
+    ≡ codes "------------\n Nextest run ID 00000000-0000-4000-8000-000000000001 with nextest profile: default\n"
+    ++ codes "    Starting 2 tests across 1 binary\n"
+unfolding run_started_text run_id_line profile_text id_text run_id_text starting_line test_counts_text skip_note
+    hbar_text lib.Utf8.encode plain styled right_in chars by_index digits tests_word_if binaries_word
 start = refl
 
 -- two tests ran, one passed and one failed
 abbrev stats : RunStats
 stats = record (planned_stats 2) { finished_count = 2; passed = 1; failed = 1 }
 
-summary : paint settings.styles (run_finished_text settings.theme_characters settings.mode 1520000000 (Single stats)) ≡ codes "------------\n     Summary [   1.520s] 2 tests run: 1 passed, 1 failed, 0 skipped\n"
-unfolding run_finished_text summary_line run_counts_text initial_count_text hbar_text lib.Utf8.encode plain styled right_in chars digits tests_word_if bracketed_duration seconds with_point
-    summary_text counted_front passed_notes passed_front failed_counts failed_count leaky_failed_note exec_failed_count timed_out_count
+summary : paint settings.styles (run_finished_text settings.theme_characters settings.mode 1520000000 (Single stats))
+    ≡ codes "------------\n     Summary [   1.520s] 2 tests run: 1 passed, 1 failed, 0 skipped\n"
+unfolding run_finished_text summary_line run_counts_text initial_count_text hbar_text lib.Utf8.encode plain styled
+    right_in chars digits tests_word_if bracketed_duration seconds with_point
+    summary_text counted_front passed_notes passed_front failed_counts failed_count leaky_failed_note exec_failed_count
+    timed_out_count
 summary = refl
 
 -- a test whose only attempt failed with a code after this time
@@ -90,32 +114,44 @@ named = refl
 -- the line of the failed test, in the run and in the summary
 failed_line : (kind : StatusLineKind) (test : TestInstanceId) (output : Written) (code : ℤ) (time : Nanos) →
     test.binary_id.now ≡ codes "alpha" → test.test_name.now ≡ codes "mod::t2" → time.0 ≡ 1500000000 →
-    paint settings.styles (status_line kind (record { stress_index = None; counter = None; instance = test }) (summary_of (failed output code time))) ≡ codes "        FAIL [   1.500s] alpha mod::t2\n"
+    paint settings.styles (status_line kind (record {
+      stress_index = None;
+      counter = None;
+      instance = test;
+    }) (summary_of (failed output code time))) ≡ codes "        FAIL [   1.500s] alpha mod::t2\n"
 unfolding status_line status_prefix long_word abort_line flaky_failure_line plain styled right_in chars
 failed_line Final test output code time binary name after = rw (binary, name, after, lasted, named) refl
 failed_line Intermediate test output code time binary name after = rw (binary, name, after, lasted, named) refl
 
 -- a second end of the run lists the same entries
-twice : (event finish : TestEvent) (stress : Option StressIndex) (test : TestInstanceId) (success : TestOutputDisplay) (output : Written) (code : ℤ) (time elapsed : Nanos) →
-    event.kind ≡ TestFinished stress test success Never (failed output code time) stats → finish.kind ≡ RunFinished elapsed (Single stats) None →
-    final_order (kept settings (Event finish ∷ Event event ∷ [])) ≡ finished_entry (test_finish settings 0 stress test success Never (failed output code time) stats) ∷ []
+twice : (event finish : TestEvent) (stress : Option StressIndex) (test : TestInstanceId) (success : TestOutputDisplay)
+    (output : Written) (code : ℤ) (time elapsed : Nanos)
+    → event.kind ≡ TestFinished stress test success Never (failed output code time) stats
+    → finish.kind ≡ RunFinished elapsed (Single stats) None →
+    final_order (kept settings (Event finish ∷ Event event ∷ []))
+    ≡ finished_entry (test_finish settings 0 stress test success Never (failed output code time) stats) ∷ []
 unfolding kept cancel ordered_by put_in display_of output_timing timed_listed is_final_wanted
 twice event finish stress test success output code time elapsed is end = rw (is, end) refl
 
--- rows of the table on finished tests: under an immediate end a test that ended by signal 15 and one with a code, then any
--- test under a signal and under an interrupt
-terminated : (name : Option Text) (leaked : Bool) → output_timing (reason_rank (Some cause.TestFailureImmediate)) (outcome.Fail (Abort (UnixSignal (pos 15) name)) leaked) ≡ row.Hidden
+-- rows of the table on finished tests: under an immediate end a test that ended by signal 15 and one with a code, then
+-- any test under a signal and under an interrupt
+terminated : (name : Option Text) (leaked : Bool)
+    → output_timing (reason_rank (Some cause.TestFailureImmediate)) (outcome.Fail (Abort (UnixSignal (pos 15) name))
+    leaked) ≡ row.Hidden
 unfolding output_timing
 terminated name leaked = refl
 
-ended_by_itself : (code : ℤ) (leaked : Bool) → output_timing (reason_rank (Some cause.TestFailureImmediate)) (outcome.Fail (ExitCode code) leaked) ≡ row.Shown
+ended_by_itself : (code : ℤ) (leaked : Bool)
+    → output_timing (reason_rank (Some cause.TestFailureImmediate)) (outcome.Fail (ExitCode code) leaked) ≡ row.Shown
 unfolding output_timing
 ended_by_itself code leaked = refl
 
-under_a_signal : (result : ExecutionResultDescription) → output_timing (reason_rank (Some cause.Signal)) result ≡ row.ShownOnce
+under_a_signal : (result : ExecutionResultDescription)
+    → output_timing (reason_rank (Some cause.Signal)) result ≡ row.ShownOnce
 unfolding output_timing
 under_a_signal result = refl
 
-under_an_interrupt : (result : ExecutionResultDescription) → output_timing (reason_rank (Some cause.Interrupt)) result ≡ row.Hidden
+under_an_interrupt : (result : ExecutionResultDescription)
+    → output_timing (reason_rank (Some cause.Interrupt)) result ≡ row.Hidden
 unfolding output_timing
 under_an_interrupt result = refl

@@ -1,8 +1,12 @@
--- Lists of calls that a report cannot distinguish (for `unload_skipped`, `run_report`, `DisplayReporter::output_load_decider`).
+-- Lists of calls that a report cannot distinguish (for `unload_skipped`, `run_report`,
+-- `DisplayReporter::output_load_decider`).
 use Rattle.std.proofs.Common.{◌≡◌, ℕ, List, [], ◌∷◌, ◌++◌, refl, sym, ap, ap₂, ◌∙◌, max, reverse, append_assoc}
-use Rattle.{styled_text.specs.Names.flat_map, styled_text.specs.Names.Text, std.proofs.lemmas.List.reverse-append, console_reporter.proofs.lemmas.Texts.report-joined, text_parts.specs.Names.TestEvent, text_parts.specs.Names.ReportCall}
+use Rattle.{styled_text.specs.Names.flat_map, styled_text.specs.Names.Text, std.proofs.lemmas.List.reverse-append}
+use Rattle.{console_reporter.proofs.lemmas.Texts.report-joined, text_parts.specs.Names.TestEvent}
+use Rattle.{text_parts.specs.Names.ReportCall}
 use Rattle.reporter_state.specs.Names.{Settings, effect_of, entry_of, cancel, kept, prefix}
-use Rattle.console_reporter.specs.Names.{Configuration, settings_of, Known, event_text, known_after, report, text, report_texts}
+use Rattle.console_reporter.specs.Names.{Configuration, settings_of, Known, event_text, known_after, report, text}
+use Rattle.console_reporter.specs.Names.{report_texts}
 use Rattle.run_model.specs.declared.call.ReportCall.TheVariants.{Event, Header, Prefix}
 
 -- one reason, one entry under each reason before, and one text whatever is known
@@ -26,44 +30,63 @@ module _ (config : Configuration) where
     same-known : known_after config ys ≡ known_after config xs
     same-known = rw (all.prefix, all.cancel, all.kept) refl
 
-    same-report_texts : (x y : ReportCall) → text config ys y ≡ text config xs x → report_texts config (y ∷ ys) ≡ report_texts config (x ∷ xs)
+    same-report_texts : (x y : ReportCall) → text config ys y ≡ text config xs x
+        → report_texts config (y ∷ ys) ≡ report_texts config (x ∷ xs)
     unfolding report_texts
     same-report_texts x y here = ap₂ (λ (before : List Text) (t : Text). before ++ t ∷ []) all.texts here
 
     -- two events that are the same to a report, after these pasts
-    pub same-event : (e f : TestEvent) → IsSameEvent (settings_of config) e f → AreSame config (Event e ∷ xs) (Event f ∷ ys)
+    pub same-event : (e f : TestEvent) → IsSameEvent (settings_of config) e f
+        → AreSame config (Event e ∷ xs) (Event f ∷ ys)
     unfolding prefix cancel kept
     same-event e f one = record {
       prefix = all.prefix;
       cancel = ap₂ max one.reason all.cancel;
       kept = rw (all.kept, all.cancel, one.entry (cancel xs)) refl;
-      texts = same-report_texts (Event e) (Event f) (ap (λ known. event_text (settings_of config) known f.elapsed.0 f.kind) same-known ∙ one.text (known_after config xs));
+      texts = same-report_texts (Event e) (Event f)
+          (ap (λ known. event_text (settings_of config) known f.elapsed.0 f.kind) same-known
+          ∙ one.text (known_after config xs));
     }
 
     -- one call after these pasts
     pub same-call : (call : ReportCall) → AreSame config (call ∷ xs) (call ∷ ys)
     unfolding prefix cancel kept
     same-call (Event e) = same-event e e (record { reason = refl; entry = λ before. refl; text = λ known. refl })
-    same-call (Header h) = record { prefix = all.prefix; cancel = all.cancel; kept = all.kept; texts = same-report_texts (Header h) (Header h) refl }
-    same-call (Prefix p) = record { prefix = refl; cancel = all.cancel; kept = all.kept; texts = same-report_texts (Prefix p) (Prefix p) refl }
+    same-call (Header h) = record {
+      prefix = all.prefix;
+      cancel = all.cancel;
+      kept = all.kept;
+      texts = same-report_texts (Header h) (Header h) refl;
+    }
+    same-call (Prefix p) = record {
+      prefix = refl;
+      cancel = all.cancel;
+      kept = all.kept;
+      texts = same-report_texts (Prefix p) (Prefix p) refl;
+    }
 
     pub same-report : report config ys ≡ report config xs
     same-report = report-joined config ys ∙ ap (flat_map (λ t. t)) all.texts ∙ sym (report-joined config xs)
 
   -- a list of calls after these pasts
-  pub same-onto : (xs ys : List ReportCall) → AreSame config xs ys → (later : List ReportCall) → AreSame config (later ++ xs) (later ++ ys)
+  pub same-onto : (xs ys : List ReportCall) → AreSame config xs ys → (later : List ReportCall)
+      → AreSame config (later ++ xs) (later ++ ys)
   same-onto xs ys all [] = all
   same-onto xs ys all (call ∷ later) = same-call (later ++ xs) (later ++ ys) (same-onto xs ys all later) call
 
 -- a list in reverse, around one of its elements
-pub reverse-middle : {X : Type 0} (front : List X) (x : X) (back : List X) → reverse (front ++ x ∷ back) ≡ reverse back ++ x ∷ reverse front
+pub reverse-middle : {X : Type 0} (front : List X) (x : X) (back : List X)
+    → reverse (front ++ x ∷ back) ≡ reverse back ++ x ∷ reverse front
 reverse-middle front x back =
-    reverse-append front (x ∷ back) ∙ ap (λ l. l ++ reverse front) (reverse-append (x ∷ []) back) ∙ append_assoc (reverse back) (x ∷ []) (reverse front)
+    reverse-append front (x ∷ back) ∙ ap (λ l. l ++ reverse front) (reverse-append (x ∷ []) back)
+    ∙ append_assoc (reverse back) (x ∷ []) (reverse front)
 
 -- an event replaced by one that is the same to a report
-pub same-but-one : (config : Configuration) (front back : List ReportCall) (e f : TestEvent) → IsSameEvent (settings_of config) e f →
+pub same-but-one : (config : Configuration) (front back : List ReportCall) (e f : TestEvent)
+    → IsSameEvent (settings_of config) e f →
     report_texts config (reverse (front ++ Event f ∷ back)) ≡ report_texts config (reverse (front ++ Event e ∷ back))
 same-but-one config front back e f one =
     let past = reverse front in
-    let all = same-onto config (Event e ∷ past) (Event f ∷ past) (same-event config past past (same-itself config past) e f one) (reverse back) in
+    let all = same-onto config (Event e ∷ past) (Event f ∷ past)
+    (same-event config past past (same-itself config past) e f one) (reverse back) in
     rw (reverse-middle front (Event f) back, reverse-middle front (Event e) back) all.texts

@@ -1,12 +1,18 @@
 -- What the end of an uninterrupted run shows (for `run_report`, `DisplayReporter::output_load_decider`).
-use Rattle.std.proofs.Common.{◌≡◌, ℕ, ◌<◌, true, List, [], ◌∷◌, ◌++◌, None, refl, sym, ap, ◌∙◌, reverse, append-nil, append_assoc, arith, subst, nat_lt}
-use Rattle.{styled_text.specs.Names.flat_map, styled_text.specs.Names.option_to_list, text_parts.proofs.lemmas.Finishes.row_below, reporter_state.specs.declared.final_output.FinalOutputEntry.FinalOutputEntry}
+use Rattle.std.proofs.Common.{◌≡◌, ℕ, ◌<◌, true, List, [], ◌∷◌, ◌++◌, None, refl, sym, ap, ◌∙◌, reverse, append-nil}
+use Rattle.std.proofs.Common.{append_assoc, arith, subst, nat_lt}
+use Rattle.{styled_text.specs.Names.flat_map, styled_text.specs.Names.option_to_list}
+use Rattle.{text_parts.proofs.lemmas.Finishes.row_below}
+use Rattle.{reporter_state.specs.declared.final_output.FinalOutputEntry.FinalOutputEntry}
 use Rattle.text_parts.specs.Names.{TestEvent, TestEventKind, ReportCall}
-use Rattle.{std.proofs.lemmas.Bool.false≢true, std.proofs.lemmas.Bool.Decides.nat_tests, std.proofs.lemmas.List.reverse-append}
+use Rattle.{std.proofs.lemmas.Bool.false≢true, std.proofs.lemmas.Bool.Decides.nat_tests}
+use Rattle.{std.proofs.lemmas.List.reverse-append}
 use Rattle.run_model.specs.declared.call.ReportCall.TheVariants.{Event, Header, Prefix}
-use Rattle.run_model.specs.declared.{event.TestEventKind.TheVariants.TestFinished, event.TestEventKind.TheVariants.RunFinished}
+use Rattle.run_model.specs.declared.{event.TestEventKind.TheVariants.TestFinished}
+use Rattle.run_model.specs.declared.{event.TestEventKind.TheVariants.RunFinished}
 use Rattle.reporter_state.specs.Names.{Settings, entry_of, cancel, final_order, kept}
-use Rattle.console_reporter.specs.Names.{AreUninterrupted, carried_reason, is_end_of_run, Configuration, settings_of, Known, event_text, listed_text, text}
+use Rattle.console_reporter.specs.Names.{AreUninterrupted, carried_reason, is_end_of_run, Configuration, settings_of}
+use Rattle.console_reporter.specs.Names.{Known, event_text, listed_text, text}
 
 -- parts of uninterrupted calls
 pub uninterrupted_front : (xs ys : List ReportCall) → AreUninterrupted (xs ++ ys) → AreUninterrupted xs
@@ -17,17 +23,20 @@ pub uninterrupted_back : (xs ys : List ReportCall) → AreUninterrupted (xs ++ y
 uninterrupted_back [] ys uninterrupted = uninterrupted
 uninterrupted_back (x ∷ xs) ys uninterrupted = uninterrupted_back xs ys uninterrupted.1
 
-pub uninterrupted_both : (xs ys : List ReportCall) → AreUninterrupted xs → AreUninterrupted ys → AreUninterrupted (xs ++ ys)
+pub uninterrupted_both : (xs ys : List ReportCall) → AreUninterrupted xs → AreUninterrupted ys
+    → AreUninterrupted (xs ++ ys)
 uninterrupted_both [] ys a b = b
 uninterrupted_both (x ∷ xs) ys a b = (a.0, uninterrupted_both xs ys a.1 b)
 
 -- under an uninterrupted reason the same entries are kept as without a reason
-pub uninterrupted_entry : (s : Settings) (reason : ℕ) (e : TestEventKind) → reason < 5 → entry_of s reason e ≡ entry_of s 0 e
+pub uninterrupted_entry : (s : Settings) (reason : ℕ) (e : TestEventKind) → reason < 5
+    → entry_of s reason e ≡ entry_of s 0 e
 uninterrupted_entry s reason (TestFinished stress test success failure statuses stats) h =
     rw (row_below reason statuses.last.result h, row_below 0 statuses.last.result (omega arith)) refl
 uninterrupted_entry s reason other h = refl
 
-pub uninterrupted_more : (call : ReportCall) (past : List ReportCall) → carried_reason call < 5 → cancel past < 5 → cancel (call ∷ past) < 5
+pub uninterrupted_more : (call : ReportCall) (past : List ReportCall) → carried_reason call < 5 → cancel past < 5
+    → cancel (call ∷ past) < 5
 unfolding cancel
 uninterrupted_more (Event e) past own h = omega arith
 uninterrupted_more (Header k) past own h = h
@@ -39,22 +48,28 @@ uninterrupted_entries s (Event e) = option_to_list (entry_of s 0 e.kind)
 uninterrupted_entries s (Header h) = []
 uninterrupted_entries s (Prefix p) = []
 
-kept_more : (s : Settings) (call : ReportCall) (past : List ReportCall) → cancel past < 5 → kept s (call ∷ past) ≡ kept s past ++ uninterrupted_entries s call
+kept_more : (s : Settings) (call : ReportCall) (past : List ReportCall) → cancel past < 5
+    → kept s (call ∷ past) ≡ kept s past ++ uninterrupted_entries s call
 unfolding kept
 kept_more s (Event e) past h = ap (λ o. kept s past ++ option_to_list o) (uninterrupted_entry s (cancel past) e.kind h)
 kept_more s (Header k) past h = sym (append-nil (kept s past))
 kept_more s (Prefix p) past h = sym (append-nil (kept s past))
 
 -- a past with one call and then others after it
-reverse_onto : (call : ReportCall) (calls past : List ReportCall) → reverse (call ∷ calls) ++ past ≡ reverse calls ++ call ∷ past
-reverse_onto call calls past = ap (λ l. l ++ past) (reverse-append (call ∷ []) calls) ∙ append_assoc (reverse calls) (call ∷ []) past
+reverse_onto : (call : ReportCall) (calls past : List ReportCall)
+    → reverse (call ∷ calls) ++ past ≡ reverse calls ++ call ∷ past
+reverse_onto call calls past = ap (λ l. l ++ past) (reverse-append (call ∷ []) calls)
+    ∙ append_assoc (reverse calls) (call ∷ []) past
 
-uninterrupted_onto : (calls past : List ReportCall) → AreUninterrupted calls → cancel past < 5 → cancel (reverse calls ++ past) < 5
+uninterrupted_onto : (calls past : List ReportCall) → AreUninterrupted calls → cancel past < 5
+    → cancel (reverse calls ++ past) < 5
 uninterrupted_onto [] past uninterrupted h = h
 uninterrupted_onto (call ∷ calls) past uninterrupted h =
-    subst (λ l. cancel l < 5) (sym (reverse_onto call calls past)) (uninterrupted_onto calls (call ∷ past) uninterrupted.1 (uninterrupted_more call past uninterrupted.0 h))
+    subst (λ l. cancel l < 5) (sym (reverse_onto call calls past))
+    (uninterrupted_onto calls (call ∷ past) uninterrupted.1 (uninterrupted_more call past uninterrupted.0 h))
 
-kept_onto : (s : Settings) (calls past : List ReportCall) → AreUninterrupted calls → cancel past < 5 → kept s (reverse calls ++ past) ≡ kept s past ++ flat_map (uninterrupted_entries s) calls
+kept_onto : (s : Settings) (calls past : List ReportCall) → AreUninterrupted calls → cancel past < 5
+    → kept s (reverse calls ++ past) ≡ kept s past ++ flat_map (uninterrupted_entries s) calls
 kept_onto s [] past uninterrupted h = sym (append-nil (kept s past))
 kept_onto s (call ∷ calls) past uninterrupted h =
     ap (kept s) (reverse_onto call calls past)
@@ -67,17 +82,21 @@ unfolding cancel
 none_given = omega arith
 
 pub uninterrupted_past : (calls : List ReportCall) → AreUninterrupted calls → cancel (reverse calls) < 5
-uninterrupted_past calls uninterrupted = subst (λ l. cancel l < 5) (append-nil (reverse calls)) (uninterrupted_onto calls [] uninterrupted none_given)
+uninterrupted_past calls uninterrupted = subst (λ l. cancel l < 5) (append-nil (reverse calls))
+    (uninterrupted_onto calls [] uninterrupted none_given)
 
-uninterrupted_kept : (s : Settings) (calls : List ReportCall) → AreUninterrupted calls → kept s (reverse calls) ≡ flat_map (uninterrupted_entries s) calls
+uninterrupted_kept : (s : Settings) (calls : List ReportCall) → AreUninterrupted calls
+    → kept s (reverse calls) ≡ flat_map (uninterrupted_entries s) calls
 unfolding kept
-uninterrupted_kept s calls uninterrupted = ap (kept s) (sym (append-nil (reverse calls))) ∙ kept_onto s calls [] uninterrupted none_given
+uninterrupted_kept s calls uninterrupted = ap (kept s) (sym (append-nil (reverse calls)))
+    ∙ kept_onto s calls [] uninterrupted none_given
 
 -- what the end of an uninterrupted run depends on
 abbrev pub listing : List FinalOutputEntry → Known
 listing entries = record { prefix = None; reason = 0; entries = entries }
 
-end_by_entries : (s : Settings) (known : Known) (elapsed : ℕ) (e : TestEventKind) → known.reason < 5 → is_end_of_run e ≡ true →
+end_by_entries : (s : Settings) (known : Known) (elapsed : ℕ) (e : TestEventKind) → known.reason < 5
+    → is_end_of_run e ≡ true →
     event_text s known elapsed e ≡ event_text s (listing known.entries) elapsed e
 unfolding event_text listed_text
 end_by_entries s known elapsed (RunFinished taken stats outstanding) h is =
@@ -85,8 +104,12 @@ end_by_entries s known elapsed (RunFinished taken stats outstanding) h is =
     rw less refl
 end_by_entries s known elapsed other h is = absurd (false≢true is)
 
-pub uninterrupted_end : (config : Configuration) (calls : List ReportCall) (end : TestEvent) → AreUninterrupted calls → is_end_of_run end.kind ≡ true →
-    text config (reverse calls) (Event end) ≡ event_text (settings_of config) (listing (final_order (flat_map (uninterrupted_entries (settings_of config)) calls))) end.elapsed.0 end.kind
+pub uninterrupted_end : (config : Configuration) (calls : List ReportCall) (end : TestEvent) → AreUninterrupted calls
+    → is_end_of_run end.kind ≡ true →
+    text config (reverse calls) (Event end)
+    ≡ event_text (settings_of config) (listing
+    (final_order (flat_map (uninterrupted_entries (settings_of config)) calls))) end.elapsed.0 end.kind
 uninterrupted_end config calls end uninterrupted is =
     end_by_entries (settings_of config) _ end.elapsed.0 end.kind (uninterrupted_past calls uninterrupted) is
-    ∙ ap (λ entries. event_text (settings_of config) (listing (final_order entries)) end.elapsed.0 end.kind) (uninterrupted_kept (settings_of config) calls uninterrupted)
+    ∙ ap (λ entries. event_text (settings_of config) (listing (final_order entries)) end.elapsed.0 end.kind)
+    (uninterrupted_kept (settings_of config) calls uninterrupted)

@@ -2,7 +2,8 @@
 
 ghost use Rattle.std.specs.Prelude.{◌≡◌, IfOk, [], None, Some};
 ghost use Rattle.text_parts.specs.Settings.{overrides_by};
-ghost use Rattle.console_reporter.specs.Names.{decider_of, configured, configured_in, configured_with_store, default_builder, settings_of, StandsAfter, config_of};
+ghost use Rattle.console_reporter.specs.Names.{decider_of, configured, configured_in, configured_with_store};
+ghost use Rattle.console_reporter.specs.Names.{default_builder, settings_of, StandsAfter, config_of};
 
 use super::reporter::DisplayReporter;
 use super::store::Store;
@@ -74,8 +75,9 @@ pub struct DisplayReporterBuilder {
 }
 
 impl DisplayReporterBuilder {
-    /// nextest's defaults for a run of this many tests: tests that pass, fail or are retried have a line, failed and flaky tests are
-    /// listed in the summary, and there are counters and no colours. It allocates the name of the default profile.
+    /// nextest's defaults for a run of this many tests: tests that pass, fail or are retried have a line, failed and
+    /// flaky tests are listed in the summary, and there are counters and no colours. It allocates the name of the
+    /// default profile.
     ///
     /// ```
     /// let mut builder = DisplayReporterBuilder::new(alloc, 2)?;
@@ -132,7 +134,10 @@ impl DisplayReporterBuilder {
         ensures same_reference { result.writer.ghost_name ≡ writer.entry.ghost_name }
         ensures untouched { result.writer.now ≡ writer.old }
         ensures no_store { result.store ≡ None }
-        ensures stands { StandsAfter (configured self surroundings.use_unicode surroundings.is_terminal surroundings.is_ci surroundings.display_empty_outputs) [] result }
+        ensures stands { StandsAfter
+            (configured self surroundings.use_unicode surroundings.is_terminal surroundings.is_ci
+            surroundings.display_empty_outputs)
+            [] result }
     {
         self.build_in(alloc, writer, None, surroundings)
     }
@@ -167,8 +172,8 @@ impl DisplayReporterBuilder {
         self.build_for(alloc, writer, surroundings)
     }
 
-    /// A reporter to a writer that also writes a record of each finished test to a second one. Nothing is written yet. It
-    /// allocates nothing.
+    /// A reporter to a writer that also writes a record of each finished test to a second one. Nothing is written yet.
+    /// It allocates nothing.
     ///
     /// ```
     /// let mut records = String::new(alloc);
@@ -191,7 +196,8 @@ impl DisplayReporterBuilder {
         ensures same_reference { result.writer.ghost_name ≡ writer.entry.ghost_name }
         ensures untouched { result.writer.now ≡ writer.old }
         ensures store { result.store ≡ Some (record { writer = store_writer.entry; config = store }) }
-        ensures stands { StandsAfter (configured_with_store store self use_unicode is_terminal is_ci display_empty_outputs) [] result }
+        ensures stands { StandsAfter
+            (configured_with_store store self use_unicode is_terminal is_ci display_empty_outputs) [] result }
     {
         let surroundings = Surroundings {
             use_unicode,
@@ -203,7 +209,8 @@ impl DisplayReporterBuilder {
         self.build_in(alloc, writer, Some(store), surroundings)
     }
 
-    /// A reporter to a writer, and to a store if there is one, in these surroundings. Nothing is written yet. It allocates nothing.
+    /// A reporter to a writer, and to a store if there is one, in these surroundings. Nothing is written yet. It
+    /// allocates nothing.
     ///
     /// ```
     /// use console_reporter::imp::Store;
@@ -230,8 +237,9 @@ impl DisplayReporterBuilder {
         DisplayReporter::new(alloc, writer, store, settings)
     }
 
-    /// Returns the decider, which says from an event's metadata whether the reporter refuses it and whether it needs its output. It is the decider of
-    /// the reporter that this builder builds in these surroundings, with this store. It allocates nothing.
+    /// Returns the decider, which says from an event's metadata whether the reporter refuses it and whether it needs
+    /// its output. It is the decider of the reporter that this builder builds in these surroundings, with this store.
+    /// It allocates nothing.
     ///
     /// ```
     /// let decider = builder.output_load_decider(Surroundings::default(), None);
@@ -251,7 +259,8 @@ impl DisplayReporterBuilder {
     }
 
     fn overrides(&self) -> OutputDisplayOverrides
-        ensures { result ≡ overrides_by self.now.display_config.no_capture self.now.success_output self.now.failure_output }
+        ensures { result
+            ≡ overrides_by self.now.display_config.no_capture self.now.success_output self.now.failure_output }
     {
         overrides_for(
             self.display_config.no_capture,

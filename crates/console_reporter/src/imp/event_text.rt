@@ -1,7 +1,8 @@
 //! The text of an event. Each event's own text is in the crates `test_text`, `run_text` or `info_text`.
 
 ghost use Rattle.std.specs.Prelude.{◌≡◌, None, false, nat_lt};
-ghost use Rattle.{writers.specs.Writer.Puts, run_names.specs.Levels.reason_rank, report_words.specs.Parts.paint, text_parts.specs.Script.script_of};
+ghost use Rattle.{writers.specs.Writer.Puts, run_names.specs.Levels.reason_rank, report_words.specs.Parts.paint};
+ghost use Rattle.{text_parts.specs.Script.script_of};
 ghost use Rattle.reporter_state.specs.Names.{IsFinishOf, hiding_rank, lacks_output, decider_by};
 ghost use Rattle.console_reporter.specs.Names.{known_by, end_of_run_text, event_text, listed_text, script_by};
 
@@ -52,7 +53,8 @@ pub fn write_event_text<W: WriteStr>(
 ) -> Result<(), WriteFault>
     requires finished { IsFinishOf state.now.settings (reason_rank state.now.cancel_status) event.now.kind finished }
     requires accepted { lacks_output (decider_by state.now.settings None) event.now.kind ≡ false }
-    ensures { Puts W.meaning w.old (event_text state.now.settings (known_by state.now) event.now.elapsed.0 event.now.kind) result w.new }
+    ensures { Puts W.meaning w.old
+        (event_text state.now.settings (known_by state.now) event.now.elapsed.0 event.now.kind) result w.new }
 {
     let settings = &state.settings;
     match &event.kind {
@@ -201,7 +203,11 @@ fn write_end_of_run<W: WriteStr>(
     run_stats: &RunFinishedStats,
     outstanding_not_seen: &Option<NotSeen>,
 ) -> Result<(), WriteFault>
-    ensures { Puts W.meaning w.old (paint state.now.settings.styles (end_of_run_text state.now.settings (known_by state.now) elapsed.0 run_stats.now outstanding_not_seen.now)) result w.new }
+    ensures { Puts W.meaning w.old
+        (paint state.now.settings.styles
+        (end_of_run_text state.now.settings (known_by state.now) elapsed.0 run_stats.now
+        outstanding_not_seen.now))
+        result w.new }
 {
     let settings = &state.settings;
     write_run_finished(w, settings, elapsed, run_stats)?;
@@ -212,7 +218,8 @@ fn write_end_of_run<W: WriteStr>(
 
 #[tactic(auto, unfolding(crate::specs::Report::listed_text))]
 fn write_listed<W: WriteStr>(w: &mut W, state: &ReporterState) -> Result<(), WriteFault>
-    ensures { Puts W.meaning w.old (paint state.now.settings.styles (listed_text state.now.settings (known_by state.now))) result w.new }
+    ensures { Puts W.meaning w.old
+        (paint state.now.settings.styles (listed_text state.now.settings (known_by state.now))) result w.new }
 {
     if shows_entries(state.cancel_status) {
         state.kept.write(w, &state.settings)

@@ -1,9 +1,16 @@
 //! The calls of a reporter.
 
-ghost use Rattle.console_reporter.specs.Names.{replay_header_text, Configuration, settings_of, AreAccepted, decider_of, IsExact, IsOfConsole, Stops, error_for, Report, Records, event_text, past_at, text, config_of, store_accepts, store_delivered, store_meaning, record_of, AreDelivered};
-ghost use Rattle.std.specs.Prelude.{◌≡◌, ◌≤◌, ◌⊎◌, List, [], ◌∷◌, OnOk, IfErr, IfSome, IsErrOf, Err, None, Some, length, reverse, slice_get, take, false};
-ghost use Rattle.{run_names.specs.Levels.reason_rank, run_model.specs.declared.call.ReportCall.ReportCall, report_words.specs.Parts.paint, reporter_state.specs.declared.faults.WriteEventError.WriteEventError, writers.specs.Writer.Puts, writers.specs.Writer.successor};
-ghost use Rattle.console_reporter.specs.Names.{IsSameReporter, Breaks, Promises, Tells, TellsRun, StandsAfter, HasFailed, IsSameWriter, MayGrow, known_by};
+ghost use Rattle.console_reporter.specs.Names.{replay_header_text, Configuration, settings_of, AreAccepted, decider_of};
+ghost use Rattle.console_reporter.specs.Names.{IsExact, IsOfConsole, Stops, error_for, Report, Records, event_text};
+ghost use Rattle.console_reporter.specs.Names.{past_at, text, config_of, store_accepts, store_delivered, store_meaning};
+ghost use Rattle.console_reporter.specs.Names.{record_of, AreDelivered};
+ghost use Rattle.std.specs.Prelude.{◌≡◌, ◌≤◌, ◌⊎◌, List, [], ◌∷◌, OnOk, IfErr, IfSome, IsErrOf, Err, None, Some};
+ghost use Rattle.std.specs.Prelude.{length, reverse, slice_get, take, false};
+ghost use Rattle.{run_names.specs.Levels.reason_rank, run_model.specs.declared.call.ReportCall.ReportCall};
+ghost use Rattle.{report_words.specs.Parts.paint, reporter_state.specs.declared.faults.WriteEventError.WriteEventError};
+ghost use Rattle.{writers.specs.Writer.Puts, writers.specs.Writer.successor};
+ghost use Rattle.console_reporter.specs.Names.{IsSameReporter, Breaks, Promises, Tells, TellsRun, StandsAfter};
+ghost use Rattle.console_reporter.specs.Names.{HasFailed, IsSameWriter, MayGrow, known_by};
 ghost use Rattle.reporter_state.specs.Names.{decider_by, event_refusal, refusal_in, IsFinishOf, lacks_output};
 
 use super::event_text::write_event_text;
@@ -29,8 +36,8 @@ use writers::write_str::{WriteFault, WriteStr};
 ///
 /// Each call writes and delivers the text, then writes the record and has the store deliver it.
 ///
-/// After a call that returned `Io`, `StoreIo` or `Memory` the reporter has failed: every later call returns `Failed` and changes
-/// nothing. What each call promises is one record, `Promises` in specs/Telling.antt.
+/// After a call that returned `Io`, `StoreIo` or `Memory` the reporter has failed: every later call returns `Failed`
+/// and changes nothing. What each call promises is one record, `Promises` in specs/Telling.antt.
 ///
 /// ```
 /// let mut reporter = builder.build_for(alloc, &mut out, Surroundings::default());
@@ -46,7 +53,8 @@ pub struct DisplayReporter<'a, W, S> {
     pub(super) state: ReporterState,
 }
 
-/// A reporter without a store, which [`DisplayReporterBuilder::build_for`](super::DisplayReporterBuilder::build_for) makes.
+/// A reporter without a store, which [`DisplayReporterBuilder::build_for`](super::DisplayReporterBuilder::build_for)
+/// makes.
 pub type ConsoleReporter<'a, W> = DisplayReporter<'a, W, String>;
 
 impl<'a, W: WriteStr, S: WriteStr> DisplayReporter<'a, W, S> {
@@ -60,7 +68,8 @@ impl<'a, W: WriteStr, S: WriteStr> DisplayReporter<'a, W, S> {
         ensures same_reference { result.writer.ghost_name ≡ writer.entry.ghost_name }
         ensures untouched { result.writer.now ≡ writer.old }
         ensures store { result.store ≡ store.entry }
-        ensures stands { (config : Configuration) → settings ≡ settings_of config → config_of store.entry ≡ config.store → StandsAfter config [] result }
+        ensures stands { (config : Configuration) → settings ≡ settings_of config
+            → config_of store.entry ≡ config.store → StandsAfter config [] result }
     {
         DisplayReporter {
             writer,
@@ -69,11 +78,11 @@ impl<'a, W: WriteStr, S: WriteStr> DisplayReporter<'a, W, S> {
         }
     }
 
-    /// Returns the decider, which says from an event's metadata whether the reporter refuses it and whether it needs its output. It depends
-    /// on the reporter's configuration only: no call changes it, not even one that failed.
+    /// Returns the decider, which says from an event's metadata whether the reporter refuses it and whether it needs
+    /// its output. It depends on the reporter's configuration only: no call changes it, not even one that failed.
     ///
-    /// No output that it skips changes a report or what is stored. In a run that ends, and is not cancelled immediately,
-    /// every output that it loads does.
+    /// No output that it skips changes a report or what is stored. In a run that ends, and is not cancelled
+    /// immediately, every output that it loads does.
     ///
     /// ```
     /// let decider = reporter.output_load_decider();
@@ -81,7 +90,8 @@ impl<'a, W: WriteStr, S: WriteStr> DisplayReporter<'a, W, S> {
     /// ```
     pub fn output_load_decider(&self) -> OutputLoadDecider
         ensures decider { result ≡ decider_by self.now.state.settings (config_of self.now.store) }
-        ensures stands { (config : Configuration) (past : List ReportCall) → StandsAfter config past self.now → result ≡ decider_of config }
+        ensures stands { (config : Configuration) (past : List ReportCall) → StandsAfter config past self.now
+            → result ≡ decider_of config }
         ensures exactness { (config : Configuration) → decider_of config ≡ result → IsExact config result }
     {
         let store = self.store_config();
@@ -127,10 +137,13 @@ impl<'a, W: WriteStr, S: WriteStr> DisplayReporter<'a, W, S> {
     // The error of a call that does nothing: the reporter has failed, or the event is refused.
     #[inline(always)]
     fn early_error(&self, event: &TestEvent<'_>) -> Option<WriteEventError>
-        ensures kept { IfSome result (λ e. Promises W.meaning S.meaning self.now (Some (ReportCall.Event event.now)) (Err e) self.now) }
+        ensures kept { IfSome result
+            (λ e. Promises W.meaning S.meaning self.now (Some (ReportCall.Event event.now)) (Err e) self.now) }
         ensures works { result ≡ None → self.now.state.has_failed ≡ false }
-        ensures accepted { result ≡ None → event_refusal (decider_by self.now.state.settings (config_of self.now.store)) event.now.kind ≡ None }
-        ensures loaded { result ≡ None → lacks_output (decider_by self.now.state.settings (config_of self.now.store)) event.now.kind ≡ false }
+        ensures accepted { result ≡ None
+            → event_refusal (decider_by self.now.state.settings (config_of self.now.store)) event.now.kind ≡ None }
+        ensures loaded { result ≡ None
+            → lacks_output (decider_by self.now.state.settings (config_of self.now.store)) event.now.kind ≡ false }
     {
         if self.state.has_failed {
             return Some(WriteEventError::Failed);
@@ -140,9 +153,11 @@ impl<'a, W: WriteStr, S: WriteStr> DisplayReporter<'a, W, S> {
 
     #[inline(always)]
     fn refusal_of(&self, event: &TestEvent<'_>) -> Option<WriteEventError>
-        ensures refusal { result ≡ event_refusal (decider_by self.now.state.settings (config_of self.now.store)) event.now.kind }
+        ensures refusal { result
+            ≡ event_refusal (decider_by self.now.state.settings (config_of self.now.store)) event.now.kind }
         ensures told { IfSome result (λ e. refusal_in e ≡ Some e) }
-        ensures accepted { result ≡ None → lacks_output (decider_by self.now.state.settings (config_of self.now.store)) event.now.kind ≡ false }
+        ensures accepted { result ≡ None
+            → lacks_output (decider_by self.now.state.settings (config_of self.now.store)) event.now.kind ≡ false }
     {
         let decider = self.output_load_decider();
         decider.refusal_of(event)
@@ -153,7 +168,8 @@ impl<'a, W: WriteStr, S: WriteStr> DisplayReporter<'a, W, S> {
         ensures same { IsSameReporter self.old self.new }
         ensures ok { OnOk result (Tells W.meaning S.meaning self.old (Some (ReportCall.Event event.now)) self.new) }
         ensures delivered { OnOk result (AreDelivered W.meaning S.meaning self.new) }
-        ensures err { IfErr result (λ e. Breaks W.meaning S.meaning self.old (Some (ReportCall.Event event.now)) e self.new) }
+        ensures err { IfErr result
+            (λ e. Breaks W.meaning S.meaning self.old (Some (ReportCall.Event event.now)) e self.new) }
         ensures unrefused { IfErr result (λ e. refusal_in e ≡ None) }
     {
         if let Err(error) = self.report(event) {
@@ -172,12 +188,16 @@ impl<'a, W: WriteStr, S: WriteStr> DisplayReporter<'a, W, S> {
         ensures same_writer { IsSameWriter self.old self.new }
         ensures store { self.new.store ≡ self.old.store }
         ensures settings { self.new.state.settings ≡ self.old.state.settings }
-        ensures accepted { OnOk result ((config : Configuration) (past : List ReportCall) → StandsAfter config past self.old →
-            W.meaning.accepts self.old.writer.now (text config past (ReportCall.Event event.now)) self.new.writer.now) }
-        ensures stands { OnOk result ((config : Configuration) (past : List ReportCall) → StandsAfter config past self.old →
-            StandsAfter config (ReportCall.Event event.now ∷ past) self.new) }
+        ensures accepted { OnOk result
+            ((config : Configuration) (past : List ReportCall) → StandsAfter config past self.old
+            → W.meaning.accepts self.old.writer.now (text config past (ReportCall.Event event.now))
+            self.new.writer.now) }
+        ensures stands { OnOk result
+            ((config : Configuration) (past : List ReportCall) → StandsAfter config past self.old
+            → StandsAfter config (ReportCall.Event event.now ∷ past) self.new) }
         ensures delivered { OnOk result (W.meaning.is_delivered self.new.writer.now) }
-        ensures err { IfErr result (λ e. Breaks W.meaning S.meaning self.old (Some (ReportCall.Event event.now)) e self.new) }
+        ensures err { IfErr result
+            (λ e. Breaks W.meaning S.meaning self.old (Some (ReportCall.Event event.now)) e self.new) }
         ensures unrefused { IfErr result (λ e. refusal_in e ≡ None) }
     {
         match &event.kind {
@@ -208,20 +228,28 @@ impl<'a, W: WriteStr, S: WriteStr> DisplayReporter<'a, W, S> {
         event: &TestEvent<'_>,
         finished: Option<&FinishedAttempts<'_, '_>>,
     ) -> Result<(), WriteEventError>
-        requires finished { IsFinishOf self.old.state.settings (reason_rank self.old.state.cancel_status) event.now.kind finished }
+        requires finished { IsFinishOf self.old.state.settings (reason_rank self.old.state.cancel_status)
+            event.now.kind finished }
         requires accepted { lacks_output (decider_by self.old.state.settings None) event.now.kind ≡ false }
         ensures same_writer { IsSameWriter self.old self.new }
         ensures store { self.new.store ≡ self.old.store }
         ensures settings { self.new.state.settings ≡ self.old.state.settings }
-        ensures accepted { OnOk result ((config : Configuration) (past : List ReportCall) → StandsAfter config past self.old →
-            W.meaning.accepts self.old.writer.now (text config past (ReportCall.Event event.now)) self.new.writer.now) }
-        ensures stands { OnOk result ((config : Configuration) (past : List ReportCall) → StandsAfter config past self.old →
-            StandsAfter config (ReportCall.Event event.now ∷ past) self.new) }
+        ensures accepted { OnOk result
+            ((config : Configuration) (past : List ReportCall) → StandsAfter config past self.old
+            → W.meaning.accepts self.old.writer.now (text config past (ReportCall.Event event.now))
+            self.new.writer.now) }
+        ensures stands { OnOk result
+            ((config : Configuration) (past : List ReportCall) → StandsAfter config past self.old
+            → StandsAfter config (ReportCall.Event event.now ∷ past) self.new) }
         ensures delivered { OnOk result (W.meaning.is_delivered self.new.writer.now) }
-        ensures err { IfErr result (λ e. (config : Configuration) (past : List ReportCall) → StandsAfter config past self.old →
-            Stops Report W.meaning self.old.writer.now (text config past (ReportCall.Event event.now)) e self.new.writer.now) }
-        ensures io { IsErrOf result WriteEventError.Io → W.meaning.failures self.new.writer.now ≡ successor (W.meaning.failures self.old.writer.now) }
-        ensures memory { IsErrOf result WriteEventError.Memory → W.meaning.may_refuse self.old.writer.now ⊎ MayGrow self.old event.now }
+        ensures err { IfErr result
+            (λ e. (config : Configuration) (past : List ReportCall) → StandsAfter config past self.old
+            → Stops Report W.meaning self.old.writer.now (text config past (ReportCall.Event event.now)) e
+            self.new.writer.now) }
+        ensures io { IsErrOf result WriteEventError.Io
+            → W.meaning.failures self.new.writer.now ≡ successor (W.meaning.failures self.old.writer.now) }
+        ensures memory { IsErrOf result WriteEventError.Memory
+            → W.meaning.may_refuse self.old.writer.now ⊎ MayGrow self.old event.now }
         ensures of_console { IfErr result IsOfConsole }
         ensures unrefused { IfErr result (λ e. refusal_in e ≡ None) }
     {
@@ -238,7 +266,8 @@ impl<'a, W: WriteStr, S: WriteStr> DisplayReporter<'a, W, S> {
         ensures same { IsSameReporter self.old self.new }
         ensures writer { self.new.writer.now ≡ self.old.writer.now }
         ensures state { self.new.state ≡ self.old.state }
-        ensures text { Puts (store_meaning S.meaning) self.old.store (record_of (config_of self.old.store) event.now.kind) result self.new.store }
+        ensures text { Puts (store_meaning S.meaning) self.old.store
+            (record_of (config_of self.old.store) event.now.kind) result self.new.store }
         ensures delivered { OnOk result (store_delivered S.meaning self.new.store) }
     {
         match &mut self.store {
@@ -288,8 +317,8 @@ impl<'a, W: WriteStr, S: WriteStr> DisplayReporter<'a, W, S> {
         }
     }
 
-    /// Takes the unique prefix of the run's id, which later starts of a run show. It allocates nothing and writes nothing, and a reporter
-    /// that has failed does not change.
+    /// Takes the unique prefix of the run's id, which later starts of a run show. It allocates nothing and writes
+    /// nothing, and a reporter that has failed does not change.
     ///
     /// ```
     /// use console_reporter::model::run_id::ShortestRunIdPrefix;
@@ -406,11 +435,16 @@ impl<'a, W: WriteStr, S: WriteStr> DisplayReporter<'a, W, S> {
         ensures same { IsSameReporter self.old self.new }
         ensures ok { OnOk result (TellsRun W.meaning S.meaning self.old (reverse calls.now) self.new) }
         ensures delivered { OnOk result (AreDelivered W.meaning S.meaning self.new) }
-        ensures accepted { OnOk result ((config : Configuration) → StandsAfter config [] self.old → AreAccepted config calls.now) }
+        ensures accepted { OnOk result
+            ((config : Configuration) → StandsAfter config [] self.old → AreAccepted config calls.now) }
         ensures position { IfErr result (λ stop. stop.position ≤ length calls.now) }
-        ensures accepted_before { IfErr result (λ stop. (config : Configuration) → StandsAfter config [] self.old → AreAccepted config (take stop.position calls.now)) }
+        ensures accepted_before { IfErr result
+            (λ stop. (config : Configuration) → StandsAfter config [] self.old
+            → AreAccepted config (take stop.position calls.now)) }
         // The calls before the position succeeded, and the call at it, or past the last one the end, did not.
-        ensures err { IfErr result (λ stop. (mid : DisplayReporter W S) × TellsRun W.meaning S.meaning self.old (past_at calls.now stop.position) mid
+        ensures err { IfErr result
+            (λ stop. (mid : DisplayReporter W S)
+            × TellsRun W.meaning S.meaning self.old (past_at calls.now stop.position) mid
             × Promises W.meaning S.meaning mid (slice_get calls.now stop.position) (Err stop.fault) self.new
             × (AreDelivered W.meaning S.meaning self.old → AreDelivered W.meaning S.meaning mid)) }
     {
@@ -496,7 +530,8 @@ fn write_delivered<W: WriteStr>(
 ) -> Result<(), WriteFault>
     requires finished { IsFinishOf state.now.settings (reason_rank state.now.cancel_status) event.now.kind finished }
     requires accepted { lacks_output (decider_by state.now.settings None) event.now.kind ≡ false }
-    ensures text { Puts W.meaning w.old (event_text state.now.settings (known_by state.now) event.now.elapsed.0 event.now.kind) result w.new }
+    ensures text { Puts W.meaning w.old
+        (event_text state.now.settings (known_by state.now) event.now.elapsed.0 event.now.kind) result w.new }
     ensures delivered { OnOk result (W.meaning.is_delivered w.new) }
 {
     write_event_text(w, state, event, finished)?;

@@ -12,12 +12,12 @@ use std::alloc::Global;
 use store_text::config::StoreConfig;
 use writers::write_str::WriteStr;
 
-/// Makes the calls in order with a new reporter, ends the report, and stops at the first fault. What it promises is one record, `Runs`
-/// in specs/Runs.antt.
+/// Makes the calls in order with a new reporter, ends the report, and stops at the first fault. What it promises is one
+/// record, `Runs` in specs/Runs.antt.
 ///
-/// On `Ok` the writer has accepted the report of the calls and delivered it. On an error at position `i` it has accepted and delivered the
-/// report of the calls before `i`, if it held nothing back before, and accepted a prefix of the text of call `i`. A refusal is of the first
-/// call that is not accepted, and nothing of that call was written.
+/// On `Ok` the writer has accepted the report of the calls and delivered it. On an error at position `i` it has
+/// accepted and delivered the report of the calls before `i`, if it held nothing back before, and accepted a prefix of
+/// the text of call `i`. A refusal is of the first call that is not accepted, and nothing of that call was written.
 ///
 /// ```
 /// run_report(alloc, builder, &mut out, true, false, false, false, &calls)?;
@@ -38,7 +38,8 @@ pub fn run_report<W: WriteStr>(
     display_empty_outputs: bool,
     calls: &[ReportCall<'_>],
 ) -> Result<(), RunFault>
-    ensures { Runs W.meaning absent (configured builder use_unicode is_terminal is_ci display_empty_outputs) calls.now (writer.old, tt) result (writer.new, tt) }
+    ensures { Runs W.meaning absent (configured builder use_unicode is_terminal is_ci display_empty_outputs) calls.now
+        (writer.old, tt) result (writer.new, tt) }
 {
     let mut reporter = builder.build(
         alloc,
@@ -62,13 +63,13 @@ pub fn run_report<W: WriteStr>(
 
 /// Makes the calls in order with a new reporter with a store, ends the report, and stops at the first fault.
 ///
-/// It promises what [`run_report`] does. On `Ok` the second writer has accepted the records of the calls and delivered them; on an error at
-/// position `i` those of the calls before `i` and a prefix of the record of call `i`. No byte of that record was written before the whole
-/// text of its call was delivered: after `StoreIo` the first writer has that text, after `Io` the second has the records of the calls before
-/// and no more.
+/// It promises what [`run_report`] does. On `Ok` the second writer has accepted the records of the calls and delivered
+/// them; on an error at position `i` those of the calls before `i` and a prefix of the record of call `i`. No byte of
+/// that record was written before the whole text of its call was delivered: after `StoreIo` the first writer has that
+/// text, after `Io` the second has the records of the calls before and no more.
 ///
-/// No record is held in memory. `Memory` comes from either writer, or if the call's test is kept for the summary or a prefix is
-/// copied.
+/// No record is held in memory. `Memory` comes from either writer, or if the call's test is kept for the summary or a
+/// prefix is copied.
 ///
 /// ```
 /// let mut records = String::new(alloc);
@@ -92,7 +93,9 @@ pub fn run_report_with_store<W: WriteStr, S: WriteStr>(
     display_empty_outputs: bool,
     calls: &[ReportCall<'_>],
 ) -> Result<(), RunFault>
-    ensures { Runs W.meaning S.meaning (configured_with_store store builder use_unicode is_terminal is_ci display_empty_outputs) calls.now (writer.old, store_writer.old) result (writer.new, store_writer.new) }
+    ensures { Runs W.meaning S.meaning
+        (configured_with_store store builder use_unicode is_terminal is_ci display_empty_outputs) calls.now
+        (writer.old, store_writer.old) result (writer.new, store_writer.new) }
 {
     let mut reporter = builder.build_with_store(
         alloc,

@@ -42,7 +42,8 @@ impl<'a, S: WriteStr> Store<'a, S> {
     pub fn deliver_record(&mut self, event: &TestEvent<'_>) -> Result<(), WriteFault>
         ensures same { self.new.writer.ghost_name ≡ self.old.writer.ghost_name }
         ensures config { self.new.config ≡ self.old.config }
-        ensures text { Puts S.meaning self.old.writer.now (record_of (Some self.old.config) event.now.kind) result self.new.writer.now }
+        ensures text { Puts S.meaning self.old.writer.now (record_of (Some self.old.config) event.now.kind) result
+            self.new.writer.now }
         ensures delivered { OnOk result (S.meaning.is_delivered self.new.writer.now) }
     {
         write_record_of(self.writer, self.config, event)?;

@@ -1,31 +1,40 @@
--- A recorded run as it is replayed, and with every output in its place: the events are the same but for outputs that are not loaded (for
--- `RecordedRun::replay`).
-use Rattle.std.proofs.Common.{◌≡◌, ◌⊎◌, ℕ, Bool, true, false, List, [], ◌∷◌, map, Option, None, Some, Result, Ok, Err, refl, sym, ap, ◌∙◌, subst, inl, inr, if◌then◌else◌}
-use Rattle.{std.specs.List.AllZip, reporter_state.specs.declared.decider.OutputLoadDecider.OutputLoadDecider, scenes.proofs.lemmas.ReadLines.config_kept}
-use Rattle.{std.proofs.lemmas.Bool.cases_Bool, std.proofs.lemmas.Bool.false≢true, std.proofs.lemmas.Slice.Zip.all_zipped_more, scenes.specs.Names.Options, scenes.specs.Names.decider_for}
-use Rattle.recorded.specs.Names.{event_inline, event_replayed, first_field_not, is_there, is_undamaged, unless_bad, wanted_of, skips, line_inline, line_replayed}
-use Rattle.scene_reader.specs.Names.{PlacedOutput, SceneEvent, LineFault, AllRead, ParsedLines, event_line, is_begun, line_read, lines_before, lines_with, recorded_line, with_line, with_made}
+-- A recorded run as it is replayed, and with every output in its place: the events are the same but for outputs that
+-- are not loaded (for `RecordedRun::replay`).
+use Rattle.std.proofs.Common.{◌≡◌, ◌⊎◌, ℕ, Bool, true, false, List, [], ◌∷◌, map, Option, None, Some, Result, Ok, Err}
+use Rattle.std.proofs.Common.{refl, sym, ap, ◌∙◌, subst, inl, inr, if◌then◌else◌}
+use Rattle.{std.specs.List.AllZip, reporter_state.specs.declared.decider.OutputLoadDecider.OutputLoadDecider}
+use Rattle.{scenes.proofs.lemmas.ReadLines.config_kept}
+use Rattle.{std.proofs.lemmas.Bool.cases_Bool, std.proofs.lemmas.Bool.false≢true}
+use Rattle.{std.proofs.lemmas.Slice.Zip.all_zipped_more, scenes.specs.Names.Options, scenes.specs.Names.decider_for}
+use Rattle.recorded.specs.Names.{event_inline, event_replayed, first_field_not, is_there, is_undamaged, unless_bad}
+use Rattle.recorded.specs.Names.{wanted_of, skips, line_inline, line_replayed}
+use Rattle.scene_reader.specs.Names.{PlacedOutput, SceneEvent, LineFault, AllRead, ParsedLines, event_line, is_begun}
+use Rattle.scene_reader.specs.Names.{line_read, lines_before, lines_with, recorded_line, with_line, with_made}
 use Rattle.scene_reader.specs.declared.reader.ParsedLine.TheVariants.{ConfigLine, EventLine, NoEvent}
 use Rattle.scene_reader.specs.declared.reader.ParsedLine.{ParsedLine}
 
--- an event with every output in its place: the decider skips those of the one that is replayed, or that one has those in it that are loaded
+-- an event with every output in its place: the decider skips those of the one that is replayed, or that one has those
+-- in it that are loaded
 abbrev pub IsInline : List ℕ → OutputLoadDecider → SceneEvent → SceneEvent → Type 0
 IsInline all d replayed inline =
     ((stored : List PlacedOutput) × (skips d replayed ≡ true) × (inline ≡ event_inline all stored replayed))
-    ⊎ ((event : SceneEvent) × (stored : List PlacedOutput) × (skips d event ≡ false) × (replayed ≡ event_inline all (wanted_of event stored) event) × (inline ≡ event_inline all stored event))
+    ⊎ ((event : SceneEvent) × (stored : List PlacedOutput) × (skips d event ≡ false)
+    × (replayed ≡ event_inline all (wanted_of event stored) event) × (inline ≡ event_inline all stored event))
 
 -- lines
 pub record AreInline (options : Options) (all : List ℕ) (replayed inline : ParsedLines) : Type 0 where
   pub config : inline.config ≡ replayed.config
   pub events : AllZip (IsInline all (decider_for options replayed.config)) replayed.events inline.events
 
-same_begun : (R : SceneEvent → SceneEvent → Type 0) (es fs : List SceneEvent) → AllZip R es fs → is_begun fs ≡ is_begun es
+same_begun : (R : SceneEvent → SceneEvent → Type 0) (es fs : List SceneEvent) → AllZip R es fs
+    → is_begun fs ≡ is_begun es
 same_begun R [] [] h = refl
 same_begun R [] (f ∷ fs) h = absurd h
 same_begun R (e ∷ es) [] h = absurd h
 same_begun R (e ∷ es) (f ∷ fs) h = refl
 
-none_zipped : (R Q : SceneEvent → SceneEvent → Type 0) (es fs : List SceneEvent) → is_begun es ≡ false → AllZip R es fs → AllZip Q es fs
+none_zipped : (R Q : SceneEvent → SceneEvent → Type 0) (es fs : List SceneEvent) → is_begun es ≡ false → AllZip R es fs
+    → AllZip Q es fs
 none_zipped R Q [] [] none h = tt
 none_zipped R Q [] (f ∷ fs) none h = absurd h
 none_zipped R Q (e ∷ es) fs none h = absurd (false≢true (sym none))
@@ -33,7 +42,9 @@ none_zipped R Q (e ∷ es) fs none h = absurd (false≢true (sym none))
 -- what is made of an event
 module _ (all : List ℕ) (d : OutputLoadDecider) (stored : List PlacedOutput) (event made : SceneEvent) where
   made_so : (bad : Option ℕ) (skipped : Bool) → skips d event ≡ skipped → (damaged : Option ℕ) →
-      unless_bad bad (if skipped then Ok event else unless_bad damaged (Ok (event_inline all (wanted_of event stored) event))) ≡ Ok made → IsInline all d made (event_inline all stored event)
+      unless_bad bad (if skipped then Ok event else unless_bad damaged
+      (Ok (event_inline all (wanted_of event stored) event))) ≡ Ok made
+      → IsInline all d made (event_inline all stored event)
   made_so (Some field) skipped is damaged h = absurd (cc)
   made_so None true is damaged h =
       let same : event ≡ made = cc in
@@ -45,28 +56,35 @@ module _ (all : List ℕ) (d : OutputLoadDecider) (stored : List PlacedOutput) (
 
   pub is_inline : event_replayed all d stored event ≡ Ok made → IsInline all d made (event_inline all stored event)
   unfolding event_replayed
-  is_inline h = made_so (first_field_not (is_there all) stored) (skips d event) refl (first_field_not (is_undamaged all) (wanted_of event stored)) h
+  is_inline h = made_so (first_field_not (is_there all) stored) (skips d event) refl
+      (first_field_not (is_undamaged all) (wanted_of event stored)) h
 
 module _ (options : Options) (all : List ℕ) where
   -- one line of both
-  module _ (replayed inline after : ParsedLines) (are : AreInline options all replayed inline) (t : List ℕ) (reads : line_read replayed (line_replayed options all t) ≡ Ok after) where
+  module _ (replayed inline after : ParsedLines) (are : AreInline options all replayed inline) (t : List ℕ)
+      (reads : line_read replayed (line_replayed options all t) ≡ Ok after) where
     abbrev d : OutputLoadDecider
     d = decider_for options replayed.config
 
-    line_made : (stored : List PlacedOutput) (e : SceneEvent) (r : Result SceneEvent LineFault) → event_replayed all d stored e ≡ r → lines_with replayed (event_line r) ≡ Ok after →
+    line_made : (stored : List PlacedOutput) (e : SceneEvent) (r : Result SceneEvent LineFault)
+        → event_replayed all d stored e ≡ r → lines_with replayed (event_line r) ≡ Ok after →
         AreInline options all after (with_line inline (EventLine (event_inline all stored e)))
     line_made stored e (Ok made) is h =
         let same : with_line replayed (EventLine made) ≡ after = cc in
         subst (λ x. AreInline options all x (with_line inline (EventLine (event_inline all stored e)))) same (record {
           config = are.config;
-          events = all_zipped_more (IsInline all d) replayed.events inline.events made (event_inline all stored e) are.events (is_inline all d stored e made is);
+          events = all_zipped_more (IsInline all d) replayed.events inline.events made (event_inline all stored e)
+              are.events (is_inline all d stored e made is);
         })
     line_made stored e (Err f) is h = absurd (cc)
 
     -- by what the line says
-    line_goes : (says : Result (ParsedLine × List PlacedOutput) LineFault) → lines_with replayed (with_made (λ stored e. event_replayed all d stored e) says) ≡ Ok after →
-        (next : ParsedLines) × (lines_with inline (with_made (λ stored e. Ok (event_inline all stored e)) says) ≡ Ok next) × AreInline options all after next
-    line_goes (Ok (NoEvent, stored)) h = (inline, refl, (let same : replayed ≡ after = cc in subst (λ x. AreInline options all x inline) same are))
+    line_goes : (says : Result (ParsedLine × List PlacedOutput) LineFault)
+        → lines_with replayed (with_made (λ stored e. event_replayed all d stored e) says) ≡ Ok after →
+        (next : ParsedLines) × (lines_with inline (with_made (λ stored e. Ok (event_inline all stored e)) says)
+        ≡ Ok next) × AreInline options all after next
+    line_goes (Ok (NoEvent, stored)) h =
+        (inline, refl, (let same : replayed ≡ after = cc in subst (λ x. AreInline options all x inline) same are))
     line_goes (Ok (ConfigLine c, stored)) h =
         let same : with_line replayed (ConfigLine c) ≡ after = cc in (
           with_line inline (ConfigLine c),
@@ -75,24 +93,38 @@ module _ (options : Options) (all : List ℕ) where
             config = refl;
             events = elim (cases_Bool (is_begun replayed.events)) [
               | inl begun ↦
-                  let kept : c ≡ replayed.config = ap (λ x. x.config) same ∙ config_kept replayed (line_replayed options all t ∷ []) after begun (after, reads, refl) in
-                  subst (λ k. AllZip (IsInline all (decider_for options k)) replayed.events inline.events) (sym kept) are.events
+                  let kept : c ≡ replayed.config = ap (λ x. x.config) same
+                  ∙ config_kept replayed (line_replayed options all t ∷ []) after begun (after, reads, refl) in
+                  subst (λ k. AllZip (IsInline all (decider_for options k)) replayed.events inline.events) (sym kept)
+                  are.events
               | inr none ↦ none_zipped _ _ replayed.events inline.events none are.events
             ];
           }),
         )
-    line_goes (Ok (EventLine e, stored)) h = (with_line inline (EventLine (event_inline all stored e)), refl, line_made stored e (event_replayed all d stored e) refl h)
+    line_goes (Ok (EventLine e, stored)) h = (
+      with_line inline (EventLine (event_inline all stored e)),
+      refl,
+      line_made stored e
+          (event_replayed all d stored e) refl h,
+    )
     line_goes (Err f) h = absurd (cc)
 
     goes : (next : ParsedLines) × (line_read inline (line_inline all t) ≡ Ok next) × AreInline options all after next
     unfolding line_read
     goes =
-        let same_before : lines_before inline ≡ lines_before replayed = rw (are.config, same_begun _ replayed.events inline.events are.events) refl in
-        let next = line_goes (recorded_line (lines_before replayed) t) reads in
-        (next.0, ap (λ b. lines_with inline (with_made (λ stored e. Ok (event_inline all stored e)) (recorded_line b t))) same_before ∙ next.1, next.2)
+        let same_before : lines_before inline ≡ lines_before replayed = rw
+        (are.config, same_begun _ replayed.events inline.events are.events) refl in
+        let next = line_goes (recorded_line (lines_before replayed) t) reads in (
+          next.0,
+          ap (λ b. lines_with inline
+              (with_made (λ stored e. Ok (event_inline all stored e)) (recorded_line b t))) same_before
+              ∙ next.1,
+          next.2,
+        )
 
   -- all lines
-  pub go_on : (ts : List (List ℕ)) (replayed inline run : ParsedLines) → AreInline options all replayed inline → AllRead replayed (map (line_replayed options all) ts) run →
+  pub go_on : (ts : List (List ℕ)) (replayed inline run : ParsedLines) → AreInline options all replayed inline
+      → AllRead replayed (map (line_replayed options all) ts) run →
       (next : ParsedLines) × AllRead inline (map (line_inline all) ts) next × AreInline options all run next
   go_on [] replayed inline run are h = (inline, refl, subst (λ x. AreInline options all x inline) h are)
   go_on (t ∷ ts) replayed inline run are h =

@@ -1,21 +1,28 @@
 -- What was loaded of an output is what is at its positions.
 use Rattle.std.proofs.Common.{◌≡◌, ℕ, List, Option, None, Some, IfSome, Ok, ap, ◌∙◌, arith}
-use Rattle.scene_reader.specs.Names.{ChildOutputDescription, Reference, PlacedOutput, StoredOutput, StoredStream, event_with, SceneEvent}
-use Rattle.recorded.specs.Names.{bytes_at, stream_at, IsCaptured, captured_at, captured_stream_at, output_inline, stream_inline}
+use Rattle.scene_reader.specs.Names.{ChildOutputDescription, Reference, PlacedOutput, StoredOutput, StoredStream}
+use Rattle.scene_reader.specs.Names.{event_with, SceneEvent}
+use Rattle.recorded.specs.Names.{bytes_at, stream_at, IsCaptured, captured_at, captured_stream_at, output_inline}
+use Rattle.recorded.specs.Names.{stream_inline}
 
 -- the bytes of a reference, a stream, and both streams, apart or together
 loaded-bytes : (all : List ℕ) (r : Reference) (bytes : List ℕ) → stream_at all r ≡ Some bytes → bytes ≡ bytes_at all r
 unfolding stream_at
 loaded-bytes all r bytes is = grind arith
 
-loaded-stream : (all : List ℕ) (s : StoredStream) (x : Option (List ℕ)) → captured_stream_at all s ≡ Some x → x ≡ stream_inline all s
+loaded-stream : (all : List ℕ) (s : StoredStream) (x : Option (List ℕ)) → captured_stream_at all s ≡ Some x
+    → x ≡ stream_inline all s
 loaded-stream all s x is = grind (arith, loaded-bytes)
 
-loaded-output : (all : List ℕ) (o : StoredOutput) (loaded : ChildOutputDescription) → captured_at all o ≡ Some loaded → loaded ≡ output_inline all o
+loaded-output : (all : List ℕ) (o : StoredOutput) (loaded : ChildOutputDescription) → captured_at all o ≡ Some loaded
+    → loaded ≡ output_inline all o
 loaded-output all o loaded is = grind (arith, loaded-bytes, loaded-stream)
 
 -- what was loaded is put into the event
-pub loaded-event : (known : Option (List ℕ)) (p : PlacedOutput) (loaded : ChildOutputDescription) (old new : SceneEvent) → IfSome known (λ all. IsCaptured all p.output (Ok loaded)) →
-    new ≡ event_with p.place loaded old → IfSome known (λ all. new ≡ event_with p.place (output_inline all p.output) old)
+pub loaded-event : (known : Option (List ℕ)) (p : PlacedOutput) (loaded : ChildOutputDescription) (old new : SceneEvent)
+    → IfSome known (λ all. IsCaptured all p.output (Ok loaded)) →
+    new ≡ event_with p.place loaded old
+    → IfSome known (λ all. new ≡ event_with p.place (output_inline all p.output) old)
 loaded-event None p loaded old new is with = tt
-loaded-event (Some all) p loaded old new is with = with ∙ ap (λ l. event_with p.place l old) (loaded-output all p.output loaded is)
+loaded-event (Some all) p loaded old new is with = with
+    ∙ ap (λ l. event_with p.place l old) (loaded-output all p.output loaded is)

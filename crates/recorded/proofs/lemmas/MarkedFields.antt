@@ -1,7 +1,11 @@
 -- What a reference begins with begins no value of any other kind of field.
-use Rattle.scene_reader.specs.Names.{in_turn, skips_in, stats_in, code_in, nanos_in, number_in, after_mark, mark, reference_in, result_in, cut, split_on, stress_in, highlight_in, moment_in, progress_in}
-use Rattle.std.proofs.Common.{◌≡◌, ℕ, List, [], ◌∷◌, true, false, drop, refl, arith, Option, None, inl, inr, ◌⊎◌, nat_eq}
-use Rattle.{std.specs.List.list_all, std.specs.List.starts_with, std.specs.Option.option_flatten, scene_reader.specs.Names.result_or_none_in, scene_reader.specs.Names.state_in}
+use Rattle.scene_reader.specs.Names.{in_turn, skips_in, stats_in, code_in, nanos_in, number_in, after_mark, mark}
+use Rattle.scene_reader.specs.Names.{reference_in, result_in, cut, split_on, stress_in, highlight_in, moment_in}
+use Rattle.scene_reader.specs.Names.{progress_in}
+use Rattle.std.proofs.Common.{◌≡◌, ℕ, List, [], ◌∷◌, true, false, drop, refl, arith, Option, None, inl, inr, ◌⊎◌}
+use Rattle.std.proofs.Common.{nat_eq}
+use Rattle.{std.specs.List.list_all, std.specs.List.starts_with, std.specs.Option.option_flatten}
+use Rattle.{scene_reader.specs.Names.result_or_none_in, scene_reader.specs.Names.state_in}
 use Rattle.std.proofs.lemmas.Bool.{and_right, cases_Bool, Decides.nat_tests}
 use Rattle.uuid.specs.Text.{by_index, digits_of, is_hex_digit, parsed, parsed_hyphenated, parsed_simple}
 

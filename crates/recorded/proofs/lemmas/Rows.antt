@@ -1,10 +1,14 @@
--- Worked rows: what the definitions say of outputs that are written out, what a replay makes of a setup script whose output is stored, and a
--- text whose outputs are spelled out.
+-- Worked rows: what the definitions say of outputs that are written out, what a replay makes of a setup script whose
+-- output is stored, and a text whose outputs are spelled out.
 use Rattle.std.proofs.Common.{◌≡◌, ℕ, List, [], ◌∷◌, ◌++◌, codes, true, false, refl, None, Some, Ok, Err}
-use Rattle.{hex.proofs.OnLiterals.hex_on_literals, console_reporter.specs.Names.OutputLoadDecider, run_model.specs.Names.attempt_with_output, run_model.specs.Names.is_success}
-use Rattle.scene_fields.specs.declared.{fault.LineFault.TheVariants.BadField, stored.StoredOutput.TheVariants.Split, stored.StoredOutput.TheVariants.Combined}
-use Rattle.recorded.specs.Names.{captured_at, counted_output, event_replayed, outputs_len, stream_at, line_spelled, scene_spelled, tabbed}
-use Rattle.scene_reader.specs.Names.{SetupFinish, number_in, after_mark, reference_in, sum_in, sum_of, cut, split_on, Reference, PlacedOutput}
+use Rattle.{hex.proofs.OnLiterals.hex_on_literals, console_reporter.specs.Names.OutputLoadDecider}
+use Rattle.{run_model.specs.Names.attempt_with_output, run_model.specs.Names.is_success}
+use Rattle.scene_fields.specs.declared.{fault.LineFault.TheVariants.BadField, stored.StoredOutput.TheVariants.Split}
+use Rattle.scene_fields.specs.declared.{stored.StoredOutput.TheVariants.Combined}
+use Rattle.recorded.specs.Names.{captured_at, counted_output, event_replayed, outputs_len, stream_at, line_spelled}
+use Rattle.recorded.specs.Names.{scene_spelled, tabbed}
+use Rattle.scene_reader.specs.Names.{SetupFinish, number_in, after_mark, reference_in, sum_in, sum_of, cut, split_on}
+use Rattle.scene_reader.specs.Names.{Reference, PlacedOutput}
 use Rattle.scene_fields.specs.declared.stored.StoredStream.TheVariants.{NotCaptured, Empty, At}
 use Rattle.run_model.specs.declared.output.ChildOutputDescription.TheVariants as captured
 use Rattle.scene_events.specs.declared.scene.event.SceneEvent.TheVariants as scene
@@ -14,11 +18,19 @@ abbrev sum_bytes : List ℕ
 sum_bytes = 209 ∷ 251 ∷ 167 ∷ 98 ∷ 21 ∷ 12 ∷ 83 ∷ 44 ∷ []
 
 -- bytes that have the sum, bytes that have another, and places past the end, of a stream of no byte too
-row_stream : sum_of (codes "bc") ≡ sum_bytes → stream_at (codes "abcd") (record { offset = 1; len = 2; sum = sum_bytes }) ≡ Some (codes "bc")
+row_stream : sum_of (codes "bc") ≡ sum_bytes → stream_at (codes "abcd") (record {
+  offset = 1;
+  len = 2;
+  sum = sum_bytes;
+}) ≡ Some (codes "bc")
 unfolding stream_at
 row_stream same = rw same refl
 
-row_other : sum_of (codes "bc") ≡ sum_bytes → stream_at (codes "abcd") (record { offset = 1; len = 2; sum = 0 ∷ [] }) ≡ None
+row_other : sum_of (codes "bc") ≡ sum_bytes → stream_at (codes "abcd") (record {
+  offset = 1;
+  len = 2;
+  sum = 0 ∷ [];
+}) ≡ None
 unfolding stream_at
 row_other same = rw same refl
 
@@ -51,7 +63,8 @@ module _ (d : OutputLoadDecider) (e : SetupFinish) (sum : List ℕ) where
   second = record { place = 0; field = 10; output = Split Empty (At here) } ∷ []
 
   -- of a script that succeeded it is not looked at, but must be there
-  row_skipped : is_success e.attempt.result ≡ true → event_replayed all d combined (scene.SetupScriptFinished e) ≡ Ok (scene.SetupScriptFinished e)
+  row_skipped : is_success e.attempt.result ≡ true
+      → event_replayed all d combined (scene.SetupScriptFinished e) ≡ Ok (scene.SetupScriptFinished e)
   unfolding event_replayed
   row_skipped passed = rw passed refl
 
@@ -61,15 +74,22 @@ module _ (d : OutputLoadDecider) (e : SetupFinish) (sum : List ℕ) where
 
   -- that of one that failed is put into it, if it is what was recorded
   row_loaded : is_success e.attempt.result ≡ false → stream_at all here ≡ Some (codes "bc") →
-      event_replayed all d second (scene.SetupScriptFinished e) ≡ Ok (scene.SetupScriptFinished (record e { attempt = attempt_with_output e.attempt (captured.Split (Some []) (Some (codes "bc"))) }))
+      event_replayed all d second (scene.SetupScriptFinished e) ≡ Ok (scene.SetupScriptFinished (record e {
+        attempt = attempt_with_output e.attempt (captured.Split (Some []) (Some (codes "bc")));
+      }))
   unfolding event_replayed
   row_loaded failed is = rw (failed, is) refl
 
-  row_damaged : is_success e.attempt.result ≡ false → stream_at all here ≡ None → event_replayed all d second (scene.SetupScriptFinished e) ≡ Err (BadField 11)
+  row_damaged : is_success e.attempt.result ≡ false → stream_at all here ≡ None
+      → event_replayed all d second (scene.SetupScriptFinished e) ≡ Err (BadField 11)
   unfolding event_replayed
   row_damaged failed is = rw (failed, is) refl
 
-  row_len : outputs_len (record { place = 0; field = 14; output = Combined here } ∷ record { place = 2; field = 30; output = Split (At here) NotCaptured } ∷ []) ≡ 4
+  row_len : outputs_len (record {
+    place = 0;
+    field = 14;
+    output = Combined here;
+  } ∷ record { place = 2; field = 30; output = Split (At here) NotCaptured } ∷ []) ≡ 4
   row_len = refl
 
 -- bytes, and a reference to two of them
@@ -80,11 +100,13 @@ abbrev two_bytes : List ℕ
 two_bytes = codes "\\@1:2:d1fba762150c532c"
 
 -- the reference is spelled out, and what is none stays
-row_spelled : line_spelled some_bytes (tabbed (codes "comb" ∷ two_bytes ∷ codes "-" ∷ codes "\\@1:2" ∷ [])) ≡ tabbed (codes "comb" ∷ codes "\\x0a\\x7e" ∷ codes "-" ∷ codes "\\@1:2" ∷ [])
+row_spelled : line_spelled some_bytes (tabbed (codes "comb" ∷ two_bytes ∷ codes "-" ∷ codes "\\@1:2" ∷ []))
+    ≡ tabbed (codes "comb" ∷ codes "\\x0a\\x7e" ∷ codes "-" ∷ codes "\\@1:2" ∷ [])
 unfolding split_on reference_in after_mark sum_in cut number_in hex_on_literals
 row_spelled = refl
 
 -- a text, the last of whose lines is not ended
-row_scene : scene_spelled some_bytes (codes "# " ++ 10 ∷ (two_bytes ++ 10 ∷ 10 ∷ codes "pau")) ≡ codes "# " ++ 10 ∷ (codes "\\x0a\\x7e" ++ 10 ∷ 10 ∷ [])
+row_scene : scene_spelled some_bytes (codes "# " ++ 10 ∷ (two_bytes ++ 10 ∷ 10 ∷ codes "pau"))
+    ≡ codes "# " ++ 10 ∷ (codes "\\x0a\\x7e" ++ 10 ∷ 10 ∷ [])
 unfolding split_on reference_in after_mark sum_in cut number_in hex_on_literals
 row_scene = refl

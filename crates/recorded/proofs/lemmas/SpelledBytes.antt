@@ -1,7 +1,10 @@
 -- Bytes that are spelled out, and their fields.
-use Rattle.std.proofs.Common.{◌≡◌, ℕ, zero, suc, ◌+◌, ◌*◌, ◌/◌, ◌%◌, ◌<◌, List, [], ◌∷◌, Bool, true, false, get_or, take, drop, refl, ap, ◌∙◌, arith, Option, None, Some, ◌==◌, ◌&&◌, nat_lt, not}
-use Rattle.std.proofs.{Common.option_map, Common.eqb-true, lemmas.Bool.agree_below_at, lemmas.Bool.and_parts, lemmas.Bool.Decides.nat_tests, lemmas.Str.IsUtf8-from_ascii}
-use Rattle.{std.specs.Char.digit_value, std.specs.List.list_all, std.specs.Option.option_map_or, std.specs.Str.IsAscii, std.specs.Str.IsUtf8, hex.specs.Hex.lower_digits}
+use Rattle.std.proofs.Common.{◌≡◌, ℕ, zero, suc, ◌+◌, ◌*◌, ◌/◌, ◌%◌, ◌<◌, List, [], ◌∷◌, Bool, true, false, get_or}
+use Rattle.std.proofs.Common.{take, drop, refl, ap, ◌∙◌, arith, Option, None, Some, ◌==◌, ◌&&◌, nat_lt, not}
+use Rattle.std.proofs.{Common.option_map, Common.eqb-true, lemmas.Bool.agree_below_at, lemmas.Bool.and_parts}
+use Rattle.std.proofs.{lemmas.Bool.Decides.nat_tests, lemmas.Str.IsUtf8-from_ascii}
+use Rattle.{std.specs.Char.digit_value, std.specs.List.list_all, std.specs.Option.option_map_or, std.specs.Str.IsAscii}
+use Rattle.{std.specs.Str.IsUtf8, hex.specs.Hex.lower_digits}
 use Rattle.recorded.specs.Names.{bytes_at, AreBytes, bytes_spelled, field_spelled}
 use Rattle.scene_reader.specs.Names.{reference_in, Lacks, bytes_in, hex_escape, unescaped_after, Reference, stream_in}
 
@@ -11,10 +14,12 @@ digit d = get_or lower_digits d 0
 
 -- a number below 16 is the value of its digit
 digit_is : (d : ℕ) → d < 16 → digit_value (digit d) ≡ d
-digit_is d h = eqb-true (digit_value (digit d)) d (agree_below_at (λ d. digit_value (digit d) == d) (λ d. true) 16 d refl h)
+digit_is d h = eqb-true (digit_value (digit d)) d
+    (agree_below_at (λ d. digit_value (digit d) == d) (λ d. true) 16 d refl h)
 
 -- so two digits are the byte of their halves
-byte_of_digits : (high low : ℕ) → high < 16 → low < 16 → (t : List ℕ) → hex_escape 255 (digit high ∷ digit low ∷ t) ≡ Some (16 * high + low)
+byte_of_digits : (high low : ℕ) → high < 16 → low < 16 → (t : List ℕ)
+    → hex_escape 255 (digit high ∷ digit low ∷ t) ≡ Some (16 * high + low)
 byte_of_digits high low h l t = rw (digit_is high h, digit_is low l) (grind (arith, nat_tests))
 
 -- a byte that is spelled out is read to the byte
@@ -56,7 +61,8 @@ each_plain (c ∷ ds) h (suc d) = each_plain ds ((and_parts (is_plain c) (list_a
 
 spelled_plain : (bs : List ℕ) → list_all is_plain (bytes_spelled bs) ≡ true
 spelled_plain [] = refl
-spelled_plain (b ∷ bs) = rw (each_plain lower_digits refl (b / 16), each_plain lower_digits refl (b % 16)) (spelled_plain bs)
+spelled_plain (b ∷ bs) = rw (each_plain lower_digits refl (b / 16), each_plain lower_digits refl (b % 16))
+    (spelled_plain bs)
 
 -- so it has none of them
 plain_lacks : (b : ℕ) → is_plain b ≡ false → (t : List ℕ) → list_all is_plain t ≡ true → Lacks b t
@@ -72,19 +78,23 @@ plain_ascii (c ∷ t) h zero = (let parts = and_parts (is_plain c) (list_all is_
 plain_ascii (c ∷ t) h (suc i) = plain_ascii t (and_parts (is_plain c) (list_all is_plain t) h).1 i
 
 -- a field is what it was, or bytes that are spelled out
-module _ (Good : List ℕ → Type 0) (spelled : (bs : List ℕ) → Good (bytes_spelled bs)) (all t : List ℕ) (good : Good t) where
-  field_found : (found : Option Reference) → Good (option_map_or (λ reference. bytes_spelled (bytes_at all reference)) found t)
-  field_found None = good
-  field_found (Some r) = spelled (bytes_at all r)
+module _ (Good : List ℕ → Type 0) (spelled : (bs : List ℕ) → Good (bytes_spelled bs)) (all t : List ℕ) (good : Good t)
+  where
+    field_found : (found : Option Reference)
+        → Good (option_map_or (λ reference. bytes_spelled (bytes_at all reference)) found t)
+    field_found None = good
+    field_found (Some r) = spelled (bytes_at all r)
 
-  field_good : Good (field_spelled all t)
-  field_good = field_found (reference_in t)
+    field_good : Good (field_spelled all t)
+    field_good = field_found (reference_in t)
 
 pub field_lacks_tab : (all t : List ℕ) → Lacks 9 t → Lacks 9 (field_spelled all t)
 field_lacks_tab all t h = field_good (Lacks 9) (λ bs. plain_lacks 9 refl (bytes_spelled bs) (spelled_plain bs)) all t h
 
 pub field_lacks_feed : (all t : List ℕ) → Lacks 10 t → Lacks 10 (field_spelled all t)
-field_lacks_feed all t h = field_good (Lacks 10) (λ bs. plain_lacks 10 refl (bytes_spelled bs) (spelled_plain bs)) all t h
+field_lacks_feed all t h = field_good (Lacks 10) (λ bs. plain_lacks 10 refl (bytes_spelled bs) (spelled_plain bs)) all t
+    h
 
 pub field_utf8 : (all t : List ℕ) → IsUtf8 t → IsUtf8 (field_spelled all t)
-field_utf8 all t h = field_good IsUtf8 (λ bs. IsUtf8-from_ascii (bytes_spelled bs) (plain_ascii (bytes_spelled bs) (spelled_plain bs))) all t h
+field_utf8 all t h = field_good IsUtf8
+    (λ bs. IsUtf8-from_ascii (bytes_spelled bs) (plain_ascii (bytes_spelled bs) (spelled_plain bs))) all t h

@@ -1,27 +1,57 @@
 -- A recorded line, spelled out, is read to the event with its outputs in it (`line_law`).
-use Rattle.recorded.proofs.lemmas.MarkedFields.{marked_iteration, marked_moment, marked_nanos, marked_number, marked_progress, marked_result_or_none, marked_run_id, marked_skips, marked_state}
-use Rattle.recorded.proofs.lemmas.SpelledPlaces.{Change, Follows, HasNoted, HasOutput, Read, Reads, Refused, RowsRead, Same, by_row_reads, either_reads, exactly_reads, fields_read, if_reads}
-use Rattle.scene_reader.specs.Names.{UnitState, ChildOutputDescription, ExecutionResultDescription, RunStats, FlakyResult, RetryData, answer_with, attempts_with, event_with, written, SceneConfig}
-use Rattle.scene_reader.specs.Names.{SceneEvent, SceneOutput, SceneTest, UnitAnswer, ◌>>=◌, Line, Place, exactly, none_noted, noted_outputs, says, split_on, LineFault, unescaped_after, PlacedOutput}
-use Rattle.scene_reader.specs.Names.{StoredOutput, ConfigKey, placed, all_attempts, attempt_fields, answer_fields, config_line_fields, event_line_fields, event_rows, made, other_event_rows}
-use Rattle.scene_reader.specs.Names.{retry_fields, run_event_rows, script_fields, set_field, state_fields, test_fields, unique_prefix_fields, unknown, AllRead, LinesBefore, ParsedLines, config_words}
-use Rattle.scene_reader.specs.Names.{is_passed_over, line_from, line_place, line_read, line_words, lines_before, lines_read, lines_with, no_lines, parsed_line, plain_line, recorded_line, text_lines}
-use Rattle.std.proofs.Common.{◌≡◌, ℕ, true, false, List, [], ◌∷◌, Option, None, Some, Result, Ok, Err, refl, sym, ap, ◌∙◌, bytes_eq, codes, inl, inr, ◌++◌, map, arith}
-use Rattle.{std.specs.Result.result_map_both, std.specs.Str.is_utf8, std.proofs.lemmas.Bool.cases_Bool, run_model.specs.Names.Attempt, run_model.specs.Names.TestOutputDisplay}
+use Rattle.recorded.proofs.lemmas.MarkedFields.{marked_iteration, marked_moment, marked_nanos, marked_number}
+use Rattle.recorded.proofs.lemmas.MarkedFields.{marked_progress, marked_result_or_none, marked_run_id, marked_skips}
+use Rattle.recorded.proofs.lemmas.MarkedFields.{marked_state}
+use Rattle.recorded.proofs.lemmas.SpelledPlaces.{Change, Follows, HasNoted, HasOutput, Read, Reads, Refused, RowsRead}
+use Rattle.recorded.proofs.lemmas.SpelledPlaces.{Same, by_row_reads, either_reads, exactly_reads, fields_read, if_reads}
+use Rattle.scene_reader.specs.Names.{UnitState, ChildOutputDescription, ExecutionResultDescription, RunStats}
+use Rattle.scene_reader.specs.Names.{FlakyResult, RetryData, answer_with, attempts_with, event_with, written}
+use Rattle.scene_reader.specs.Names.{SceneConfig}
+use Rattle.scene_reader.specs.Names.{SceneEvent, SceneOutput, SceneTest, UnitAnswer, ◌>>=◌, Line, Place, exactly}
+use Rattle.scene_reader.specs.Names.{none_noted, noted_outputs, says, split_on, LineFault, unescaped_after}
+use Rattle.scene_reader.specs.Names.{PlacedOutput}
+use Rattle.scene_reader.specs.Names.{StoredOutput, ConfigKey, placed, all_attempts, attempt_fields, answer_fields}
+use Rattle.scene_reader.specs.Names.{config_line_fields, event_line_fields, event_rows, made, other_event_rows}
+use Rattle.scene_reader.specs.Names.{retry_fields, run_event_rows, script_fields, set_field, state_fields, test_fields}
+use Rattle.scene_reader.specs.Names.{unique_prefix_fields, unknown, AllRead, LinesBefore, ParsedLines, config_words}
+use Rattle.scene_reader.specs.Names.{is_passed_over, line_from, line_place, line_read, line_words, lines_before}
+use Rattle.scene_reader.specs.Names.{lines_read, lines_with, no_lines, parsed_line, plain_line, recorded_line}
+use Rattle.scene_reader.specs.Names.{text_lines}
+use Rattle.std.proofs.Common.{◌≡◌, ℕ, true, false, List, [], ◌∷◌, Option, None, Some, Result, Ok, Err, refl, sym, ap}
+use Rattle.std.proofs.Common.{◌∙◌, bytes_eq, codes, inl, inr, ◌++◌, map, arith}
+use Rattle.{std.specs.Result.result_map_both, std.specs.Str.is_utf8, std.proofs.lemmas.Bool.cases_Bool}
+use Rattle.{run_model.specs.Names.Attempt, run_model.specs.Names.TestOutputDisplay}
 use Rattle.recorded.proofs.lemmas.SpelledAttempts.{TestAttempts, attempts_inline, attempts_read}
 use Rattle.recorded.proofs.lemmas.{MarkedFields.marked_stats, MarkedFields.marked_stress}
 use Rattle.recorded.proofs.lemmas.SpelledOutputs.{attempt_loads, attempt_reads, output_loads, output_reads}
-use Rattle.recorded.proofs.lemmas.SpelledPlaces.{made_reads, next_reads, next_unmarked, output_made_reads, place_spelled, then_spells, turned_follows, with_attempts_reads, with_put}
-use Rattle.recorded.proofs.lemmas.SpelledTexts.{line_fields, line_passed_over, line_utf8, passed_over_line, lines_of_scene}
-use Rattle.recorded.specs.Names.{event_inline, output_inline, ended_lines, line_inline, lines_inline, AreBytes, line_spelled, scene_spelled}
-use Rattle.scene_reader.{specs.Names.with_made, specs.Names.words_behind, proofs.lemmas.Tellings.all_tell, proofs.lemmas.Tellings.all_told}
+use Rattle.recorded.proofs.lemmas.SpelledPlaces.{made_reads, next_reads, next_unmarked, output_made_reads}
+use Rattle.recorded.proofs.lemmas.SpelledPlaces.{place_spelled, then_spells, turned_follows, with_attempts_reads}
+use Rattle.recorded.proofs.lemmas.SpelledPlaces.{with_put}
+use Rattle.recorded.proofs.lemmas.SpelledTexts.{line_fields, line_passed_over, line_utf8, passed_over_line}
+use Rattle.recorded.proofs.lemmas.SpelledTexts.{lines_of_scene}
+use Rattle.recorded.specs.Names.{event_inline, output_inline, ended_lines, line_inline, lines_inline, AreBytes}
+use Rattle.recorded.specs.Names.{line_spelled, scene_spelled}
+use Rattle.scene_reader.{specs.Names.with_made, specs.Names.words_behind, proofs.lemmas.Tellings.all_tell}
+use Rattle.scene_reader.{proofs.lemmas.Tellings.all_told}
 use Rattle.scene_reader.specs.declared.reader.ParsedLine.TheVariants.{ConfigLine, EventLine, NoEvent}
 use Rattle.scene_reader.specs.declared.reader.ParsedLine.{ParsedLine}
 use Rattle.scene_events.specs.declared.scene.event.SceneEvent.TheVariants as event
 use Rattle.scene_fields.specs.declared.values.ConfigKey.TheVariants as key
 
 -- the values of all kinds of field
-ruleset values = (marked_number, marked_nanos, marked_run_id, marked_stress, marked_iteration, marked_stats, marked_skips, marked_result_or_none, marked_state, marked_progress, marked_moment)
+ruleset values = (
+  marked_number,
+  marked_nanos,
+  marked_run_id,
+  marked_stress,
+  marked_iteration,
+  marked_stats,
+  marked_skips,
+  marked_result_or_none,
+  marked_state,
+  marked_progress,
+  marked_moment,
+)
 
 -- a response with this captured output
 abbrev pub answer_loads : ChildOutputDescription → UnitAnswer → UnitAnswer
@@ -31,15 +61,17 @@ abbrev answer_made : UnitState × Option ExecutionResultDescription → SceneOut
 answer_made read output = record { state = read.0; output = written read.1 output }
 
 -- output put into it is put into the response
-answer_puts : (read : UnitState × Option ExecutionResultDescription) (captured : ChildOutputDescription) (output : SceneOutput) →
-    answer_made read (output_loads captured output) ≡ answer_loads captured (answer_made read output)
+answer_puts : (read : UnitState × Option ExecutionResultDescription) (captured : ChildOutputDescription)
+    (output : SceneOutput)
+    → answer_made read (output_loads captured output) ≡ answer_loads captured (answer_made read output)
 answer_puts read captured output = grind arith
 
 module _ (all : List ℕ) where
   -- the prefix of a header
   prefix_reads : Reads all Same unique_prefix_fields
   unfolding unescaped_after
-  prefix_reads = next_reads all Same _ (λ u p. tt) (λ t. if_reads all (bytes_eq t (codes "-")) (search fields_read depth 8) (search fields_read depth 8))
+  prefix_reads = next_reads all Same _ (λ u p. tt)
+      (λ t. if_reads all (bytes_eq t (codes "-")) (search fields_read depth 8) (search fields_read depth 8))
 
   -- configuration
   set_reads : (config : SceneConfig) (k : ConfigKey) → Reads all Same (set_field config k)
@@ -65,45 +97,82 @@ module _ (all : List ℕ) where
   abbrev HasAll : Change SceneEvent
   HasAll = HasNoted (event_inline all)
 
-  only_output : (o : Option StoredOutput) (number : ℕ) (e : SceneEvent) → with_put all (event_with 0) o e ≡ event_inline all (placed 0 number o) e
+  only_output : (o : Option StoredOutput) (number : ℕ) (e : SceneEvent)
+      → with_put all (event_with 0) o e ≡ event_inline all (placed 0 number o) e
   only_output o number e = grind arith
 
   exactly_none : (n : ℕ) {line : Line SceneEvent} → Reads all Same line → Reads all HasAll (exactly n line)
-  exactly_none n {line} h = exactly_reads all n (record { each = λ p. turned_follows all Same HasAll p.noted p.noted _ _ (λ x new y c none. rw (c.value, c.noted, none) refl) (h.each p) })
+  exactly_none n {line} h = exactly_reads all n (record {
+    each = λ p. turned_follows all Same HasAll p.noted p.noted _ _ (λ x new y c none. rw (c.value, c.noted, none) refl)
+        (h.each p);
+  })
 
   exactly_one : (n : ℕ) {line : Line SceneEvent} → Reads all HasOne line → Reads all HasAll (exactly n line)
   exactly_one n {line} h = exactly_reads all n (record {
-    each = λ p. turned_follows all HasOne HasAll p.noted p.noted _ _ (λ x new y c none. rw (c.value, c.noted, none) (only_output c.output c.number x)) (h.each p);
+    each = λ p. turned_follows all HasOne HasAll p.noted p.noted _ _
+        (λ x new y c none. rw (c.value, c.noted, none) (only_output c.output c.number x)) (h.each p);
   })
 
   module _ (bytes : AreBytes all) where
     -- an event of an attempt, of a response, and of all attempts of a test
-    attempt_event_reads : (retry_data : RetryData) (make : Attempt → SceneEvent) → ((captured : ChildOutputDescription) (a : Attempt) → make (attempt_loads captured a) ≡ event_with 0 captured (make a)) →
-        Reads all HasOne (attempt_fields retry_data >>= (λ a. says (make a)))
+    attempt_event_reads : (retry_data : RetryData) (make : Attempt → SceneEvent)
+        → ((captured : ChildOutputDescription) (a : Attempt)
+        → make (attempt_loads captured a) ≡ event_with 0 captured (make a))
+        → Reads all HasOne (attempt_fields retry_data >>= (λ a. says (make a)))
     attempt_event_reads retry_data make puts = output_made_reads all make (attempt_reads all bytes retry_data) puts
 
     answer_reads : Reads all (HasOutput all answer_loads) answer_fields
     unfolding answer_fields state_fields
-    answer_reads = then_spells all (search (fields_read, values) depth 12) (λ read. output_made_reads all (answer_made read) (output_reads all bytes) (answer_puts read))
+    answer_reads = then_spells all (search (fields_read, values) depth 12)
+        (λ read. output_made_reads all (answer_made read) (output_reads all bytes) (answer_puts read))
 
-    answer_event_reads : (make : UnitAnswer → SceneEvent) → ((captured : ChildOutputDescription) (a : UnitAnswer) → make (answer_loads captured a) ≡ event_with 0 captured (make a)) →
-        Reads all HasOne (answer_fields >>= (λ a. says (make a)))
+    answer_event_reads : (make : UnitAnswer → SceneEvent)
+        → ((captured : ChildOutputDescription) (a : UnitAnswer)
+        → make (answer_loads captured a) ≡ event_with 0 captured (make a))
+        → Reads all HasOne (answer_fields >>= (λ a. says (make a)))
     answer_event_reads make puts = output_made_reads all make answer_reads puts
 
-    finish_inline : (stats : RunStats) (test : SceneTest) (success failure : TestOutputDisplay) (stored : List PlacedOutput) (a : TestAttempts) →
-        event.TestFinished (record { attempts = attempts_inline all stored a; current_stats = stats; test = test; success_output = success; failure_output = failure })
-        ≡ event_inline all stored (event.TestFinished (record { attempts = a; current_stats = stats; test = test; success_output = success; failure_output = failure }))
+    finish_inline : (stats : RunStats) (test : SceneTest) (success failure : TestOutputDisplay)
+        (stored : List PlacedOutput) (a : TestAttempts)
+        → event.TestFinished (record {
+          attempts = attempts_inline all stored a;
+          current_stats = stats;
+          test = test;
+          success_output = success;
+          failure_output = failure;
+        })
+        ≡ event_inline all stored (event.TestFinished (record {
+          attempts = a;
+          current_stats = stats;
+          test = test;
+          success_output = success;
+          failure_output = failure;
+        }))
     finish_inline stats test success failure [] a = refl
-    finish_inline stats test success failure (p ∷ ps) a = finish_inline stats test success failure ps (attempts_with p.place (output_inline all p.output) a)
+    finish_inline stats test success failure (p ∷ ps) a = finish_inline stats test success failure ps
+        (attempts_with p.place (output_inline all p.output) a)
 
     finish_event_reads : (flaky : FlakyResult) (total : ℕ) (make : TestAttempts → SceneEvent) →
-        ((stored : List PlacedOutput) (a : TestAttempts) → make (attempts_inline all stored a) ≡ event_inline all stored (make a)) →
+        ((stored : List PlacedOutput) (a : TestAttempts) → make (attempts_inline all stored
+        a) ≡ event_inline all stored (make a)) →
         Reads all HasAll (all_attempts flaky total >>= (λ a. says (make a)))
     finish_event_reads flaky total make puts =
-        made_reads all (HasNoted (attempts_inline all)) HasAll make (λ old a new b c none. ap make (c none) ∙ puts (noted_outputs new) a) (attempts_read all flaky bytes total)
+        made_reads all (HasNoted (attempts_inline all)) HasAll make
+        (λ old a new b c none. ap make (c none) ∙ puts (noted_outputs new) a) (attempts_read all flaky bytes total)
 
     -- the rows of the table of lines
-    ruleset lines = (exactly_none, exactly_one, with_attempts_reads, fields_read, attempt_event_reads, answer_event_reads, finish_event_reads, finish_inline, prefix_reads, values)
+    ruleset lines = (
+      exactly_none,
+      exactly_one,
+      with_attempts_reads,
+      fields_read,
+      attempt_event_reads,
+      answer_event_reads,
+      finish_event_reads,
+      finish_inline,
+      prefix_reads,
+      values,
+    )
 
     run_lines_read : RowsRead all HasAll run_event_rows
     unfolding run_event_rows
@@ -141,17 +210,22 @@ module _ (all : List ℕ) where
     abbrev as_inline : Result (ParsedLine × List PlacedOutput) LineFault → Result ParsedLine LineFault
     as_inline = with_made (λ stored e. Ok (event_inline all stored e))
 
-    with_inlined : (x : ParsedLine) (stored : List PlacedOutput) → as_inline (Ok (x, stored)) ≡ Ok (line_inlined stored x)
+    with_inlined : (x : ParsedLine) (stored : List PlacedOutput)
+        → as_inline (Ok (x, stored)) ≡ Ok (line_inlined stored x)
     with_inlined x stored = grind arith
 
     module _ (before : LinesBefore) where
       config_line_reads : Reads all (HasNoted line_inlined) (config_words before)
       config_line_reads = either_reads all before.is_begun (record { each = λ p. tt })
-          (made_reads all Same (HasNoted line_inlined) ConfigLine (λ old a new b c none. ap ConfigLine c.value) (exactly_reads all 2 (config_reads before.config)))
+          (made_reads all Same (HasNoted line_inlined) ConfigLine (λ old a new b c none. ap ConfigLine c.value)
+          (exactly_reads all 2 (config_reads before.config)))
 
       event_line_reads : (word : List ℕ) → Reads all (HasNoted line_inlined) (made EventLine (event_line_fields word))
       event_line_reads word =
-          made_reads all HasAll (HasNoted line_inlined) EventLine (λ old a new b c none. ap EventLine (c none)) (by_row_reads all HasAll unknown event_rows word (record { each = λ p. tt }) lines_read_so)
+          made_reads all HasAll (HasNoted line_inlined) EventLine (λ old a new b c none. ap EventLine (c none))
+          (by_row_reads all HasAll unknown event_rows word (record {
+            each = λ p. tt;
+          }) lines_read_so)
 
       words_read : (word : List ℕ) → Reads all (HasNoted line_inlined) (words_behind before word)
       words_read word = either_reads all (bytes_eq word (codes "config")) config_line_reads (event_line_reads word)
@@ -166,27 +240,40 @@ module _ (all : List ℕ) where
         recorded_place = line_place (Some none_noted) t
 
         -- by what is read of its fields
-        line_follows : (x : ParsedLine × List PlacedOutput) → is_passed_over t ≡ false → is_utf8 t ≡ true → (r : Read ParsedLine) → line_words before recorded_place ≡ r →
-            Follows all (HasNoted line_inlined) (Some none_noted) r (line_words before (place_spelled all recorded_place)) → result_map_both (λ y. (y.0, noted_outputs y.1.noted)) (λ f. f) r ≡ Ok x →
+        line_follows : (x : ParsedLine × List PlacedOutput) → is_passed_over t ≡ false → is_utf8 t ≡ true
+            → (r : Read ParsedLine) → line_words before recorded_place ≡ r →
+            Follows all (HasNoted line_inlined) (Some none_noted) r (line_words before
+            (place_spelled all recorded_place))
+            → result_map_both (λ y. (y.0, noted_outputs y.1.noted)) (λ f. f) r ≡ Ok x →
             parsed_line before (line_spelled all t) ≡ as_inline (Ok x)
         unfolding line_from
         line_follows x passed utf8 (Ok y) is read h =
             let same : (y.0, noted_outputs y.1.noted) ≡ x = cc in
-            let first = next_unmarked all (HasNoted line_inlined) (words_behind before) words_refuse words_read 0 (Some none_noted) (split_on 9 t) y is in
+            let first = next_unmarked all (HasNoted line_inlined) (words_behind before) words_refuse words_read 0
+            (Some none_noted) (split_on 9 t) y is in
             let not_passed = line_passed_over all t first.0 first.1 first.2 first.3 ∙ passed in
-            let words = ap (λ ts. line_words before (record { number = 0; left = ts; noted = None })) (line_fields all t) ∙ read.2 in
-            rw (not_passed, line_utf8 all t utf8, words) (ap Ok (read.1 refl) ∙ sym (with_inlined y.0 (noted_outputs y.1.noted)) ∙ ap (λ z. as_inline (Ok z)) same)
+            let words = ap (λ ts. line_words before (record {
+              number = 0;
+              left = ts;
+              noted = None;
+            })) (line_fields all t) ∙ read.2 in
+            rw (not_passed, line_utf8 all t utf8, words)
+            (ap Ok (read.1 refl) ∙ sym (with_inlined y.0 (noted_outputs y.1.noted))
+            ∙ ap (λ z. as_inline (Ok z)) same)
         line_follows x passed utf8 (Err f) is read h = absurd (cc)
 
-        -- what a recorded line says, with the stored outputs put into its event, is what the line says as it is spelled out
-        pub line_law : (x : ParsedLine × List PlacedOutput) → recorded_line before t ≡ Ok x → parsed_line before (line_spelled all t) ≡ with_made (λ stored e. Ok (event_inline all stored e)) (Ok x)
+        -- what a recorded line says, with the stored outputs put into its event, is what the line says as it is spelled
+        -- out
+        pub line_law : (x : ParsedLine × List PlacedOutput) → recorded_line before t ≡ Ok x
+            → parsed_line before (line_spelled all t) ≡ with_made (λ stored e. Ok (event_inline all stored e)) (Ok x)
         unfolding line_from
         line_law x h = elim (cases_Bool (is_passed_over t)) [
           | inl passed ↦ rw (passed_over_line all t passed) (ap as_inline (rw passed at h))
           | inr passed ↦ elim (cases_Bool (is_utf8 t)) [
             | inl utf8 ↦
                 let read = next_reads all (HasNoted line_inlined) (words_behind before) words_refuse words_read in
-                line_follows x passed utf8 (line_words before recorded_place) refl (read.each recorded_place) (rw (passed, utf8) at h)
+                line_follows x passed utf8 (line_words before recorded_place) refl (read.each recorded_place)
+                (rw (passed, utf8) at h)
             | inr no_text ↦ (let wrong = rw (passed, no_text) at h in absurd (cc))
           ]
         ]
@@ -198,18 +285,27 @@ empty_read before = refl
 
 -- lines in sequence
 module _ (all : List ℕ) (bytes : AreBytes all) where
-  line_alike : (before after : ParsedLines) (t : List ℕ) (found : Result (ParsedLine × List PlacedOutput) LineFault) → recorded_line (lines_before before) t ≡ found →
+  line_alike : (before after : ParsedLines) (t : List ℕ) (found : Result (ParsedLine × List PlacedOutput) LineFault)
+      → recorded_line (lines_before before) t ≡ found →
       line_read before (line_inline all t) ≡ Ok after → line_read before (plain_line (line_spelled all t)) ≡ Ok after
   unfolding line_read
-  line_alike before after t (Ok x) is h = ap (lines_with before) (line_law all bytes (lines_before before) t x is ∙ ap (as_inline all bytes) (sym is)) ∙ h
-  line_alike before after t (Err f) is h = let wrong : ◌≡◌ {A = Result ParsedLines LineFault} (Err f) (Ok after) = rw is at h in absurd (cc)
+  line_alike before after t (Ok x) is h = ap (lines_with before) (line_law all bytes (lines_before before) t x is
+      ∙ ap (as_inline all bytes) (sym is))
+      ∙ h
+  line_alike before after t (Err f) is h = let wrong : ◌≡◌ {A = Result ParsedLines LineFault} (Err f) (Ok after) = rw is
+      at h in absurd (cc)
 
-  lines_alike : (before after : ParsedLines) (ts : List (List ℕ)) → AllRead before (map (line_inline all) ts) after → AllRead before (map plain_line (map (line_spelled all) ts ++ [] ∷ [])) after
+  lines_alike : (before after : ParsedLines) (ts : List (List ℕ)) → AllRead before (map (line_inline all) ts) after
+      → AllRead before (map plain_line (map (line_spelled all) ts ++ [] ∷ [])) after
   lines_alike before after [] h = (before, empty_read before, h)
-  lines_alike before after (t ∷ ts) h = (h.0, line_alike before h.0 t (recorded_line (lines_before before) t) refl h.1, lines_alike h.0 after ts h.2)
+  lines_alike before after (t ∷ ts) h =
+      (h.0, line_alike before h.0 t (recorded_line (lines_before before) t) refl h.1, lines_alike h.0 after ts h.2)
 
 -- a recorded run with its outputs put in is read as the text of a scene in which they are spelled out
-pub scene_law : (all text : List ℕ) → AreBytes all → (run : ParsedLines) → lines_read 1 no_lines (lines_inline all text) ≡ Ok run → lines_read 1 no_lines (text_lines (scene_spelled all text)) ≡ Ok run
+pub scene_law : (all text : List ℕ) → AreBytes all → (run : ParsedLines)
+    → lines_read 1 no_lines (lines_inline all text) ≡ Ok run
+    → lines_read 1 no_lines (text_lines (scene_spelled all text)) ≡ Ok run
 scene_law all text bytes run h =
     let whole = all_tell 1 no_lines (lines_inline all text) run h in
-    ap (λ ts. lines_read 1 no_lines (map plain_line ts)) (lines_of_scene all text) ∙ all_told 1 no_lines _ run (lines_alike all bytes no_lines run (ended_lines text) whole)
+    ap (λ ts. lines_read 1 no_lines (map plain_line ts)) (lines_of_scene all text)
+    ∙ all_told 1 no_lines _ run (lines_alike all bytes no_lines run (ended_lines text) whole)

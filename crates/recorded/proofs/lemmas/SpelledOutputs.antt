@@ -1,21 +1,31 @@
 -- The fields of an output, spelled out.
-use Rattle.recorded.proofs.lemmas.SpelledPlaces.{Becomes, Follows, HasOutput, Reads, Same, Spells, by_row_reads, field_reads, fields_read, next_reads, output_made_reads, then_spells, turned_follows}
-use Rattle.scene_reader.specs.Names.{ChildOutputDescription, ExecutionResultDescription, RetryData, loaded, written, SceneOutput, Line, Noted, next_stored, stored_among, valued, with_noted, after_mark}
-use Rattle.scene_reader.specs.Names.{reference_in, is_reference, stored_output_in, stored_split, stored_stream_in, unescaped_after, Reference, StoredOutput, StoredStream, after_streams, attempt_fields}
-use Rattle.std.proofs.Common.{◌≡◌, ℕ, ◌+◌, Bool, true, false, List, [], ◌∷◌, map, Option, None, Some, refl, ap, ◌∙◌, bytes_eq, codes, ◌||◌, ◌&&◌, if◌then◌else◌, inl, inr, arith, option_map}
+use Rattle.recorded.proofs.lemmas.SpelledPlaces.{Becomes, Follows, HasOutput, Reads, Same, Spells, by_row_reads}
+use Rattle.recorded.proofs.lemmas.SpelledPlaces.{field_reads, fields_read, next_reads, output_made_reads, then_spells}
+use Rattle.recorded.proofs.lemmas.SpelledPlaces.{turned_follows}
+use Rattle.scene_reader.specs.Names.{ChildOutputDescription, ExecutionResultDescription, RetryData, loaded, written}
+use Rattle.scene_reader.specs.Names.{SceneOutput, Line, Noted, next_stored, stored_among, valued, with_noted}
+use Rattle.scene_reader.specs.Names.{after_mark}
+use Rattle.scene_reader.specs.Names.{reference_in, is_reference, stored_output_in, stored_split, stored_stream_in}
+use Rattle.scene_reader.specs.Names.{unescaped_after, Reference, StoredOutput, StoredStream, after_streams}
+use Rattle.scene_reader.specs.Names.{attempt_fields}
+use Rattle.std.proofs.Common.{◌≡◌, ℕ, ◌+◌, Bool, true, false, List, [], ◌∷◌, map, Option, None, Some, refl, ap, ◌∙◌}
+use Rattle.std.proofs.Common.{bytes_eq, codes, ◌||◌, ◌&&◌, if◌then◌else◌, inl, inr, arith, option_map}
 use Rattle.std.proofs.lemmas.{Bool.and_parts, Bool.cases_Bool, Slice.Eq.bytes_eq-Decides}
 use Rattle.recorded.proofs.lemmas.MarkedFields.{marked_highlight, marked_nanos, marked_result}
 use Rattle.recorded.proofs.lemmas.SpelledPlaces.{valued_reads}
 use Rattle.recorded.proofs.lemmas.SpelledBytes.{bytes_at_bytes, bytes_read_back, stream_read_back}
 use Rattle.recorded.specs.Names.{output_inline, stream_inline, bytes_at, AreBytes, field_spelled}
 use Rattle.run_model.specs.Names.{Attempt, attempt_with_output, Nanos}
-use Rattle.scene_reader.specs.Names.{by_row, combined_fields, output_fields, output_fields_of, spelled_output_fields, split_fields, start_error_fields, stored_output_fields, stream_in, unloaded_fields}
-use Rattle.scene_fields.specs.declared.stored.{StoredOutput.TheVariants.Split, StoredOutput.TheVariants.Combined, StoredStream.TheVariants.At}
+use Rattle.scene_reader.specs.Names.{by_row, combined_fields, output_fields, output_fields_of, spelled_output_fields}
+use Rattle.scene_reader.specs.Names.{split_fields, start_error_fields, stored_output_fields, stream_in, unloaded_fields}
+use Rattle.scene_fields.specs.declared.stored.{StoredOutput.TheVariants.Split, StoredOutput.TheVariants.Combined}
+use Rattle.scene_fields.specs.declared.stored.{StoredStream.TheVariants.At}
 use Rattle.run_model.specs.declared.output.ChildOutputDescription.TheVariants as streams
 
 -- these words stay as they are
 words_kept : (all : List ℕ) →
-    (field_spelled all (codes "split") ≡ codes "split") × (field_spelled all (codes "comb") ≡ codes "comb") × (field_spelled all (codes "-") ≡ codes "-") × (field_spelled all [] ≡ [])
+    (field_spelled all (codes "split") ≡ codes "split") × (field_spelled all (codes "comb") ≡ codes "comb")
+    × (field_spelled all (codes "-") ≡ codes "-") × (field_spelled all [] ≡ [])
 unfolding reference_in after_mark
 words_kept all = (refl, refl, refl, refl)
 
@@ -26,7 +36,8 @@ chosen false x y h = absurd (cc)
 
 -- the forms of an output that is not stored
 abbrev output_rows : List (List ℕ × Line SceneOutput)
-output_rows = (codes "split", split_fields) ∷ (codes "comb", combined_fields) ∷ (codes "unloaded", unloaded_fields) ∷ (codes "start", start_error_fields) ∷ []
+output_rows = (codes "split", split_fields) ∷ (codes "comb", combined_fields) ∷ (codes "unloaded", unloaded_fields)
+    ∷ (codes "start", start_error_fields) ∷ []
 
 -- what captured output makes of what was read of it, and of an attempt
 abbrev pub output_loads : ChildOutputDescription → SceneOutput → SceneOutput
@@ -36,11 +47,18 @@ abbrev pub attempt_loads : ChildOutputDescription → Attempt → Attempt
 attempt_loads captured attempt = attempt_with_output attempt captured
 
 abbrev attempt_made : RetryData → ExecutionResultDescription → Nanos → Bool → SceneOutput → Attempt
-attempt_made retry_data result time_taken is_slow output = record { retry_data = retry_data; output = written (Some result) output; result = result; time_taken = time_taken; is_slow = is_slow }
+attempt_made retry_data result time_taken is_slow output = record {
+  retry_data = retry_data;
+  output = written (Some result) output;
+  result = result;
+  time_taken = time_taken;
+  is_slow = is_slow;
+}
 
 module _ (all : List ℕ) where
   -- what follows the streams is the same, whatever was captured
-  after_spells : (output : ChildOutputDescription) → Spells all (Becomes (output_loads output)) (after_streams streams.NotLoaded) (after_streams output)
+  after_spells : (output : ChildOutputDescription)
+      → Spells all (Becomes (output_loads output)) (after_streams streams.NotLoaded) (after_streams output)
   unfolding after_streams unescaped_after
   after_spells output = search (fields_read, marked_highlight) depth 12
 
@@ -48,21 +66,29 @@ module _ (all : List ℕ) where
   spelled_reads : Reads all Same spelled_output_fields
   unfolding spelled_output_fields after_streams unescaped_after
   spelled_reads = next_reads all Same (by_row (valued None) output_rows) (λ u p. tt)
-      (λ form. by_row_reads all Same (valued None) output_rows form (valued_reads all None) (search (fields_read, marked_highlight) depth 20 fits 3000))
+      (λ form. by_row_reads all Same (valued None) output_rows form (valued_reads all None)
+      (search (fields_read, marked_highlight) depth 20 fits 3000))
 
   -- what is stored of streams
   module _ (bytes : AreBytes all) where
-    reference_spelled : (t : List ℕ) (stream : StoredStream) (o : Option Reference) → reference_in t ≡ o → option_map (λ reference. At reference) o ≡ Some stream →
+    reference_spelled : (t : List ℕ) (stream : StoredStream) (o : Option Reference) → reference_in t ≡ o
+        → option_map (λ reference. At reference) o ≡ Some stream →
         stream_in (field_spelled all t) ≡ Some (stream_inline all stream)
     reference_spelled t stream None is h = absurd (cc)
-    reference_spelled t stream (Some r) is h = rw is (stream_read_back (bytes_at all r) (bytes_at_bytes all r bytes) ∙ ap (option_map (stream_inline all)) h)
+    reference_spelled t stream (Some r) is h = rw is
+        (stream_read_back (bytes_at all r) (bytes_at_bytes all r bytes) ∙ ap (option_map (stream_inline all)) h)
 
-    stream_spelled : (t : List ℕ) (stream : StoredStream) → stored_stream_in t ≡ Some stream → stream_in (field_spelled all t) ≡ Some (stream_inline all stream)
+    stream_spelled : (t : List ℕ) (stream : StoredStream) → stored_stream_in t ≡ Some stream
+        → stream_in (field_spelled all t) ≡ Some (stream_inline all stream)
     unfolding unescaped_after
     stream_spelled t stream h = elim (cases_Bool (bytes_eq t (codes ""))) [
-      | inl y ↦ (let is = (bytes_eq-Decides t (codes "")).0 y in rw (is, (words_kept all).3) (ap (option_map (stream_inline all)) (rw is at h)))
+      | inl y ↦
+          (let is = (bytes_eq-Decides t (codes "")).0 y in rw (is, (words_kept all).3)
+          (ap (option_map (stream_inline all)) (rw is at h)))
       | inr n ↦ elim (cases_Bool (bytes_eq t (codes "-"))) [
-        | inl y ↦ (let is = (bytes_eq-Decides t (codes "-")).0 y in rw (is, (words_kept all).2) (ap (option_map (stream_inline all)) (rw is at h)))
+        | inl y ↦
+            (let is = (bytes_eq-Decides t (codes "-")).0 y in rw (is, (words_kept all).2)
+            (ap (option_map (stream_inline all)) (rw is at h)))
         | inr m ↦ reference_spelled t stream (reference_in t) refl (rw (n, m) at h)
       ]
     ]
@@ -70,30 +96,52 @@ module _ (all : List ℕ) where
     -- the output as it is spelled out, with what follows its streams
     abbrev IsSpelled : List ℕ → List ℕ → List ℕ → StoredOutput → Type 0
     IsSpelled form first second output = (n : ℕ) (fields : List (List ℕ)) →
-        spelled_output_fields (record { number = n; left = form ∷ field_spelled all first ∷ second ∷ fields; noted = None })
+        spelled_output_fields (record {
+          number = n;
+          left = form ∷ field_spelled all first ∷ second ∷ fields;
+          noted = None;
+        })
         ≡ after_streams (output_inline all output) (record { number = n + 1 + 1 + 1; left = fields; noted = None })
 
-    split_spelled : (first second : List ℕ) (output : StoredOutput) (one two : Option StoredStream) → stored_stream_in first ≡ one → stored_stream_in second ≡ two →
+    split_spelled : (first second : List ℕ) (output : StoredOutput) (one two : Option StoredStream)
+        → stored_stream_in first ≡ one → stored_stream_in second ≡ two →
         stored_split one two ≡ Some output → IsSpelled (codes "split") first (field_spelled all second) output
     unfolding spelled_output_fields
     split_spelled first second output None two is also h n fields = absurd (cc)
     split_spelled first second output (Some stdout) None is also h n fields = absurd (cc)
     split_spelled first second output (Some stdout) (Some stderr) is also h n fields =
-        rw (stream_spelled first stdout is, stream_spelled second stderr also, chosen (is_reference stdout || is_reference stderr) (Split stdout stderr) output h) refl
+        rw (
+          stream_spelled first stdout is,
+          stream_spelled second stderr also,
+          chosen
+              (is_reference stdout || is_reference stderr) (Split stdout stderr) output h,
+        )
+        refl
 
-    combined_spelled : (first : List ℕ) (output : StoredOutput) (o : Option Reference) → reference_in first ≡ o → option_map (λ reference. Combined reference) o ≡ Some output →
+    combined_spelled : (first : List ℕ) (output : StoredOutput) (o : Option Reference) → reference_in first ≡ o
+        → option_map (λ reference. Combined reference) o ≡ Some output →
         IsSpelled (codes "comb") first (codes "-") output
     unfolding spelled_output_fields
     combined_spelled first output None is h n fields = absurd (cc)
-    combined_spelled first output (Some r) is h n fields = (let same : output ≡ Combined r = cc in rw (is, bytes_read_back (bytes_at all r) (bytes_at_bytes all r bytes), same) refl)
+    combined_spelled first output (Some r) is h n fields =
+        (let same : output
+        ≡ Combined r = cc in rw (is, bytes_read_back (bytes_at all r) (bytes_at_bytes all r bytes), same) refl)
 
-    stored_spelled : (form first second : List ℕ) (output : StoredOutput) → stored_output_in form first second ≡ Some output → IsSpelled (field_spelled all form) first (field_spelled all second) output
+    stored_spelled : (form first second : List ℕ) (output : StoredOutput)
+        → stored_output_in form first second ≡ Some output
+        → IsSpelled (field_spelled all form) first (field_spelled all second) output
     stored_spelled form first second output h = elim (cases_Bool (bytes_eq form (codes "split"))) [
-      | inl y ↦ rw ((bytes_eq-Decides form (codes "split")).0 y, (words_kept all).0) (split_spelled first second output _ _ refl refl (rw y at h))
+      | inl y ↦ rw ((bytes_eq-Decides form (codes "split")).0 y, (words_kept all).0)
+          (split_spelled first second output _ _ refl refl (rw y at h))
       | inr n ↦ elim (cases_Bool (bytes_eq form (codes "comb") && bytes_eq second (codes "-"))) [
         | inl y ↦ (
             let both = and_parts (bytes_eq form (codes "comb")) (bytes_eq second (codes "-")) y in
-            rw ((bytes_eq-Decides form (codes "comb")).0 both.0, (bytes_eq-Decides second (codes "-")).0 both.1, (words_kept all).1, (words_kept all).2)
+            rw (
+              (bytes_eq-Decides form (codes "comb")).0 both.0,
+              (bytes_eq-Decides second (codes "-")).0 both.1,
+              (words_kept all).1,
+              (words_kept all).2,
+            )
             (combined_spelled first output (reference_in first) refl (rw (n, y) at h))
             )
         | inr m ↦ (let wrong = rw (n, m) at h in absurd (cc))
@@ -101,12 +149,22 @@ module _ (all : List ℕ) where
     ]
 
     -- the fields of a line from an output on, by what is stored of it
-    output_follows : (n : ℕ) (left : List (List ℕ)) (noted : Option Noted) (o : Option StoredOutput) → stored_among left noted ≡ o →
-        Follows all (HasOutput all output_loads) noted (output_fields_of o (record { number = n; left = left; noted = with_noted o (n + 2) noted }))
+    output_follows : (n : ℕ) (left : List (List ℕ)) (noted : Option Noted) (o : Option StoredOutput)
+        → stored_among left noted ≡ o →
+        Follows all (HasOutput all output_loads) noted (output_fields_of o (record {
+          number = n;
+          left = left;
+          noted = with_noted o (n + 2) noted;
+        }))
         (spelled_output_fields (record { number = n; left = map (field_spelled all) left; noted = None }))
     unfolding stored_output_fields
     output_follows n left noted None is =
-        turned_follows all Same (HasOutput all output_loads) _ noted _ _ (λ x new y h. record { output = None; number = n + 2; noted = h.noted; value = h.value })
+        turned_follows all Same (HasOutput all output_loads) _ noted _ _ (λ x new y h. record {
+          output = None;
+          number = n + 2;
+          noted = h.noted;
+          value = h.value;
+        })
         (spelled_reads.each (record { number = n; left = left; noted = with_noted None (n + 2) noted }))
     output_follows n left None (Some output) is = absurd (cc)
     output_follows n [] (Some noted) (Some output) is = tt
@@ -114,21 +172,31 @@ module _ (all : List ℕ) where
     output_follows n (form ∷ first ∷ []) (Some noted) (Some output) is = tt
     output_follows n (form ∷ first ∷ second ∷ fields) (Some noted) (Some output) is =
         rw (stored_spelled form first second output is n (map (field_spelled all) fields))
-        (turned_follows all (Becomes (output_loads (output_inline all output))) (HasOutput all output_loads) _ (Some noted) _ _
+        (turned_follows all (Becomes (output_loads (output_inline all output))) (HasOutput all output_loads) _
+        (Some noted) _ _
         (λ x new y h. record { output = Some output; number = n + 2; noted = h.noted; value = h.value })
-        ((after_spells (output_inline all output)).each (record { number = n + 1 + 1 + 1; left = fields; noted = with_noted (Some output) (n + 2) (Some noted) })))
+        ((after_spells (output_inline all output)).each (record {
+          number = n + 1 + 1 + 1;
+          left = fields;
+          noted = with_noted (Some output) (n + 2) (Some noted);
+        })))
 
     pub output_reads : Reads all (HasOutput all output_loads) output_fields
     unfolding output_fields
     output_reads = record { each = λ p. output_follows p.number p.left p.noted (next_stored p) refl }
 
     -- an attempt has one
-    attempt_puts : (retry_data : RetryData) (result : ExecutionResultDescription) (time_taken : Nanos) (is_slow : Bool) (captured : ChildOutputDescription) (output : SceneOutput) →
-        attempt_made retry_data result time_taken is_slow (output_loads captured output) ≡ attempt_loads captured (attempt_made retry_data result time_taken is_slow output)
+    attempt_puts : (retry_data : RetryData) (result : ExecutionResultDescription) (time_taken : Nanos) (is_slow : Bool)
+        (captured : ChildOutputDescription) (output : SceneOutput)
+        → attempt_made retry_data result time_taken is_slow (output_loads captured output)
+        ≡ attempt_loads captured (attempt_made retry_data result time_taken is_slow output)
     attempt_puts retry_data result time_taken is_slow captured output = grind arith
 
     pub attempt_reads : (retry_data : RetryData) → Reads all (HasOutput all attempt_loads) (attempt_fields retry_data)
     unfolding attempt_fields
     attempt_reads retry_data =
-        then_spells all (field_reads all _ marked_result) (λ result. then_spells all (field_reads all _ marked_nanos) (λ time_taken. then_spells all (field_reads all _ (λ u. refl)) (λ is_slow.
-        output_made_reads all (attempt_made retry_data result time_taken is_slow) output_reads (attempt_puts retry_data result time_taken is_slow))))
+        then_spells all (field_reads all _ marked_result)
+        (λ result. then_spells all (field_reads all _ marked_nanos)
+        (λ time_taken. then_spells all (field_reads all _ (λ u. refl)) (λ is_slow.
+        output_made_reads all (attempt_made retry_data result time_taken is_slow) output_reads
+        (attempt_puts retry_data result time_taken is_slow))))

@@ -1,8 +1,12 @@
 -- How wide a test's name can be (for `DisplayTestInstance::write_within`).
-use Rattle.std.proofs.Common.{ℕ, zero, suc, ◌+◌, ◌*◌, ◌<◌, ◌≤◌, ◌^◌, [], ◌∷◌, ◌++◌, arith, length, length-append, length-take, length-drop, Option, None, Some, take, drop, codes, ◌-◌, ◌==◌, inl, inr}
-use Rattle.{std.proofs.lemmas.Bool.cases_Bool, styled_text.proofs.lemmas.Fits.columns_of-le, report_words.specs.Names.Style, report_words.specs.Names.ListStyles}
-use Rattle.styled_text.specs.Names.{chars, chars_after, continuation_len, lead_bits, option_map, option_map_or, Text, visible, visible_after, sequence_len, columns, styled, style_prefix, style_suffix}
-use Rattle.{run_names.specs.Names.last_colons, report_text.specs.Instance.name_text, report_text.specs.Instance.test_name_text}
+use Rattle.std.proofs.Common.{ℕ, zero, suc, ◌+◌, ◌*◌, ◌<◌, ◌≤◌, ◌^◌, [], ◌∷◌, ◌++◌, arith, length, length-append}
+use Rattle.std.proofs.Common.{length-take, length-drop, Option, None, Some, take, drop, codes, ◌-◌, ◌==◌, inl, inr}
+use Rattle.{std.proofs.lemmas.Bool.cases_Bool, styled_text.proofs.lemmas.Fits.columns_of-le}
+use Rattle.{report_words.specs.Names.Style, report_words.specs.Names.ListStyles}
+use Rattle.styled_text.specs.Names.{chars, chars_after, continuation_len, lead_bits, option_map, option_map_or, Text}
+use Rattle.styled_text.specs.Names.{visible, visible_after, sequence_len, columns, styled, style_prefix, style_suffix}
+use Rattle.{run_names.specs.Names.last_colons, report_text.specs.Instance.name_text}
+use Rattle.{report_text.specs.Instance.test_name_text}
 use Rattle.styled_text.specs.declared.style.Style.TheVariants as style
 
 visible_after-le : (n : ℕ) (t : Text) → length (visible_after n t) ≤ length t
@@ -28,7 +32,8 @@ style-le style.BrightBlack = (omega arith, omega arith)
 
 styled-le : (s : Style) (t : Text) → length (styled s t) ≤ length t + 11
 unfolding styled
-styled-le s t = omega (arith, style-le s, length-append (style_prefix s) (t ++ style_suffix s), length-append t (style_suffix s))
+styled-le s t = omega
+    (arith, style-le s, length-append (style_prefix s) (t ++ style_suffix s), length-append t (style_suffix s))
 
 chars_after-le : (n c : ℕ) (bs : Text) → length (chars_after n c bs) ≤ length bs + 1
 chars_after-le zero c [] = omega arith
@@ -45,7 +50,8 @@ chars-le (b ∷ bs) = omega (arith, chars_after-le (continuation_len b) (lead_bi
 columns-le : (t : Text) → columns t ≤ 3 * length t
 columns-le t = omega (arith, columns_of-le (chars (visible t)), chars-le (visible t), visible_after-le 0 t)
 
-path-le : (s r : Style) (path last : Text) (n : ℕ) → length path ≤ n → length last ≤ n → length (styled s path ++ (styled s (codes "::") ++ styled r last)) ≤ 2 * n + 35
+path-le : (s r : Style) (path last : Text) (n : ℕ) → length path ≤ n → length last ≤ n
+    → length (styled s path ++ (styled s (codes "::") ++ styled r last)) ≤ 2 * n + 35
 path-le s r path last n h k = omega (
   arith,
   length-append (styled s path) (styled s (codes "::") ++ styled r last),
@@ -59,9 +65,12 @@ name-le : (s : ListStyles) (name : Text) → length (test_name_text s name) ≤ 
 unfolding test_name_text
 name-le s name = go (last_colons name)
   where
-    go : (o : Option ℕ) → length (name_text s (option_map (λ i. take i name) o) (option_map_or (λ i. drop (i + 2) name) o name)) ≤ 2 * length name + 35
+    go : (o : Option ℕ)
+        → length (name_text s (option_map (λ i. take i name) o) (option_map_or (λ i. drop (i + 2) name) o name)) ≤ 2 *
+        length name + 35
     go None = omega (arith, styled-le s.test_name name)
-    go (Some i) = path-le s.module_path s.test_name (take i name) (drop (i + 2) name) (length name) (omega (arith, length-take i name)) (omega (arith, length-drop (i + 2) name))
+    go (Some i) = path-le s.module_path s.test_name (take i name) (drop (i + 2) name) (length name)
+        (omega (arith, length-take i name)) (omega (arith, length-drop (i + 2) name))
 
 -- a name in memory is not that wide
 pub name_columns : (s : ListStyles) (name : Text) → length name < 2 ^ 64 → columns (test_name_text s name) < 2 ^ 127

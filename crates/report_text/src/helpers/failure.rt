@@ -1,7 +1,9 @@
 //! How a process ended, in words.
 
 ghost use Rattle.std.specs.Prelude.{◌≡◌, ◌<◌, ◌∷◌, [], IfOk, string_bytes};
-ghost use Rattle.report_text.specs.Failure.{abort_details, abort_text, abort_words, exit_details, exit_text, exit_words, hex_digit, last_hex_digits, message_text, nt_status_text, signal_name_text};
+ghost use Rattle.report_text.specs.Failure.{abort_details, abort_text, abort_words, exit_details, exit_text};
+ghost use Rattle.report_text.specs.Failure.{exit_words, hex_digit, last_hex_digits, message_text, nt_status_text};
+ghost use Rattle.report_text.specs.Failure.{signal_name_text};
 ghost use Rattle.writers.specs.Writer.{Puts};
 
 use itoa::Buffer;

@@ -2,7 +2,8 @@
 
 ghost use Rattle.std.specs.Prelude.{◌≡◌, ℕ, None, Some};
 ghost use Rattle.styled_text.specs.Names.{DisplaysOnOk, DisplaysStyledOnOk, FitsWidth, Puts};
-ghost use Rattle.report_text.specs.Instance.{HasPlainWords, counter_prefix, counter_text, front_parts, id_prefix, instance_text, test_name_text, shown_instance, stress_prefix, stress_text};
+ghost use Rattle.report_text.specs.Instance.{HasPlainWords, counter_prefix, counter_text, front_parts, id_prefix};
+ghost use Rattle.report_text.specs.Instance.{instance_text, test_name_text, shown_instance, stress_prefix, stress_text};
 
 use crate::helpers::max_width::write_within;
 use itoa::Buffer;
@@ -76,8 +77,15 @@ impl<'a> DisplayTestInstance<'a> {
     }
 
     fn write_within<W: WriteStr>(&self, w: &mut W, width: usize) -> Result<(), WriteFault>
-        ensures text { Puts W.meaning w.old (shown_instance (Some width) self.now.styles self.now.stress_index self.now.counter_index self.now.instance) result w.new }
-        ensures law { HasPlainWords self.now.counter_index self.now.instance.binary_id.now self.now.instance.test_name.now → FitsWidth width (front_parts self.now.styles self.now.stress_index self.now.counter_index self.now.instance.binary_id.now) (test_name_text self.now.styles self.now.instance.test_name.now) }
+        ensures text { Puts W.meaning w.old
+            (shown_instance (Some width) self.now.styles self.now.stress_index self.now.counter_index
+            self.now.instance)
+            result w.new }
+        ensures law { HasPlainWords self.now.counter_index self.now.instance.binary_id.now
+            self.now.instance.test_name.now
+            → FitsWidth width
+            (front_parts self.now.styles self.now.stress_index self.now.counter_index self.now.instance.binary_id.now)
+            (test_name_text self.now.styles self.now.instance.test_name.now) }
     {
         let stress = StressPart(&self.styles.count, &self.stress_index);
         let counter = CounterPart(&self.counter_index);
@@ -89,7 +97,9 @@ impl<'a> DisplayTestInstance<'a> {
     }
 
     fn write_whole<W: WriteStr>(&self, w: &mut W) -> Result<(), WriteFault>
-        ensures { Puts W.meaning w.old (instance_text self.now.styles self.now.stress_index self.now.counter_index self.now.instance) result w.new }
+        ensures { Puts W.meaning w.old
+            (instance_text self.now.styles self.now.stress_index self.now.counter_index self.now.instance) result
+            w.new }
     {
         write_test_instance(
             w,
@@ -105,8 +115,15 @@ impl WriteText for DisplayTestInstance<'_> {
     ghost text = { λ t. shown_instance t.max_width t.styles t.stress_index t.counter_index t.instance };
 
     fn write_to<W: WriteStr>(&self, w: &mut W) -> Result<(), WriteFault>
-        ensures text { Puts W.meaning w.old (shown_instance self.now.max_width self.now.styles self.now.stress_index self.now.counter_index self.now.instance) result w.new }
-        ensures law { (width : ℕ) → self.now.max_width ≡ Some width → HasPlainWords self.now.counter_index self.now.instance.binary_id.now self.now.instance.test_name.now → FitsWidth width (front_parts self.now.styles self.now.stress_index self.now.counter_index self.now.instance.binary_id.now) (test_name_text self.now.styles self.now.instance.test_name.now) }
+        ensures text { Puts W.meaning w.old
+            (shown_instance self.now.max_width self.now.styles self.now.stress_index self.now.counter_index
+            self.now.instance)
+            result w.new }
+        ensures law { (width : ℕ) → self.now.max_width ≡ Some width
+            → HasPlainWords self.now.counter_index self.now.instance.binary_id.now self.now.instance.test_name.now
+            → FitsWidth width
+            (front_parts self.now.styles self.now.stress_index self.now.counter_index self.now.instance.binary_id.now)
+            (test_name_text self.now.styles self.now.instance.test_name.now) }
     {
         match self.max_width {
             None => self.write_whole(w),
@@ -135,7 +152,8 @@ pub fn write_test_instance<W: WriteStr>(
     counter_index: &Option<DisplayCounterIndex>,
     instance: TestInstanceId<'_>,
 ) -> Result<(), WriteFault>
-    ensures { Puts W.meaning w.old (instance_text styles.now stress_index.now counter_index.now instance.entry) result w.new }
+    ensures { Puts W.meaning w.old (instance_text styles.now stress_index.now counter_index.now instance.entry) result
+        w.new }
 {
     StressPart(&styles.count, stress_index).write_to(w)?;
     CounterPart(counter_index).write_to(w)?;
@@ -148,9 +166,17 @@ impl fmt::Display for DisplayTestInstance<'_> {
 
     // If the names have no escape character, the text is at most that wide.
     fn fmt<W: fmt::Write>(&self, f: &mut Formatter<W>) -> fmt::Result
-        ensures writes { DisplaysOnOk W.write_str_gives f.old result (Some (shown_instance self.now.max_width self.now.styles self.now.stress_index self.now.counter_index self.now.instance)) f.new }
+        ensures writes { DisplaysOnOk W.write_str_gives f.old result
+            (Some
+            (shown_instance self.now.max_width self.now.styles self.now.stress_index self.now.counter_index
+            self.now.instance))
+            f.new }
         ensures styled { DisplaysStyledOnOk W.write_str_gives f.old result None f.new }
-        ensures law { (width : ℕ) → self.now.max_width ≡ Some width → HasPlainWords self.now.counter_index self.now.instance.binary_id.now self.now.instance.test_name.now → FitsWidth width (front_parts self.now.styles self.now.stress_index self.now.counter_index self.now.instance.binary_id.now) (test_name_text self.now.styles self.now.instance.test_name.now) }
+        ensures law { (width : ℕ) → self.now.max_width ≡ Some width
+            → HasPlainWords self.now.counter_index self.now.instance.binary_id.now self.now.instance.test_name.now
+            → FitsWidth width
+            (front_parts self.now.styles self.now.stress_index self.now.counter_index self.now.instance.binary_id.now)
+            (test_name_text self.now.styles self.now.instance.test_name.now) }
     {
         show_written!(self, f)
     }

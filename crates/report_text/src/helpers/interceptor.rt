@@ -2,7 +2,8 @@
 
 ghost use Rattle.std.specs.Prelude.{◌≡◌, IfOk, string_bytes};
 ghost use Rattle.styled_text.specs.Names.{flat_map, Puts};
-ghost use Rattle.report_text.specs.Interceptor.{listed_test, interceptor_option, selected_text, too_many_tests_text, unlisted_text};
+ghost use Rattle.report_text.specs.Interceptor.{listed_test, interceptor_option, selected_text, too_many_tests_text};
+ghost use Rattle.report_text.specs.Interceptor.{unlisted_text};
 
 use crate::helpers::instance::DisplayTestInstance;
 use report_words::plural::{tests_plural_if, tests_str};
@@ -37,7 +38,9 @@ pub fn format_interceptor_too_many_tests(
     list_styles: &ListStyles,
     count_style: Style,
 ) -> Result<String, OutOfMemory>
-    ensures { IfOk result (λ text. string_bytes text ≡ too_many_tests_text cli_opt_name.now mode test_count test_instances.now list_styles.now count_style) }
+    ensures { IfOk result
+        (λ text. string_bytes text
+        ≡ too_many_tests_text cli_opt_name.now mode test_count test_instances.now list_styles.now count_style) }
 {
     let mut text = String::new(alloc);
     let written = write_interceptor_too_many_tests(
@@ -70,7 +73,9 @@ pub fn write_interceptor_too_many_tests<W: WriteStr>(
     list_styles: &ListStyles,
     count_style: Style,
 ) -> Result<(), WriteFault>
-    ensures { Puts W.meaning w.old (too_many_tests_text cli_opt_name.now mode test_count test_instances.now list_styles.now count_style) result w.new }
+    ensures { Puts W.meaning w.old
+        (too_many_tests_text cli_opt_name.now mode test_count test_instances.now list_styles.now count_style) result
+        w.new }
 {
     write_interceptor_option(w, cli_opt_name, mode)?;
     write_selected(w, mode, test_count, count_style)?;

@@ -21,8 +21,17 @@ pub(super) fn write_within<W: WriteStr>(
     width: usize,
 ) -> Result<(), WriteFault>
     requires { columns (test_name_text name.now.styles name.now.name.now) < 2 ^ 127 }
-    ensures text { Puts W.meaning w.old (shrunk_parts (stress_prefix stress.now.0.now stress.now.1.now ∷ counter_prefix counter.now.0.now ∷ id_prefix id.now.0.now id.now.1.now ∷ []) (test_name_text name.now.styles name.now.name.now) width) result w.new }
-    ensures law { HasPlainWords counter.now.0.now id.now.1.now name.now.name.now → FitsWidth width (stress_prefix stress.now.0.now stress.now.1.now ∷ counter_prefix counter.now.0.now ∷ id_prefix id.now.0.now id.now.1.now ∷ []) (test_name_text name.now.styles name.now.name.now) }
+    ensures text { Puts W.meaning w.old
+        (shrunk_parts
+        (stress_prefix stress.now.0.now stress.now.1.now ∷ counter_prefix counter.now.0.now
+        ∷ id_prefix id.now.0.now id.now.1.now ∷ [])
+        (test_name_text name.now.styles name.now.name.now) width)
+        result w.new }
+    ensures law { HasPlainWords counter.now.0.now id.now.1.now name.now.name.now
+        → FitsWidth width
+        (stress_prefix stress.now.0.now stress.now.1.now ∷ counter_prefix counter.now.0.now
+        ∷ id_prefix id.now.0.now id.now.1.now ∷ [])
+        (test_name_text name.now.styles name.now.name.now) }
 {
     let room = width as u128;
     let stress_width = count_columns(stress);

@@ -1,8 +1,10 @@
 //! Words between quotes, as a shell reads them or as a message shows them.
 
-ghost use Rattle.std.specs.Prelude.{◌≡◌, ℕ, List, ◌∷◌, ◌++◌, ◌<◌, IfOk, IfSome, MatchOption, codes, length, map, string_bytes};
+ghost use Rattle.std.specs.Prelude.{◌≡◌, ℕ, List, ◌∷◌, ◌++◌, ◌<◌, IfOk, IfSome, MatchOption, codes, length, map};
+ghost use Rattle.std.specs.Prelude.{string_bytes};
 ghost use Rattle.styled_text.specs.Names.{flat_map, option_map, Puts};
-ghost use Rattle.report_text.specs.Quoting.{in_single_quotes, is_unquoted, is_unquoted_byte, quoted_text, shell_word, shell_words};
+ghost use Rattle.report_text.specs.Quoting.{in_single_quotes, is_unquoted, is_unquoted_byte, quoted_text, shell_word};
+ghost use Rattle.report_text.specs.Quoting.{shell_words};
 
 use run_names::memory::OutOfMemory;
 use std::alloc::Global;
@@ -105,7 +107,8 @@ fn write_words_after<W: WriteStr, T: CommandWord>(
     separator: &str,
     words: &[T],
 ) -> Result<(), WriteFault>
-    ensures { Puts W.meaning w.old (flat_map (λ word. separator.now ++ shell_word (T.text word)) words.now) result w.new }
+    ensures { Puts W.meaning w.old (flat_map (λ word. separator.now ++ shell_word (T.text word)) words.now) result
+        w.new }
 {
     for word in words {
         write_word_after(w, separator, word.as_text())?;
@@ -175,7 +178,8 @@ fn write_quoted<W: WriteStr>(w: &mut W, text: &str) -> Result<(), WriteFault>
 }
 
 fn split_quote(text: &str) -> Option<(&str, &str)>
-    ensures parts { MatchOption result (quoted_text text.now ≡ text.now) (λ parts. quoted_text text.now ≡ (parts.0.now ++ codes "'\\''") ++ quoted_text parts.1.now) }
+    ensures parts { MatchOption result (quoted_text text.now ≡ text.now)
+        (λ parts. quoted_text text.now ≡ (parts.0.now ++ codes "'\\''") ++ quoted_text parts.1.now) }
     ensures shorter { IfSome result (λ parts. length parts.1.now < length text.now) }
 {
     text.split_once('\'')

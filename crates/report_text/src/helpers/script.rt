@@ -1,7 +1,8 @@
 //! Setup scripts as a report shows them.
 
 ghost use Rattle.std.specs.Prelude.{◌≡◌, ◌∷◌, IfOk, Some, map, string_bytes};
-ghost use Rattle.{report_text.specs.Instance.script_text, report_text.specs.Quoting.shell_words, writers.specs.Writer.Puts};
+ghost use Rattle.{report_text.specs.Instance.script_text, report_text.specs.Quoting.shell_words};
+ghost use Rattle.{writers.specs.Writer.Puts};
 
 use crate::helpers::instance::StressPart;
 use crate::helpers::quoting::{CommandWord, write_shell_command};
@@ -55,7 +56,8 @@ impl DisplayScriptInstance {
     ) -> Result<DisplayScriptInstance, OutOfMemory>
         ensures stress_index { IfOk result (λ shown. shown.stress_index ≡ stress_index) }
         ensures script_id { IfOk result (λ shown. shown.script_id ≡ script_id) }
-        ensures command { IfOk result (λ shown. string_bytes shown.full_command ≡ shell_words (command.now ∷ map string_bytes args.now)) }
+        ensures command { IfOk result
+            (λ shown. string_bytes shown.full_command ≡ shell_words (command.now ∷ map string_bytes args.now)) }
         ensures script_id_style { IfOk result (λ shown. shown.script_id_style ≡ script_id_style) }
         ensures count_style { IfOk result (λ shown. shown.count_style ≡ count_style) }
     {
@@ -74,7 +76,8 @@ impl DisplayScriptInstance {
 }
 
 impl WriteText for DisplayScriptInstance {
-    ghost text = { λ s. script_text s.script_id_style s.count_style s.stress_index s.script_id (string_bytes s.full_command) };
+    ghost text = { λ s. script_text s.script_id_style s.count_style s.stress_index s.script_id
+        (string_bytes s.full_command) };
 
     #[tactic(auto, unfolding(crate::specs::Instance::script_text))]
     fn write_to<W: WriteStr>(&self, w: &mut W) -> Result<(), WriteFault> {
@@ -85,7 +88,8 @@ impl WriteText for DisplayScriptInstance {
 }
 
 impl fmt::Display for DisplayScriptInstance {
-    ghost output = { λ s. Some (script_text s.script_id_style s.count_style s.stress_index s.script_id (string_bytes s.full_command)) };
+    ghost output = { λ s. Some
+        (script_text s.script_id_style s.count_style s.stress_index s.script_id (string_bytes s.full_command)) };
 
     fn fmt<W: fmt::Write>(&self, f: &mut Formatter<W>) -> fmt::Result {
         show_written!(self, f)
@@ -107,7 +111,10 @@ pub fn write_script_instance<W: WriteStr, T: CommandWord>(
     script_id_style: Style,
     count_style: Style,
 ) -> Result<(), WriteFault>
-    ensures { Puts W.meaning w.old (script_text script_id_style count_style stress_index script_id.now (shell_words (command.now ∷ map T.text args.now))) result w.new }
+    ensures { Puts W.meaning w.old
+        (script_text script_id_style count_style stress_index script_id.now
+        (shell_words (command.now ∷ map T.text args.now)))
+        result w.new }
 {
     StressPart(&count_style, &stress_index).write_to(w)?;
     (Toned(script_id_style, script_id.as_str()), ": ").write_to(w)?;

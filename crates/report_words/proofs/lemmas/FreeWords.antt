@@ -1,12 +1,16 @@
 -- Words without escape characters (for `colour_pairs`).
-use Rattle.std.proofs.Common.{◌≡◌, ℕ, ℤ, pos, negsuc, zero, suc, ◌+◌, ◌-◌, Bool, true, false, cond, ◌==◌, nat_lt, inl, inr, List, [], ◌∷◌, refl, arith, take, drop, ◌/◌, ◌%◌}
+use Rattle.std.proofs.Common.{◌≡◌, ℕ, ℤ, pos, negsuc, zero, suc, ◌+◌, ◌-◌, Bool, true, false, cond, ◌==◌, nat_lt, inl}
+use Rattle.std.proofs.Common.{inr, List, [], ◌∷◌, refl, arith, take, drop, ◌/◌, ◌%◌}
 use Rattle.std.proofs.lemmas.{Bool.cases_Bool, Bool.Decides.nat_tests}
-use Rattle.styled_text.specs.Names.{signed_decimal, Text, visible, HasNoEscape, indent, indent_onward, indent-onward, last_digits, with_point, seconds, plain}
-use Rattle.uuid.specs.Text.{by_index, hyphenated_text, lower, is_hyphen_place, hex_digit as id_digit, nibble, digit_place}
+use Rattle.styled_text.specs.Names.{signed_decimal, Text, visible, HasNoEscape, indent, indent_onward, indent-onward}
+use Rattle.styled_text.specs.Names.{last_digits, with_point, seconds, plain}
+use Rattle.uuid.specs.Text.{by_index, hyphenated_text, lower, is_hyphen_place, hex_digit as id_digit, nibble}
+use Rattle.uuid.specs.Text.{digit_place}
 use Rattle.run_names.specs.declared.config.NextestRunMode.{NextestRunMode, TheVariants.Test, TheVariants.Benchmark}
 use Rattle.run_names.specs.{Levels.reason_words, declared.level.CancelReason.CancelReason}
 use Rattle.run_names.specs.declared.level.CancelReason.TheVariants as reason
-use Rattle.report_words.specs.Names.{clock_text, were_word, tests_word_if, setup_scripts_word, binaries_word, iterations_word, hbar_text}
+use Rattle.report_words.specs.Names.{clock_text, were_word, tests_word_if, setup_scripts_word, binaries_word}
+use Rattle.report_words.specs.Names.{iterations_word, hbar_text}
 use Rattle.styled_text.proofs.lemmas.Closed.{decimal_free, right_free, repeat_free}
 use Rattle.styled_text.proofs.lemmas.{Pieces.free_parts, Pieces.visible_after-free, Widths.free_both}
 
@@ -37,7 +41,8 @@ free-digit d = let e : ((48 + d) == 27) ≡ false = grind (arith, nat_tests) in 
 
 pub free-last_digits : (k n : ℕ) → HasNoEscape (last_digits k n)
 free-last_digits zero n = refl
-free-last_digits (suc k) n = free_both (last_digits k (n / 10)) ((48 + n % 10) ∷ []) (free-last_digits k (n / 10)) (free-digit (n % 10))
+free-last_digits (suc k) n = free_both (last_digits k (n / 10)) ((48 + n % 10) ∷ []) (free-last_digits k (n / 10))
+    (free-digit (n % 10))
 
 pub free-seconds : (k n : ℕ) → HasNoEscape (seconds k n)
 unfolding seconds with_point
@@ -59,7 +64,10 @@ free-by_index zero f h = refl
 free-by_index (suc n) f h = free_both (by_index n f) (f n ∷ []) (free-by_index n f h) (h n)
 
 pub free-run_id : (id : List ℕ) → HasNoEscape (hyphenated_text lower id)
-free-run_id id = free-by_index 36 _ (λ k. elim (cases_Bool (is_hyphen_place k)) [ inl y ↦ rw y refl | inr n ↦ rw n (free-id_digit (nibble id (digit_place k))) ])
+free-run_id id = free-by_index 36 _ (λ k. elim (cases_Bool (is_hyphen_place k)) [
+  | inl y ↦ rw y refl
+  | inr n ↦ rw n (free-id_digit (nibble id (digit_place k)))
+])
 
 pub free-indent : (p : Text) (b : Bool) (t : Text) → HasNoEscape p → HasNoEscape t → HasNoEscape (indent p b t)
 free-indent p b t h k = rw indent-onward (go b t k)
@@ -68,7 +76,9 @@ free-indent p b t h k = rw indent-onward (go b t k)
     go b [] k = refl
     go b (c ∷ t) k = let both = free_parts c t k in elim (cases_Bool (c == 10)) [
       | inl y ↦ rw y (go true t both.1)
-      | inr n ↦ rw n (free_both (cond b p []) (c ∷ indent_onward p false t) (free-if b p [] h refl) (rw both.0 (go false t both.1)))
+      | inr n ↦ rw n
+          (free_both (cond b p []) (c ∷ indent_onward p false t) (free-if b p [] h refl)
+          (rw both.0 (go false t both.1)))
     ]
 
 pub free-tests_word_if : (mode : NextestRunMode) (b : Bool) → HasNoEscape (tests_word_if mode b)
@@ -114,4 +124,24 @@ free-hbar_text false n = repeat_free n _ refl
 pub free-visible : (t : Text) → HasNoEscape (visible t)
 free-visible t = visible_after-free 0 t
 
-pub ruleset frees = (free_both, free-if, decimal_free, right_free, free-signed, free-plain, free-seconds, free-clock_text, free-run_id, free-indent, free-tests_word_if, free-setup_scripts_word, free-binaries_word, free-iterations_word, free-were_word, free-hbar_text, free-take, free-drop, free-visible)
+pub ruleset frees = (
+  free_both,
+  free-if,
+  decimal_free,
+  right_free,
+  free-signed,
+  free-plain,
+  free-seconds,
+  free-clock_text,
+  free-run_id,
+  free-indent,
+  free-tests_word_if,
+  free-setup_scripts_word,
+  free-binaries_word,
+  free-iterations_word,
+  free-were_word,
+  free-hbar_text,
+  free-take,
+  free-drop,
+  free-visible,
+)

@@ -1,12 +1,19 @@
 -- Parts painted in colour and plain: the law of colour, once for all texts of parts.
-use Rattle.std.proofs.Common.{ℕ, zero, suc, Bool, true, false, cond, List, ◌++◌, refl, [], ◌∷◌, ◌==◌, inl, inr, sym, ap, ◌∙◌, append_assoc, append-nil}
+use Rattle.std.proofs.Common.{ℕ, zero, suc, Bool, true, false, cond, List, ◌++◌, refl, [], ◌∷◌, ◌==◌, inl, inr, sym, ap}
+use Rattle.std.proofs.Common.{◌∙◌, append_assoc, append-nil}
 use Rattle.std.proofs.lemmas.{Bool.cases_Bool, Bool.eqb-true, List.append_cancel_right}
-use Rattle.styled_text.specs.Names.{Text, spaces, HasNoEscape, visible, visible_after, plain, styled, styles_of, indent, without_end_spaces, flat_map, AllByRecursion}
+use Rattle.styled_text.specs.Names.{Text, spaces, HasNoEscape, visible, visible_after, plain, styled, styles_of, indent}
+use Rattle.styled_text.specs.Names.{without_end_spaces, flat_map, AllByRecursion}
 use Rattle.styled_text.proofs.lemmas.Closed.{decimal_free, right_free, spaces_free}
-use Rattle.report_words.proofs.lemmas.ColourPairs.{colour_pair-none, colour_pair-append, colour_pair-styled, colour_pair-if, colour_pair-free, colour_pair-whole, colour_pair-indent, colour_pair-indented_line}
-use Rattle.report_words.specs.Names.{IsColourPair, IsColourPairOfLine, Parts, Tone, Count, Pass, Retry, Fail, Skip, ScriptId, RunIdPrefix, RunIdRest, none, Words, Word, Verbatim, Toned, Right, number}
+use Rattle.report_words.proofs.lemmas.ColourPairs.{colour_pair-none, colour_pair-append, colour_pair-styled}
+use Rattle.report_words.proofs.lemmas.ColourPairs.{colour_pair-if, colour_pair-free, colour_pair-whole}
+use Rattle.report_words.proofs.lemmas.ColourPairs.{colour_pair-indent, colour_pair-indented_line}
+use Rattle.report_words.specs.Names.{IsColourPair, IsColourPairOfLine, Parts, Tone, Count, Pass, Retry, Fail, Skip}
+use Rattle.report_words.specs.Names.{ScriptId, RunIdPrefix, RunIdRest, none, Words, Word, Verbatim, Toned, Right}
+use Rattle.report_words.specs.Names.{number}
 use Rattle.report_words.specs.Names.{ending, joined_end, either_end, EndsLine, IsOfLines, style_of, paint, Styles}
-use Rattle.report_words.specs.Names.{given, given_toned, given_right, Join, choice, each, indented, indented_line, plainly, openly, loosely, drawn_given, drawn_given_line, End, Line, Open, Lines}
+use Rattle.report_words.specs.Names.{given, given_toned, given_right, Join, choice, each, indented, indented_line}
+use Rattle.report_words.specs.Names.{plainly, openly, loosely, drawn_given, drawn_given_line, End, Line, Open, Lines}
 use Rattle.styled_text.proofs.lemmas.IndentedEndSpaces.{IsBlank, end_spaces-line, indent-feed}
 use Rattle.styled_text.proofs.lemmas.{LineSequences.visible-line, Widths.free_front}
 
@@ -30,7 +37,8 @@ AreFreeGiven k x = Unit {0}
 abbrev pub AreFree : {a : Bool} {d : End} → Bool → Parts a d → Type 0
 AreFree {a} k x = cond a (Unit {0}) (AreFreeGiven k x)
 
-in_tone : (k : Bool) (tone : Tone) (t : Text) → HasNoEscape t → IsColourPair k (styled (style_of (styles_of true) tone) t) (styled (style_of (styles_of false) tone) t)
+in_tone : (k : Bool) (tone : Tone) (t : Text) → HasNoEscape t
+    → IsColourPair k (styled (style_of (styles_of true) tone) t) (styled (style_of (styles_of false) tone) t)
 in_tone k Count t h = colour_pair-styled k _ t h
 in_tone k Pass t h = colour_pair-styled k _ t h
 in_tone k Retry t h = colour_pair-styled k _ t h
@@ -48,7 +56,10 @@ EndsBy Lines t = IsOfLines t
 
 ends-words : (t : Text) → EndsBy (ending t) t
 ends-words [] = inl refl
-ends-words (c ∷ []) = elim (cases_Bool (c == 10)) [ inl y ↦ rw y ([], ap (λ x. x ∷ []) (eqb-true c 10 y)) | inr n ↦ rw n tt ]
+ends-words (c ∷ []) = elim (cases_Bool (c == 10)) [
+  | inl y ↦ rw y ([], ap (λ x. x ∷ []) (eqb-true c 10 y))
+  | inr n ↦ rw n tt
+]
 ends-words (c ∷ d ∷ t) = go (ending (d ∷ t)) (ends-words (d ∷ t))
   where
     go : (e : End) → EndsBy e (d ∷ t) → EndsBy e (c ∷ d ∷ t)
@@ -123,24 +134,32 @@ ends s (drawn_given_line f whole) = whole s
 unfed : (k : Bool) (c u : Text) → IsColourPair k (c ++ 10 ∷ []) (u ++ 10 ∷ []) → IsColourPairOfLine k c u
 unfolding without_end_spaces visible_after
 unfed k c u h = record {
-  coloured = λ e. append_cancel_right _ _ (10 ∷ []) (sym (end_spaces-line (visible c) []) ∙ ap without_end_spaces (sym (visible-line c [])) ∙ (colour_pair-whole k _ _ h).coloured e ∙ end_spaces-line u []);
+  coloured = λ e. append_cancel_right _ _ (10 ∷ [])
+      (sym (end_spaces-line (visible c) []) ∙ ap without_end_spaces (sym (visible-line c []))
+      ∙ (colour_pair-whole k _ _ h).coloured e ∙ end_spaces-line u []);
   plain = λ e. free_front u (10 ∷ []) (h.plain e);
 }
 
-indented-pair : (k : Bool) (n : ℕ) (b : Bool) (c u : Text) → EndsLine c → EndsLine u → IsColourPair k c u → IsColourPair k (indent (spaces n) b c) (indent (spaces n) b u)
+indented-pair : (k : Bool) (n : ℕ) (b : Bool) (c u : Text) → EndsLine c → EndsLine u → IsColourPair k c u
+    → IsColourPair k (indent (spaces n) b c) (indent (spaces n) b u)
 indented-pair k n b c u p q h =
-    rw (p.1, q.1) (colour_pair-indent k (spaces n) b p.0 q.0 (spaces_free n) (blank-spaces n) (unfed k p.0 q.0 (rw (p.1, q.1) at h)))
+    rw (p.1, q.1)
+    (colour_pair-indent k (spaces n) b p.0 q.0 (spaces_free n) (blank-spaces n)
+    (unfed k p.0 q.0 (rw (p.1, q.1) at h)))
 
-each-pair : {X : Type 0} (k : Bool) (f g : X → Text) (xs : List X) → ((x : X) → IsColourPair k (f x) (g x)) → IsColourPair k (flat_map f xs) (flat_map g xs)
+each-pair : {X : Type 0} (k : Bool) (f g : X → Text) (xs : List X) → ((x : X) → IsColourPair k (f x) (g x))
+    → IsColourPair k (flat_map f xs) (flat_map g xs)
 each-pair k f g [] h = colour_pair-none k
 each-pair k f g (x ∷ xs) h = colour_pair-append k _ _ _ _ (h x) (each-pair k f g xs h)
 
-each-pair_all : {X : Type 0} (k : Bool) (f g : X → Text) (P : X → Type 0) (xs : List X) → AllByRecursion P xs → ((x : X) → P x → IsColourPair k (f x) (g x)) → IsColourPair k (flat_map f xs) (flat_map g xs)
+each-pair_all : {X : Type 0} (k : Bool) (f g : X → Text) (P : X → Type 0) (xs : List X) → AllByRecursion P xs
+    → ((x : X) → P x → IsColourPair k (f x) (g x)) → IsColourPair k (flat_map f xs) (flat_map g xs)
 each-pair_all k f g P [] all h = colour_pair-none k
 each-pair_all k f g P (x ∷ xs) all h = colour_pair-append k _ _ _ _ (h x all.0) (each-pair_all k f g P xs all.1 h)
 
 -- the parts in colour are the plain ones, if words from outside hold no escape character
-pub in_colour : {a : Bool} {d : End} (k : Bool) (x : Parts a d) → AreFree k x → IsColourPair k (paint (styles_of true) x) (paint (styles_of false) x)
+pub in_colour : {a : Bool} {d : End} (k : Bool) (x : Parts a d) → AreFree k x
+    → IsColourPair k (paint (styles_of true) x) (paint (styles_of false) x)
 unfolding plain
 in_colour k none h = colour_pair-none k
 in_colour k (Word t free) h = colour_pair-free k t free
@@ -158,12 +177,18 @@ in_colour k (Join {a = false} {b = b} x y) h = colour_pair-append k _ _ _ _ (in_
 in_colour k (choice {a = true} {b = true} c x y) h = colour_pair-if k c _ _ _ _ (in_colour k x tt) (in_colour k y tt)
 in_colour k (choice {a = true} {b = false} c x y) h = colour_pair-if k c _ _ _ _ (in_colour k x tt) (in_colour k y h.1)
 in_colour k (choice {a = false} {b = b} c x y) h = colour_pair-if k c _ _ _ _ (in_colour k x h.0) (in_colour k y h.1)
-in_colour k (each {a = true} f xs) h = each-pair k (λ x. paint (styles_of true) (f x)) (λ x. paint (styles_of false) (f x)) xs (λ x. in_colour k (f x) tt)
-in_colour k (each {a = false} f xs) h = each-pair_all k (λ x. paint (styles_of true) (f x)) (λ x. paint (styles_of false) (f x)) (λ x. AreFreeGiven k (f x)) xs h (λ x j. in_colour k (f x) j)
-in_colour k (indented {a = true} n b x) h = indented-pair k n b _ _ (ends (styles_of true) x) (ends (styles_of false) x) (in_colour k x tt)
-in_colour k (indented {a = false} n b x) h = indented-pair k n b _ _ (ends (styles_of true) x) (ends (styles_of false) x) (in_colour k x h)
-in_colour k (indented_line {a = true} n b x) h = colour_pair-indented_line k (spaces n) b _ _ (spaces_free n) (blank-spaces n) (colour_pair-whole k _ _ (in_colour k x tt))
-in_colour k (indented_line {a = false} n b x) h = colour_pair-indented_line k (spaces n) b _ _ (spaces_free n) (blank-spaces n) (colour_pair-whole k _ _ (in_colour k x h))
+in_colour k (each {a = true} f xs) h = each-pair k (λ x. paint (styles_of true) (f x))
+    (λ x. paint (styles_of false) (f x)) xs (λ x. in_colour k (f x) tt)
+in_colour k (each {a = false} f xs) h = each-pair_all k (λ x. paint (styles_of true) (f x))
+    (λ x. paint (styles_of false) (f x)) (λ x. AreFreeGiven k (f x)) xs h (λ x j. in_colour k (f x) j)
+in_colour k (indented {a = true} n b x) h = indented-pair k n b _ _ (ends (styles_of true) x) (ends (styles_of false) x)
+    (in_colour k x tt)
+in_colour k (indented {a = false} n b x) h = indented-pair k n b _ _ (ends (styles_of true) x)
+    (ends (styles_of false) x) (in_colour k x h)
+in_colour k (indented_line {a = true} n b x) h = colour_pair-indented_line k (spaces n) b _ _ (spaces_free n)
+    (blank-spaces n) (colour_pair-whole k _ _ (in_colour k x tt))
+in_colour k (indented_line {a = false} n b x) h = colour_pair-indented_line k (spaces n) b _ _ (spaces_free n)
+    (blank-spaces n) (colour_pair-whole k _ _ (in_colour k x h))
 in_colour k (plainly x) h = in_colour k x h
 in_colour k (openly {a = true} x) h = in_colour k x tt
 in_colour k (openly {a = false} x) h = in_colour k x h

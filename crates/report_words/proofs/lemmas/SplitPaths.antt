@@ -1,6 +1,8 @@
 -- Lists of paths cut at their colons (for `split_colon`).
-use Rattle.std.proofs.Common.{◌≡◌, ◌≢◌, ℕ, suc, ◌<◌, [], ◌∷◌, ◌++◌, length, get_or, Option, None, Some, MatchOption, IfSome, refl, ap, ◌∙◌, arith, length-append, lit<, inl, inr}
-use Rattle.{styled_text.specs.Names.Bor, styled_text.specs.Names.Text, report_words.specs.Paths.between_colons, report_words.specs.Paths.in_first_path}
+use Rattle.std.proofs.Common.{◌≡◌, ◌≢◌, ℕ, suc, ◌<◌, [], ◌∷◌, ◌++◌, length, get_or, Option, None, Some, MatchOption}
+use Rattle.std.proofs.Common.{IfSome, refl, ap, ◌∙◌, arith, length-append, lit<, inl, inr}
+use Rattle.{styled_text.specs.Names.Bor, styled_text.specs.Names.Text, report_words.specs.Paths.between_colons}
+use Rattle.{report_words.specs.Paths.in_first_path}
 use Rattle.std.proofs.lemmas.{Bool.Decides.eqb_tells, Str.Pattern.split_parts, Str.Pattern.IsSplitOnceResult}
 
 -- no byte is a colon
@@ -24,12 +26,15 @@ first_path (c ∷ t) u h = elim (eqb_tells c 58) [
 ]
 
 -- the parts that `split_once` gives at a colon
-pub colon_parts : (t : Text) (r : Option (Bor Text × Bor Text)) → IsSplitOnceResult 58 t r → MatchOption r (between_colons t ≡ t ∷ []) (λ x. between_colons t ≡ x.0.now ∷ between_colons x.1.now)
+pub colon_parts : (t : Text) (r : Option (Bor Text × Bor Text)) → IsSplitOnceResult 58 t r
+    → MatchOption r (between_colons t ≡ t ∷ []) (λ x. between_colons t ≡ x.0.now ∷ between_colons x.1.now)
 colon_parts t None h = one_path t (split_parts 58 t None h (lit< tt))
-colon_parts t (Some x) h = let p = split_parts 58 t (Some x) h (lit< tt) in ap between_colons p.0 ∙ first_path x.0.now x.1.now p.1
+colon_parts t (Some x) h = let p = split_parts 58 t (Some x) h (lit< tt) in ap between_colons p.0
+    ∙ first_path x.0.now x.1.now p.1
 
 -- the text after a colon is shorter
-pub after_shorter : (t : Text) (r : Option (Bor Text × Bor Text)) → IsSplitOnceResult 58 t r → IfSome r (λ x. length x.1.now < length t)
+pub after_shorter : (t : Text) (r : Option (Bor Text × Bor Text)) → IsSplitOnceResult 58 t r
+    → IfSome r (λ x. length x.1.now < length t)
 after_shorter t None h = tt
 after_shorter t (Some x) h =
     let p = split_parts 58 t (Some x) h (lit< tt) in

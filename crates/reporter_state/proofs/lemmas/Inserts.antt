@@ -1,9 +1,14 @@
--- An entry that is inserted at its key, whose place is after those of the existing entries (for `KeptEntries::keep`, `KeptEntries::write`).
-use Rattle.std.proofs.Common.{◌≡◌, ℕ, ◌<◌, ◌+◌, Bool, List, [], ◌∷◌, ◌++◌, refl, sym, subst, ◌∙◌, ap, arith, length, reverse, Ordering, Less, Equal, Greater, is_lt, nat_cmp}
+-- An entry that is inserted at its key, whose place is after those of the existing entries (for `KeptEntries::keep`,
+-- `KeptEntries::write`).
+use Rattle.std.proofs.Common.{◌≡◌, ℕ, ◌<◌, ◌+◌, Bool, List, [], ◌∷◌, ◌++◌, refl, sym, subst, ◌∙◌, ap, arith, length}
+use Rattle.std.proofs.Common.{reverse, Ordering, Less, Equal, Greater, is_lt, nat_cmp}
 use Rattle.styled_text.specs.Names.{nat_list_cmp_total, lists_total, ordering_reverse, ordering_then, insert_entry}
 use Rattle.std.proofs.lemmas.List.{map-append, reverse-append, reverse-reverse}
-use Rattle.reporter_state.specs.Names.{shown_entries, entry_cmp, entry_key, shown_entry, final_order, is_before, ArePlaced, Held, IsPlaced, entries_of, entry_held, held_cmp, key_at, shown_of, put_in, FinalOutputEntry, KeptTest, Settings}
-use Rattle.reporter_state.proofs.lemmas.{Keys.is_before-ranks, Orders.order_more, Orders.put_back, Orders.rising-ordered_by}
+use Rattle.reporter_state.specs.Names.{shown_entries, entry_cmp, entry_key, shown_entry, final_order, is_before}
+use Rattle.reporter_state.specs.Names.{ArePlaced, Held, IsPlaced, entries_of, entry_held, held_cmp, key_at, shown_of}
+use Rattle.reporter_state.specs.Names.{put_in, FinalOutputEntry, KeptTest, Settings}
+use Rattle.reporter_state.proofs.lemmas.{Keys.is_before-ranks, Orders.order_more, Orders.put_back}
+use Rattle.reporter_state.proofs.lemmas.{Orders.rising-ordered_by}
 
 earlier : (n p : ℕ) → p < n → nat_cmp p n ≡ Less
 earlier n p h = grind arith
@@ -26,14 +31,29 @@ at_last e n = (omega arith, refl)
 
 -- by how the first of them compares to the entry
 by_first : (e : FinalOutputEntry) (n : ℕ) (p : Held) (ps : List Held) → ArePlaced (n + 1) (p ∷ ps)
-    → (c : Ordering) → entry_cmp (entry_held p) e ≡ c → is_after (entry_held p) e ≡ is_lt (ordering_reverse c) → held_cmp (key_at e n) p.0 ≡ ordering_then c Less
-    → Inserts e n ps (insert_entry held_cmp ps (key_at e n) e.output) → Inserts e n (p ∷ ps) (insert_entry held_cmp (p ∷ ps) (key_at e n) e.output)
+    → (c : Ordering) → entry_cmp (entry_held p) e ≡ c → is_after (entry_held p) e ≡ is_lt (ordering_reverse c)
+    → held_cmp (key_at e n) p.0 ≡ ordering_then c Less
+    → Inserts e n ps (insert_entry held_cmp ps (key_at e n) e.output)
+    → Inserts e n (p ∷ ps) (insert_entry held_cmp (p ∷ ps) (key_at e n) e.output)
 unfolding put_in
-by_first e n p ps all Less q a s more = rw s (record { held = rw a refl; placed = (at_last e n, all); longer = omega arith })
-by_first e n p ps all Equal q a s more = rw s (record { held = rw a refl; placed = (at_last e n, all); longer = omega arith })
-by_first e n p ps all Greater q a s more = rw s (record { held = rw a (ap (λ l. entry_held p ∷ l) more.held); placed = (all.0, more.placed); longer = omega (arith, more.longer) })
+by_first e n p ps all Less q a s more = rw s (record {
+  held = rw a refl;
+  placed = (at_last e n, all);
+  longer = omega arith;
+})
+by_first e n p ps all Equal q a s more = rw s (record {
+  held = rw a refl;
+  placed = (at_last e n, all);
+  longer = omega arith;
+})
+by_first e n p ps all Greater q a s more = rw s (record {
+  held = rw a (ap (λ l. entry_held p ∷ l) more.held);
+  placed = (all.0, more.placed);
+  longer = omega (arith, more.longer);
+})
 
-inserts : (e : FinalOutputEntry) (n : ℕ) (ps : List Held) → ArePlaced n ps → Inserts e n ps (insert_entry held_cmp ps (key_at e n) e.output)
+inserts : (e : FinalOutputEntry) (n : ℕ) (ps : List Held) → ArePlaced n ps
+    → Inserts e n ps (insert_entry held_cmp ps (key_at e n) e.output)
 unfolding put_in
 inserts e n [] all = record { held = refl; placed = (at_last e n, tt); longer = refl }
 inserts e n (p ∷ ps) all = by_first e n p ps (placed-more n (p ∷ ps) all) (entry_cmp (entry_held p) e) refl
@@ -41,20 +61,24 @@ inserts e n (p ∷ ps) all = by_first e n p ps (placed-more n (p ∷ ps) all) (e
     (rw all.0.1 (ap (ordering_then (entry_cmp (entry_held p) e)) (earlier n p.0.0.place all.0.0)))
     (inserts e n ps all.1)
 
-module _ (e : FinalOutputEntry) (place : ℕ) (ps : List Held) (at_end : place ≡ length ps) (all : ArePlaced (length ps) ps) where
+module _ (e : FinalOutputEntry) (place : ℕ) (ps : List Held) (at_end : place ≡ length ps)
+    (all : ArePlaced (length ps) ps) where
   inserted : Inserts e place ps (insert_entry held_cmp ps (key_at e place) e.output)
   inserted = inserts e place ps (subst (λ n. ArePlaced n ps) (sym at_end) all)
 
   -- the entries are shown in the final order, with this one after the others
-  pub shown_more : (kept : List FinalOutputEntry) → shown_of ps ≡ final_order kept → shown_of (insert_entry held_cmp ps (key_at e place) e.output) ≡ final_order (kept ++ e ∷ [])
+  pub shown_more : (kept : List FinalOutputEntry) → shown_of ps ≡ final_order kept
+      → shown_of (insert_entry held_cmp ps (key_at e place) e.output) ≡ final_order (kept ++ e ∷ [])
   shown_more kept is =
       ap reverse (inserted.held ∙ ap (put_in is_after e) (sym (reverse-reverse (entries_of ps)) ∙ ap reverse is))
       ∙ put_back is_before is_before-ranks e (final_order kept) (rising-ordered_by is_before is_before-ranks kept)
       ∙ sym (order_more is_before is_before-ranks kept e)
 
   -- each place is below the number of entries
-  pub places_more : ArePlaced (length (insert_entry held_cmp ps (key_at e place) e.output)) (insert_entry held_cmp ps (key_at e place) e.output)
-  places_more = subst (λ n. ArePlaced n (insert_entry held_cmp ps (key_at e place) e.output)) (ap (λ n. n + 1) at_end ∙ sym inserted.longer) inserted.placed
+  pub places_more : ArePlaced (length (insert_entry held_cmp ps (key_at e place) e.output))
+      (insert_entry held_cmp ps (key_at e place) e.output)
+  places_more = subst (λ n. ArePlaced n (insert_entry held_cmp ps (key_at e place) e.output))
+      (ap (λ n. n + 1) at_end ∙ sym inserted.longer) inserted.placed
 
 -- a walk from the last one shows it first
 pub text-left : (s : Settings) (t : KeptTest) (ps qs : List Held) (p : Held) → ps ≡ qs ++ p ∷ [] → t ≡ p.0.0.test →
@@ -63,4 +87,7 @@ text-left s t ps qs p is same =
     ap (λ l. shown_entries s (shown_of l)) is
     ∙ ap (λ es. shown_entries s (reverse es)) (map-append entry_held qs (p ∷ []))
     ∙ ap (shown_entries s) (reverse-append (entries_of qs) (entry_held p ∷ []))
-    ∙ ap (λ (u : KeptTest). shown_entry s (record { test = u; output = p.1 }) ++ shown_entries s (shown_of qs)) (sym same)
+    ∙ ap (λ (u : KeptTest). shown_entry s (record {
+      test = u;
+      output = p.1;
+    }) ++ shown_entries s (shown_of qs)) (sym same)

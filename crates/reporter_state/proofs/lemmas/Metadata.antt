@@ -1,29 +1,40 @@
 -- The decision from an event's metadata is the one from the event (for `should_load`).
 use Rattle.std.proofs.Common.{◌≡◌, Bool, true, false, ◌==◌, length, if◌then◌else◌, refl, ap, sym}
 use Rattle.run_model.specs.Names.{Attempts, is_success, is_success_case, summary_of, TestOutputDisplay}
-use Rattle.run_model.specs.{declared.status.StatusCase.TheVariants.Success, declared.status.StatusCase.TheVariants.Flaky, declared.status.StatusCase.TheVariants.Failure}
+use Rattle.run_model.specs.{declared.status.StatusCase.TheVariants.Success}
+use Rattle.run_model.specs.{declared.status.StatusCase.TheVariants.Flaky}
+use Rattle.run_model.specs.{declared.status.StatusCase.TheVariants.Failure}
 use Rattle.text_parts.specs.Names.{OutputEventKind, FlakyResult}
-use Rattle.reporter_state.specs.Names.{loads, loads_attempt, loads_finish, loads_script, HasMetadata, loads_by_metadata, loads_last, OutputLoadDecider, OutputMetadata}
-use Rattle.reporter_state.specs.declared.decider.OutputMetadata.TheVariants.{SetupScriptFinished, TestAttemptFailedWillRetry, TestFinished}
+use Rattle.reporter_state.specs.Names.{loads, loads_attempt, loads_finish, loads_script, HasMetadata, loads_by_metadata}
+use Rattle.reporter_state.specs.Names.{loads_last, OutputLoadDecider, OutputMetadata}
+use Rattle.reporter_state.specs.declared.decider.OutputMetadata.TheVariants.{SetupScriptFinished}
+use Rattle.reporter_state.specs.declared.decider.OutputMetadata.TheVariants.{TestAttemptFailedWillRetry, TestFinished}
 use Rattle.run_model.specs.declared.output_event.OutputEventKind.TheVariants as decided
 
 -- the outcome is a success exactly if the last attempt succeeded
-success_case : (is_success is_only : Bool) (flaky : FlakyResult) → is_success_case (if is_success then (if is_only then Success else Flaky flaky) else Failure) ≡ is_success
+success_case : (is_success is_only : Bool) (flaky : FlakyResult)
+    → is_success_case (if is_success then (if is_only then Success else Flaky flaky) else Failure) ≡ is_success
 success_case true true flaky = refl
 success_case true false flaky = refl
 success_case false is_only flaky = refl
 
-pub loads_last-same : {S O : Type 0} (d : OutputLoadDecider) (success failure : TestOutputDisplay) (a : Attempts S O) → loads_last d success failure a.last.result ≡ loads_finish d success failure (summary_of a)
-loads_last-same d success failure a = rw (success_case (is_success a.last.result) (length a.earlier == 0) a.flaky_result) refl
+pub loads_last-same : {S O : Type 0} (d : OutputLoadDecider) (success failure : TestOutputDisplay) (a : Attempts S O)
+    → loads_last d success failure a.last.result ≡ loads_finish d success failure (summary_of a)
+loads_last-same d success failure a = rw
+    (success_case (is_success a.last.result) (length a.earlier == 0) a.flaky_result) refl
 
-pub loads_alike : {S O : Type 0} (d : OutputLoadDecider) (event : OutputEventKind S O) (metadata : OutputMetadata) → HasMetadata event metadata → loads_by_metadata d metadata ≡ loads d event
+pub loads_alike : {S O : Type 0} (d : OutputLoadDecider) (event : OutputEventKind S O) (metadata : OutputMetadata)
+    → HasMetadata event metadata → loads_by_metadata d metadata ≡ loads d event
 loads_alike d (decided.SetupScriptFinished stress status) (SetupScriptFinished result) h = ap loads_script (sym h)
-loads_alike d (decided.TestAttemptFailedWillRetry stress status delay failure) (TestAttemptFailedWillRetry display) h = ap (loads_attempt d) (sym h)
+loads_alike d (decided.TestAttemptFailedWillRetry stress status delay failure) (TestAttemptFailedWillRetry display) h =
+    ap (loads_attempt d) (sym h)
 loads_alike d (decided.TestFinished stress success failure statuses stats) (TestFinished on_success on_failure last) h =
     rw (sym h.0, sym h.1, sym h.2) (loads_last-same d success failure statuses)
 loads_alike d (decided.SetupScriptFinished stress status) (TestAttemptFailedWillRetry display) h = absurd h
 loads_alike d (decided.SetupScriptFinished stress status) (TestFinished on_success on_failure last) h = absurd h
 loads_alike d (decided.TestAttemptFailedWillRetry stress status delay failure) (SetupScriptFinished result) h = absurd h
-loads_alike d (decided.TestAttemptFailedWillRetry stress status delay failure) (TestFinished on_success on_failure last) h = absurd h
+loads_alike d (decided.TestAttemptFailedWillRetry stress status delay failure) (TestFinished on_success on_failure last)
+    h = absurd h
 loads_alike d (decided.TestFinished stress success failure statuses stats) (SetupScriptFinished result) h = absurd h
-loads_alike d (decided.TestFinished stress success failure statuses stats) (TestAttemptFailedWillRetry display) h = absurd h
+loads_alike d (decided.TestFinished stress success failure statuses stats) (TestAttemptFailedWillRetry display) h =
+    absurd h

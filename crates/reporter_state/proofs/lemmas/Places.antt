@@ -1,7 +1,10 @@
 -- The place of an entry in a summary does not depend on its output (for the lemmas of Exactness).
 use Rattle.std.proofs.Common.{◌≡◌, List, [], ◌∷◌, ◌++◌, refl, ◌∙◌, ap, inl, inr}
-use Rattle.{std.proofs.lemmas.Bool.cases_Bool, std.proofs.lemmas.Grind.flat_map-append, run_model.specs.declared.status.StatusSummary.StatusSummary, run_model.specs.Attempts.Written, styled_text.specs.Texts.Text}
-use Rattle.reporter_state.specs.Names.{shown_entries, shown_entry, final_order, is_before, ordered_by, put_in, FinalOutputEntry, KeptTest, Settings}
+use Rattle.{std.proofs.lemmas.Bool.cases_Bool, std.proofs.lemmas.Grind.flat_map-append}
+use Rattle.{run_model.specs.declared.status.StatusSummary.StatusSummary, run_model.specs.Attempts.Written}
+use Rattle.{styled_text.specs.Texts.Text}
+use Rattle.reporter_state.specs.Names.{shown_entries, shown_entry, final_order, is_before, ordered_by, put_in}
+use Rattle.reporter_state.specs.Names.{FinalOutputEntry, KeptTest, Settings}
 use Rattle.reporter_state.specs.declared.final_output.FinalOutput.TheVariants.{Executed, ExecutedWithOutput}
 
 module _ (test : KeptTest) (x : StatusSummary) where
@@ -15,7 +18,8 @@ module _ (test : KeptTest) (x : StatusSummary) where
 
   -- there are lists before and after the entry's place that do not depend on its output
   abbrev HasPlace : (Written → List FinalOutputEntry) → Type 0
-  HasPlace f = (front back : List FinalOutputEntry) × ((output : Written) → f output ≡ front ++ entry_with output ∷ back)
+  HasPlace f = (front back : List FinalOutputEntry)
+      × ((output : Written) → f output ≡ front ++ entry_with output ∷ back)
 
   put_in-place : (es : List FinalOutputEntry) → HasPlace (λ output. put_in is_before (entry_with output) es)
   unfolding put_in
@@ -25,7 +29,8 @@ module _ (test : KeptTest) (x : StatusSummary) where
     | inr b ↦ ([], f ∷ fs, λ output. rw b refl)
   ]
 
-  put_in-past : (g : FinalOutputEntry) (front back : List FinalOutputEntry) → HasPlace (λ output. put_in is_before g (front ++ entry_with output ∷ back))
+  put_in-past : (g : FinalOutputEntry) (front back : List FinalOutputEntry)
+      → HasPlace (λ output. put_in is_before g (front ++ entry_with output ∷ back))
   unfolding put_in
   put_in-past g [] back = elim (cases_Bool (is_before without_output g)) [
     | inl a ↦ ([], put_in is_before g back, λ output. rw a refl)
@@ -36,7 +41,8 @@ module _ (test : KeptTest) (x : StatusSummary) where
     | inr b ↦ (g ∷ f ∷ front, back, λ output. rw b refl)
   ]
 
-  ordered-place : (front back : List FinalOutputEntry) → HasPlace (λ output. final_order (front ++ entry_with output ∷ back))
+  ordered-place : (front back : List FinalOutputEntry)
+      → HasPlace (λ output. final_order (front ++ entry_with output ∷ back))
   unfolding ordered_by
   ordered-place [] back = put_in-place (ordered_by is_before back)
   ordered-place (g ∷ front) back =
@@ -46,10 +52,15 @@ module _ (test : KeptTest) (x : StatusSummary) where
 
   -- there are texts before and after the entry's text that do not depend on its output
   pub text-place : (s : Settings) (front back : List FinalOutputEntry) →
-      (before after : Text) × ((output : Written) → shown_entries s (final_order (front ++ entry_with output ∷ back)) ≡ before ++ (shown_entry s (entry_with output) ++ after))
+      (before after : Text)
+      × ((output : Written)
+      → shown_entries s (final_order (front ++ entry_with output ∷ back)) ≡ before ++ (shown_entry s
+      (entry_with output)
+      ++ after))
   text-place s front back =
       let place = ordered-place front back in (
         shown_entries s place.0,
         shown_entries s place.1,
-        λ output. ap (shown_entries s) (place.2 output) ∙ flat_map-append (shown_entry s) place.0 (entry_with output ∷ place.1),
+        λ output. ap (shown_entries s) (place.2 output)
+            ∙ flat_map-append (shown_entry s) place.0 (entry_with output ∷ place.1),
       )

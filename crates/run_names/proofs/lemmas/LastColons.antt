@@ -1,6 +1,8 @@
 -- Where a text has its last `::` (for `cut_at_last_colons`).
-use Rattle.std.proofs.Common.{◌≡◌, ◌≢◌, ℕ, zero, suc, ◌+◌, ◌<◌, ◌≤◌, List, [], ◌∷◌, true, false, length, drop, refl, ap, ◌∙◌, arith, inl, inr, Some, None}
-use Rattle.std.{specs.Str.Pattern.RFindsText, specs.Str.Pattern.LacksTextAt, specs.Str.Pattern.SplitsAroundMatch, proofs.lemmas.Bool.cases_lt, proofs.lemmas.Bool.Decides.eqb_tells, proofs.lemmas.List.drop_all}
+use Rattle.std.proofs.Common.{◌≡◌, ◌≢◌, ℕ, zero, suc, ◌+◌, ◌<◌, ◌≤◌, List, [], ◌∷◌, true, false, length, drop, refl, ap}
+use Rattle.std.proofs.Common.{◌∙◌, arith, inl, inr, Some, None}
+use Rattle.std.{specs.Str.Pattern.RFindsText, specs.Str.Pattern.LacksTextAt, specs.Str.Pattern.SplitsAroundMatch}
+use Rattle.std.{proofs.lemmas.Bool.cases_lt, proofs.lemmas.Bool.Decides.eqb_tells, proofs.lemmas.List.drop_all}
 use Rattle.run_names.specs.Names.{begins_with_colons, last_colons, module_path_of, last_name_of}
 
 -- where no index has `::`, there is no last one
@@ -13,7 +15,8 @@ last_colons-none (c ∷ t) lacks =
     rw (later, here) refl
 
 -- an index that has `::`, with none after it, is the last one
-last_colons-some : (t : List ℕ) (i : ℕ) → begins_with_colons (drop i t) ≡ true → ((k : ℕ) → i < k → begins_with_colons (drop k t) ≡ false) → last_colons t ≡ Some i
+last_colons-some : (t : List ℕ) (i : ℕ) → begins_with_colons (drop i t) ≡ true
+    → ((k : ℕ) → i < k → begins_with_colons (drop k t) ≡ false) → last_colons t ≡ Some i
 unfolding last_colons
 last_colons-some [] zero here_is lacks = cc
 last_colons-some [] (suc i) here_is lacks = cc
@@ -36,13 +39,19 @@ has_colons : (u rest : List ℕ) → u ≡ 58 ∷ 58 ∷ rest → begins_with_co
 has_colons u rest h = rw h refl
 
 -- past the end there is no `::`
-lacks_at : (t : List ℕ) (k : ℕ) → (k ≤ length t → LacksTextAt (58 ∷ 58 ∷ []) t k) → begins_with_colons (drop k t) ≡ false
-lacks_at t k lacks = elim (cases_lt (length t) k) [ inl past ↦ rw (drop_all k t (omega arith)) refl | inr within ↦ lacks_colons (drop k t) (lacks within) ]
+lacks_at : (t : List ℕ) (k : ℕ) → (k ≤ length t → LacksTextAt (58 ∷ 58 ∷ []) t k)
+    → begins_with_colons (drop k t) ≡ false
+lacks_at t k lacks = elim (cases_lt (length t) k) [
+  | inl past ↦ rw (drop_all k t (omega arith)) refl
+  | inr within ↦ lacks_colons (drop k t) (lacks within)
+]
 
 -- the parts that `rsplit_once` gives
-pub split_found : (t front back : List ℕ) → SplitsAroundMatch (RFindsText (58 ∷ 58 ∷ [])) t front back → (Some front ≡ module_path_of t) × (back ≡ last_name_of t)
+pub split_found : (t front back : List ℕ) → SplitsAroundMatch (RFindsText (58 ∷ 58 ∷ [])) t front back
+    → (Some front ≡ module_path_of t) × (back ≡ last_name_of t)
 split_found t front back at =
-    let place : last_colons t ≡ Some at.0 = last_colons-some t at.0 (has_colons (drop at.0 t) (drop at.1 t) at.2.1.split) (λ k l. lacks_at t k (at.2.0 k l)) in
+    let place : last_colons t ≡ Some at.0 = last_colons-some t at.0
+    (has_colons (drop at.0 t) (drop at.1 t) at.2.1.split) (λ k l. lacks_at t k (at.2.0 k l)) in
     let ends : at.1 ≡ at.0 + 2 = at.2.1.ends in
     (rw place (ap (λ x. Some x) at.3), rw place (at.4 ∙ ap (λ n. drop n t) ends))
 

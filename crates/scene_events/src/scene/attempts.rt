@@ -2,7 +2,8 @@
 
 ghost use Rattle.std.specs.Prelude.{[], ◌≡◌, IfOk, IsTrue, OnErr, OnOk, length};
 ghost use Rattle.std.specs.{Option.option_copied, Option.unwrap_or};
-ghost use Rattle.scene_events.specs.{SceneAttempts.attempt_of, SceneAttempts.before_last, SceneAttempts.marks_of, SceneOutputs.no_output};
+ghost use Rattle.scene_events.specs.{SceneAttempts.attempt_of, SceneAttempts.before_last, SceneAttempts.marks_of};
+ghost use Rattle.scene_events.specs.{SceneOutputs.no_output};
 
 use super::outputs::{AttemptOutput, SceneOutput};
 use run_model::boxed::Boxed;
@@ -77,7 +78,8 @@ impl Model for EarlierAttempts {
 }
 
 impl Model for SceneAttempts {
-    ghost use Rattle.run_model.specs.{Attempts.Attempts, declared.output.ChildOutputDescription.ChildOutputDescription, declared.output.LiveSpec.LiveSpec};
+    ghost use Rattle.run_model.specs.{Attempts.Attempts, declared.output.ChildOutputDescription.ChildOutputDescription};
+    ghost use Rattle.run_model.specs.{declared.output.LiveSpec.LiveSpec};
 
     ghost Value = { Attempts LiveSpec ChildOutputDescription };
 
@@ -111,8 +113,8 @@ impl SceneAttempts {
         SceneAttempts { last: ended, more }
     }
 
-    /// The attempts before the last one, in order, and the last; and what a success after earlier attempts counts as. It allocates
-    /// only if there are earlier ones.
+    /// The attempts before the last one, in order, and the last; and what a success after earlier attempts counts as.
+    /// It allocates only if there are earlier ones.
     #[inline(always)]
     pub fn with_last(
         alloc: Global,
@@ -120,7 +122,8 @@ impl SceneAttempts {
         last: SceneAttempt,
         flaky_result: FlakyResult,
     ) -> Result<Self, OutOfMemory>
-        ensures { IfOk result (λ attempts. attempts ≡ record { earlier = earlier.items; last = last; flaky_result = flaky_result }) }
+        ensures { IfOk result
+            (λ attempts. attempts ≡ record { earlier = earlier.items; last = last; flaky_result = flaky_result }) }
     {
         let ended = last.ended;
         let written = last.written;
@@ -171,9 +174,9 @@ impl SceneAttempts {
         self.more.last_output().is_none_or(SceneOutput::is_loaded)
     }
 
-    /// Replaces the captured output of the attempt at this index, from 0; errors and highlight do not change. An attempt that
-    /// could not be started does not change, and an index after the last attempt changes nothing. It allocates for an attempt that held
-    /// nothing, and if memory is refused, nothing changes.
+    /// Replaces the captured output of the attempt at this index, from 0; errors and highlight do not change. An
+    /// attempt that could not be started does not change, and an index after the last attempt changes nothing. It
+    /// allocates for an attempt that held nothing, and if memory is refused, nothing changes.
     pub fn load(
         &mut self,
         alloc: Global,
@@ -198,9 +201,9 @@ impl SceneAttempts {
         Ok(())
     }
 
-    /// Makes these statuses those of the attempts and returns true, where both are of one attempt and nothing has to be allocated for that:
-    /// a pass or a failure with an exit code, and no more is known of its output than the bytes, which are shared. Else it returns false, and what
-    /// the statuses are then is not said.
+    /// Makes these statuses those of the attempts and returns true, where both are of one attempt and nothing has to be
+    /// allocated for that: a pass or a failure with an exit code, and no more is known of its output than the bytes,
+    /// which are shared. Else it returns false, and what the statuses are then is not said.
     #[inline(always)]
     pub fn replace_statuses(
         &self,
@@ -285,7 +288,8 @@ impl EndedAttempt {
         is_slow: bool,
         output: Option<&SceneOutput>,
     ) -> Result<ExecuteStatus<LiveSpec>, OutOfMemory>
-        ensures { IfOk result (λ status. status ≡ attempt_of self.now is_slow (unwrap_or (option_copied output.entry) no_output)) }
+        ensures { IfOk result
+            (λ status. status ≡ attempt_of self.now is_slow (unwrap_or (option_copied output.entry) no_output)) }
     {
         if let Some(output) = output {
             return self.status_with(alloc, is_slow, output);
@@ -392,7 +396,8 @@ impl Model for SceneAttempt {
 
 impl SceneAttempt {
     ghost use Rattle.run_model.specs.Names.{attempt_with_output, has_loaded_output, is_success};
-    ghost use Rattle.{scene_events.specs.SceneAttempts.script_status, scene_events.specs.SceneOutputs.written, std.specs.Prelude.Some};
+    ghost use Rattle.{scene_events.specs.SceneAttempts.script_status, scene_events.specs.SceneOutputs.written};
+    ghost use Rattle.{std.specs.Prelude.Some};
 
     /// An attempt with this result, duration and output.
     pub fn new(
@@ -441,8 +446,8 @@ impl SceneAttempt {
         self.written.output().is_none_or(SceneOutput::is_loaded)
     }
 
-    /// Replaces its captured output; errors and highlight do not change. An attempt that could not be started does not change. It
-    /// allocates if the attempt held nothing, and if memory is refused, nothing changes.
+    /// Replaces its captured output; errors and highlight do not change. An attempt that could not be started does not
+    /// change. It allocates if the attempt held nothing, and if memory is refused, nothing changes.
     pub fn load(
         &mut self,
         alloc: Global,
@@ -547,7 +552,8 @@ impl Written {
     }
 }
 
-// A duration in two halves: a `u128` is aligned to 16 bytes, and an attempt that held one would lose eight. Contracts see the duration.
+// A duration in two halves: a `u128` is aligned to 16 bytes, and an attempt that held one would lose eight. Contracts
+// see the duration.
 #[derive(Drop)]
 struct HalvedNanos {
     high: u64,

@@ -23,7 +23,8 @@ use std::alloc::Global;
 /// Calls of a reporter, in order.
 pub type Calls<'a> = Vec<ReportCall<'a>>;
 
-/// An event of a run, or another call of a reporter. What it says has memory of its own, so none takes the room of the largest kind.
+/// An event of a run, or another call of a reporter. What it says has memory of its own, so none takes the room of the
+/// largest kind.
 #[derive(Drop)]
 pub enum SceneEvent {
     /// The run's id has this unique prefix.
@@ -106,9 +107,9 @@ impl SceneEvent {
         }
     }
 
-    /// Replaces the captured output at this index: that of an attempt of a finished test, from
-    /// 0, or the only output of another event, at 0. Errors and highlight do not change. If the event has no output there, or the
-    /// unit could not be started, nothing changes. It allocates for an attempt that held nothing, and if memory is refused, nothing
+    /// Replaces the captured output at this index: that of an attempt of a finished test, from 0, or the only output of
+    /// another event, at 0. Errors and highlight do not change. If the event has no output there, or the unit could not
+    /// be started, nothing changes. It allocates for an attempt that held nothing, and if memory is refused, nothing
     /// changes.
     ///
     /// ```
@@ -135,7 +136,8 @@ impl SceneEvent {
         self.load_only(alloc, captured)
     }
 
-    // For an event with only one output. Every other kind has its name here, so that the compiler asks whoever adds one.
+    // For an event with only one output. Every other kind has its name here, so that the compiler asks whoever adds
+    // one.
     fn load_only(
         &mut self,
         alloc: Global,
@@ -182,8 +184,9 @@ impl SceneEvent {
         }
     }
 
-    /// Makes a call that of this event and returns true, if the event is of a test that finished in one attempt, the call is of such a test, and nothing
-    /// has to be allocated for it, as for most tests. Else it returns false, and what the call is then is not said.
+    /// Makes a call that of this event and returns true, if the event is of a test that finished in one attempt, the
+    /// call is of such a test, and nothing has to be allocated for it, as for most tests. Else it returns false, and
+    /// what the call is then is not said.
     ///
     /// ```
     /// let finished = SceneEvent::InfoFinished(1);
@@ -255,7 +258,8 @@ pub(super) fn push_event<'a>(
     calls: &mut Calls<'a>,
     kind: TestEventKind<'a>,
 ) -> Result<(), OutOfMemory>
-    ensures { IsPushed (ReportCall.Event (record { elapsed = record { 0 = 0 }; kind = kind.entry })) calls.old.items result calls.new.items }
+    ensures { IsPushed (ReportCall.Event (record { elapsed = record { 0 = 0 }; kind = kind.entry })) calls.old.items
+        result calls.new.items }
 {
     let elapsed = Nanos(0);
     push(calls, ReportCall::Event(TestEvent { elapsed, kind }))

@@ -51,8 +51,8 @@ impl SceneOutput {
         }
     }
 
-    /// Replaces the captured output; errors and highlight do not change. A unit that could not be started captured nothing, and does
-    /// not change.
+    /// Replaces the captured output; errors and highlight do not change. A unit that could not be started captured
+    /// nothing, and does not change.
     pub fn load(&mut self, captured: ChildOutputDescription)
         ensures { self.new ≡ loaded self.old captured }
     {
@@ -100,7 +100,8 @@ pub struct AttemptOutput {
 }
 
 impl Model for AttemptOutput {
-    ghost use Rattle.{std.specs.Option.unwrap_or, scene_events.specs.SceneOutputs.no_output, scene_events.specs.declared.scene.outputs.SceneOutput.SceneOutput};
+    ghost use Rattle.{std.specs.Option.unwrap_or, scene_events.specs.SceneOutputs.no_output};
+    ghost use Rattle.{scene_events.specs.declared.scene.outputs.SceneOutput.SceneOutput};
 
     ghost Value = { SceneOutput };
 

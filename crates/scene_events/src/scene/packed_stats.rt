@@ -1,4 +1,5 @@
-//! The statistics of a run in a short form: an event has them for each test that starts or finishes, and a scene may hold a million.
+//! The statistics of a run in a short form: an event has them for each test that starts or finishes, and a scene may
+//! hold a million.
 
 ghost use Rattle.std.specs.Prelude.{◌≡◌, IfOk, IfSome, IsOk, IsSome};
 ghost use Rattle.scene_events.specs.PackedStats.{IsShort, short_stats};

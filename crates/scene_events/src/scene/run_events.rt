@@ -1,6 +1,7 @@
 //! The events of a run, and what a replay asks of a reporter that is no event.
 
-ghost use Rattle.scene_events.specs.{Scenes.PushesCallOf, Scenes.nothing_counted, declared.scene.event.SceneEvent.SceneEvent};
+ghost use Rattle.scene_events.specs.{Scenes.PushesCallOf, Scenes.nothing_counted};
+ghost use Rattle.scene_events.specs.{declared.scene.event.SceneEvent.SceneEvent};
 ghost use Rattle.std.specs.Prelude.{◌≡◌, IfOk};
 
 use super::event::{Calls, push, push_event};

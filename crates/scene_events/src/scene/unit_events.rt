@@ -1,6 +1,8 @@
 //! The events of units, which are tests and setup scripts, and their responses when they are asked for their state.
 
-ghost use Rattle.{scene_events.specs.Scenes.IsCallOf, scene_events.specs.Scenes.PushesCallOf, scene_events.specs.declared.scene.event.SceneEvent.SceneEvent, run_model.specs.declared.call.ReportCall.ReportCall};
+ghost use Rattle.{scene_events.specs.Scenes.IsCallOf, scene_events.specs.Scenes.PushesCallOf};
+ghost use Rattle.{scene_events.specs.declared.scene.event.SceneEvent.SceneEvent};
+ghost use Rattle.{run_model.specs.declared.call.ReportCall.ReportCall};
 ghost use Rattle.std.specs.Prelude.{◌≡◌, IfOk, IsTrue};
 
 use super::attempts::{SceneAttempt, SceneAttempts};
@@ -96,8 +98,8 @@ pub struct TestFinish {
     pub failure_output: TestOutputDisplay,
 }
 
-/// The id of a test's binary, which the lines of a scene share: a run has few binaries, and each line of a test names one. Contracts see
-/// its text.
+/// The id of a test's binary, which the lines of a scene share: a run has few binaries, and each line of a test names
+/// one. Contracts see its text.
 ///
 /// ```
 /// let id = SharedBinaryId::new(alloc, RustBinaryId::new(alloc, "alpha")?)?;
@@ -237,7 +239,8 @@ impl FailedAttempt {
 impl TestFinish {
     /// Makes this call that of the event, like `SceneEvent::replace_call`.
     pub fn replace_call<'a>(&'a self, call: &mut ReportCall<'a>) -> Result<bool, TooManyOwners>
-        ensures { IfOk result (λ is_replaced. IsTrue is_replaced → IsCallOf (SceneEvent.TestFinished self.now) call.new) }
+        ensures { IfOk result
+            (λ is_replaced. IsTrue is_replaced → IsCallOf (SceneEvent.TestFinished self.now) call.new) }
     {
         match call {
             ReportCall::Event(event) => self.replace_event(event),
@@ -248,7 +251,9 @@ impl TestFinish {
     // Makes this event of a reporter that of the scene.
     #[inline(always)]
     fn replace_event<'a>(&'a self, event: &mut TestEvent<'a>) -> Result<bool, TooManyOwners>
-        ensures { IfOk result (λ is_replaced. IsTrue is_replaced → IsCallOf (SceneEvent.TestFinished self.now) (ReportCall.Event event.new)) }
+        ensures { IfOk result
+            (λ is_replaced. IsTrue is_replaced
+            → IsCallOf (SceneEvent.TestFinished self.now) (ReportCall.Event event.new)) }
     {
         event.elapsed = Nanos(0);
         let TestEventKind::TestFinished { run_statuses, .. } = &mut event.kind else {
@@ -493,8 +498,8 @@ impl TestAnswer {
 impl UnitAnswer {
     ghost use Rattle.scene_events.specs.Loads.{answer_with};
 
-    /// Replaces the captured output; errors and highlight do not change. A unit that could not be started captured nothing, and
-    /// does not change.
+    /// Replaces the captured output; errors and highlight do not change. A unit that could not be started captured
+    /// nothing, and does not change.
     pub fn load(&mut self, captured: ChildOutputDescription)
         ensures { self.new ≡ answer_with captured self.old }
     {

@@ -1,7 +1,10 @@
 -- The cut of a text at a byte (for `first_line`, `split_at_byte`, `split_fields`, `read_owned`).
-use Rattle.std.proofs.Common.{◌≡◌, ℕ, zero, suc, ◌+◌, ◌-◌, ◌<◌, ◌≤◌, List, [], ◌∷◌, ◌++◌, true, false, length, length-drop, get_or, take, drop, refl, ap, sym, ◌∙◌, ◌==◌, Option, None, Some, subst, arith, add-one, take-append-drop}
+use Rattle.std.proofs.Common.{◌≡◌, ℕ, zero, suc, ◌+◌, ◌-◌, ◌<◌, ◌≤◌, List, [], ◌∷◌, ◌++◌, true, false, length}
+use Rattle.std.proofs.Common.{length-drop, get_or, take, drop, refl, ap, sym, ◌∙◌, ◌==◌, Option, None, Some, subst}
+use Rattle.std.proofs.Common.{arith, add-one, take-append-drop}
 use Rattle.scene_fields.specs.Split.{Lacks, split_on, cut}
-use Rattle.{std.proofs.Math.Seq.drop-cons, std.proofs.Math.Seq.take-length, std.proofs.lemmas.Bool.false_from_ne_true, std.proofs.lemmas.Bool.Decides.nat_tests, std.specs.Option.is_some}
+use Rattle.{std.proofs.Math.Seq.drop-cons, std.proofs.Math.Seq.take-length, std.proofs.lemmas.Bool.false_from_ne_true}
+use Rattle.{std.proofs.lemmas.Bool.Decides.nat_tests, std.specs.Option.is_some}
 use Rattle.memchr.specs.Find.{IsFirstByte, is_byte, Nowhere, NoneBefore, Passes}
 
 -- the part of a list from a place to its end
@@ -12,7 +15,11 @@ rest_is t from = ap (λ n. take n (drop from t)) (sym (length-drop from t)) ∙ 
 pub Lacks-take : (b : ℕ) (t : List ℕ) (n : ℕ) → n ≤ length t → Nowhere (Passes (is_byte b) t) 0 n → Lacks b (take n t)
 Lacks-take b t zero l h = tt
 Lacks-take b [] (suc n) l h = tt
-Lacks-take b (c ∷ t) (suc n) l h = (false_from_ne_true (c == b) (h 0 (omega arith) (omega arith)), Lacks-take b t n (omega arith) (λ k p m. h (suc k) (omega arith) (omega arith)))
+Lacks-take b (c ∷ t) (suc n) l h = (
+  false_from_ne_true (c == b) (h 0 (omega arith) (omega arith)),
+  Lacks-take b t n (omega arith)
+      (λ k p m. h (suc k) (omega arith) (omega arith)),
+)
 
 pub byte_at : (b : ℕ) (t : List ℕ) (k : ℕ) → Passes (is_byte b) t k → get_or t k 0 ≡ b
 byte_at b t k here = grind (arith, nat_tests, here)
@@ -22,7 +29,8 @@ pub Lacks-from_each : (b : ℕ) (t : List ℕ) → Nowhere (Passes (is_byte b) t
 Lacks-from_each b t h = subst (Lacks b) (take-length t) (Lacks-take b t (length t) (omega arith) h)
 
 -- the parts before and after the first index
-pub cut_at : (b : ℕ) (t : List ℕ) (k : ℕ) → NoneBefore (Passes (is_byte b) t) 0 (length t) k → Passes (is_byte b) t k → Lacks b (take k t) × (t ≡ take k t ++ (b ∷ drop (k + 1) t))
+pub cut_at : (b : ℕ) (t : List ℕ) (k : ℕ) → NoneBefore (Passes (is_byte b) t) 0 (length t) k → Passes (is_byte b) t k
+    → Lacks b (take k t) × (t ≡ take k t ++ (b ∷ drop (k + 1) t))
 cut_at b t k first here =
     let within : k < length t = first.high in
     let back : drop k t ≡ b ∷ drop (k + 1) t = drop-cons t k 0 within ∙ rw (byte_at b t k here, add-one) refl in
@@ -38,7 +46,8 @@ split_on-lacks b (c ∷ t) h = let e = split_on-lacks b t h.1 in rw (h.0, e) ref
 pub split_on-none : (b : ℕ) (t : List ℕ) → Nowhere (Passes (is_byte b) t) 0 (length t) → split_on b t ≡ t ∷ []
 split_on-none b t none = split_on-lacks b t (Lacks-from_each b t none)
 
-pub split_on-missed : (b : ℕ) (hay t : List ℕ) (found : Option ℕ) → hay ≡ t → is_some found ≡ false → IsFirstByte (is_byte b) hay found → split_on b t ≡ t ∷ []
+pub split_on-missed : (b : ℕ) (hay t : List ℕ) (found : Option ℕ) → hay ≡ t → is_some found ≡ false
+    → IsFirstByte (is_byte b) hay found → split_on b t ≡ t ∷ []
 split_on-missed b hay t None same none missed = subst (λ u. split_on b u ≡ u ∷ []) same (split_on-none b hay missed)
 split_on-missed b hay t (Some k) same none found = cc
 
@@ -51,8 +60,10 @@ unfolding split_on
 split_on-parts b [] y h = rw (is_itself b) refl
 split_on-parts b (c ∷ x) y h = let e = split_on-parts b x y h.1 in rw (h.0, e) refl
 
-pub split_on-first : (b : ℕ) (t : List ℕ) (k : ℕ) → NoneBefore (Passes (is_byte b) t) 0 (length t) k → Passes (is_byte b) t k → split_on b t ≡ take k t ∷ split_on b (drop (k + 1) t)
-split_on-first b t k first here = let parts = cut_at b t k first here in ap (split_on b) parts.1 ∙ split_on-parts b _ _ parts.0
+pub split_on-first : (b : ℕ) (t : List ℕ) (k : ℕ) → NoneBefore (Passes (is_byte b) t) 0 (length t) k
+    → Passes (is_byte b) t k → split_on b t ≡ take k t ∷ split_on b (drop (k + 1) t)
+split_on-first b t k first here = let parts = cut_at b t k first here in ap (split_on b) parts.1
+    ∙ split_on-parts b _ _ parts.0
 
 -- a text without the byte is not cut
 pub cut-lacks : (b : ℕ) (t : List ℕ) → Lacks b t → None ≡ cut b t

@@ -1,11 +1,19 @@
--- The positions of a byte as the bits of a mask (for `load_block`, `find_byte`, `marks_from`, `plain_len`, `split_fields`).
-use Rattle.std.proofs.Common.{◌≡◌, ◌≢◌, ℕ, zero, suc, ◌+◌, ◌-◌, ◌*◌, ◌/◌, ◌^◌, ◌<◌, ◌≤◌, ◌==◌, ◌++◌, ◌∙◌, List, [], ◌∷◌, Bool, false, not, cond, length, get_or, drop, take, min, map, replicate, refl, ap, sym, arith, inl, inr, w64, div-one, mul_comm, pow-suc, true≢false, drop-drop, length-drop}
+-- The positions of a byte as the bits of a mask (for `load_block`, `find_byte`, `marks_from`, `plain_len`,
+-- `split_fields`).
+use Rattle.std.proofs.Common.{◌≡◌, ◌≢◌, ℕ, zero, suc, ◌+◌, ◌-◌, ◌*◌, ◌/◌, ◌^◌, ◌<◌, ◌≤◌, ◌==◌, ◌++◌, ◌∙◌, List, [], ◌∷◌}
+use Rattle.std.proofs.Common.{Bool, false, not, cond, length, get_or, drop, take, min, map, replicate, refl, ap, sym}
+use Rattle.std.proofs.Common.{arith, inl, inr, w64, div-one, mul_comm, pow-suc, true≢false, drop-drop, length-drop}
 use Rattle.memchr.specs.Find.{is_byte, Nowhere, NoneBefore, Passes}
-use Rattle.{std.proofs.Common.length-take, std.proofs.Common.take_all, std.specs.Int.trailing_zeros, std.specs.List.prefix_len, std.specs.Simd.Lanes.chunk, std.specs.Simd.Lanes.mask_l}
+use Rattle.{std.proofs.Common.length-take, std.proofs.Common.take_all, std.specs.Int.trailing_zeros}
+use Rattle.{std.specs.List.prefix_len, std.specs.Simd.Lanes.chunk, std.specs.Simd.Lanes.mask_l}
 use native.Mathlib.Nat.{div-div-eq-div-mul, zero-div}
-use Rattle.std.proofs.lemmas.{Bool.cases_Bool, Bool.cases_lt, Bool.not-true, Bool.Decides.nat_tests, List.drop-map, List.drop-take, List.drop_all, List.Sums.prefix_len-le-length, List.Sums.prefix_len_passes}
-use Rattle.std.proofs.lemmas.Simd.{leading_from_mask_l, length-chunk, run_in_chunk_fails, run_in_chunk_stops, trailing_mask_l}
-use Rattle.scene_fields.{specs.Marks.marks, specs.Marks.marks_between, specs.Split.Lacks, proofs.lemmas.Cuts.Lacks-take, proofs.lemmas.Cuts.rest_is}
+use Rattle.std.proofs.lemmas.{Bool.cases_Bool, Bool.cases_lt, Bool.not-true, Bool.Decides.nat_tests, List.drop-map}
+use Rattle.std.proofs.lemmas.{List.drop-take, List.drop_all, List.Sums.prefix_len-le-length}
+use Rattle.std.proofs.lemmas.{List.Sums.prefix_len_passes}
+use Rattle.std.proofs.lemmas.Simd.{leading_from_mask_l, length-chunk, run_in_chunk_fails, run_in_chunk_stops}
+use Rattle.std.proofs.lemmas.Simd.{trailing_mask_l}
+use Rattle.scene_fields.{specs.Marks.marks, specs.Marks.marks_between, specs.Split.Lacks, proofs.lemmas.Cuts.Lacks-take}
+use Rattle.scene_fields.{proofs.lemmas.Cuts.rest_is}
 
 -- zeros after a text have no bit
 pub marks-padded : (b n : ℕ) (t : List ℕ) → b ≢ 0 → marks b (t ++ replicate n 0) ≡ marks b t
@@ -20,10 +28,14 @@ module _ (b : ℕ) (t : List ℕ) (from : ℕ) (within : from ≤ length t) wher
   cut_off : take 32 (drop from t) ≡ take (min (from + 32) (length t) - from) (drop from t)
   cut_off = elim (cases_lt (from + 32) (length t)) [
     | inl l ↦ (let n : 32 ≡ min (from + 32) (length t) - from = omega arith in ap (λ k. take k (drop from t)) n)
-    | inr past ↦ (let n : length t - from ≡ min (from + 32) (length t) - from = omega arith in take_all 32 (drop from t) (omega (arith, length-drop from t)) ∙ sym (rest_is t from) ∙ ap (λ k. take k (drop from t)) n)
+    | inr past ↦
+        (let n : length t - from
+        ≡ min (from + 32) (length t) - from = omega arith in take_all 32 (drop from t) (omega
+        (arith, length-drop from t)) ∙ sym (rest_is t from) ∙ ap (λ k. take k (drop from t)) n)
   ]
 
-  pub marks-block : (n : ℕ) → b ≢ 0 → marks b (take 32 (drop from t) ++ replicate n 0) ≡ marks_between b t from (min (from + 32) (length t))
+  pub marks-block : (n : ℕ) → b ≢ 0
+      → marks b (take 32 (drop from t) ++ replicate n 0) ≡ marks_between b t from (min (from + 32) (length t))
   marks-block n some = marks-padded b n (take 32 (drop from t)) some ∙ ap (marks b) cut_off
 
 half : (m : Bool) (n : ℕ) → (cond m 1 0 + 2 * n) / 2 ≡ n
@@ -39,17 +51,21 @@ later (m ∷ ms) (suc s) =
     ∙ ap (λ n. n / 2 ^ s) (half m (mask_l ms))
     ∙ later ms s
 
-pub marks-later : (b : ℕ) (t : List ℕ) (at end s : ℕ) → marks_between b t at end / 2 ^ s ≡ marks_between b t (at + s) end
-marks-later b t at end s = later (map (is_byte b) (chunk at (end - at) t)) s ∙ ap mask_l (drop-map (is_byte b) s (chunk at (end - at) t)) ∙ ap (marks b) part
+pub marks-later : (b : ℕ) (t : List ℕ) (at end s : ℕ)
+    → marks_between b t at end / 2 ^ s ≡ marks_between b t (at + s) end
+marks-later b t at end s = later (map (is_byte b) (chunk at (end - at) t)) s
+    ∙ ap mask_l (drop-map (is_byte b) s (chunk at (end - at) t)) ∙ ap (marks b) part
   where
     part : drop s (chunk at (end - at) t) ≡ chunk (at + s) (end - (at + s)) t
     part = elim (cases_lt s (end - at)) [
       | inl l ↦ (
           let long : end - at ≡ s + (end - (at + s)) = omega arith in
-          ap (λ n. drop s (take n (drop at t))) long ∙ drop-take s (end - (at + s)) (drop at t) ∙ ap (take (end - (at + s))) (drop-drop s at t))
+          ap (λ n. drop s (take n (drop at t))) long ∙ drop-take s (end - (at + s)) (drop at t)
+          ∙ ap (take (end - (at + s))) (drop-drop s at t))
       | inr past ↦ (
           let none : 0 ≡ end - (at + s) = omega arith in
-          drop_all s (chunk at (end - at) t) (omega (arith, length-take (end - at) (drop at t))) ∙ ap (λ n. take n (drop (at + s) t)) none)
+          drop_all s (chunk at (end - at) t) (omega (arith, length-take (end - at) (drop at t)))
+          ∙ ap (λ n. take n (drop (at + s) t)) none)
     ]
 
 -- the first byte of a text that has it
@@ -79,7 +95,10 @@ pub record AreLeft (b : ℕ) (t : List ℕ) (start at end mask : ℕ) : Type 0 w
   pub bits : mask ≡ marks_between b t at end
 
 -- all positions of a block
-pub all_left : (b : ℕ) (t : List ℕ) (start from mask : ℕ) → from < length t → Nowhere (Passes (is_byte b) t) start (min from (length t)) → mask ≡ marks_between b t from (min (from + 32) (length t)) → AreLeft b t start from (min (from + 32) (length t)) mask
+pub all_left : (b : ℕ) (t : List ℕ) (start from mask : ℕ) → from < length t
+    → Nowhere (Passes (is_byte b) t) start (min from (length t))
+    → mask ≡ marks_between b t from (min (from + 32) (length t))
+    → AreLeft b t start from (min (from + 32) (length t)) mask
 all_left b t start from mask within none bits = record {
   low = omega (arith, within);
   few = omega arith;
@@ -92,7 +111,8 @@ module _ (b : ℕ) (t : List ℕ) (start at end mask : ℕ) (left : AreLeft b t 
   room : at + (end - at) ≤ length t
   room = omega (arith, left.low, left.high)
 
-  none_up_to : (r : ℕ) → r ≡ prefix_len (λ c. not (is_byte b c)) (chunk at (end - at) t) → Nowhere (Passes (is_byte b) t) start (at + r)
+  none_up_to : (r : ℕ) → r ≡ prefix_len (λ c. not (is_byte b c)) (chunk at (end - at) t)
+      → Nowhere (Passes (is_byte b) t) start (at + r)
   none_up_to r counted k low high p = elim (cases_lt k at) [
     | inl l ↦ left.before k low l p
     | inr past ↦ true≢false (sym p ∙ run_in_chunk_fails (is_byte b) t at (end - at) r 0 room counted k past high)
@@ -101,22 +121,40 @@ module _ (b : ℕ) (t : List ℕ) (start at end mask : ℕ) (left : AreLeft b t 
   -- no bit is left
   pub none_left : mask ≡ 0 → Nowhere (Passes (is_byte b) t) start end
   none_left none k low high p =
-      let counted = leading_from_mask_l (is_byte b) (chunk at (end - at) t) (sym left.bits ∙ none) ∙ length-chunk at (end - at) t room in
+      let counted = leading_from_mask_l (is_byte b) (chunk at (end - at) t) (sym left.bits ∙ none)
+      ∙ length-chunk at (end - at) t room in
       none_up_to (end - at) (sym counted) k low (omega (arith, high, left.low)) p
 
   module _ (place : ℕ) (some : mask ≢ 0) (first : place ≡ trailing_zeros w64 mask) where
     counted : place ≡ prefix_len (λ c. not (is_byte b c)) (chunk at (end - at) t)
-    counted = first ∙ ap (trailing_zeros w64) left.bits ∙ trailing_mask_l (is_byte b) 64 (chunk at (end - at) t) (omega (arith, length-chunk at (end - at) t room, left.few)) (omega (arith, some, left.bits))
+    counted = first ∙ ap (trailing_zeros w64) left.bits
+        ∙ trailing_mask_l (is_byte b) 64 (chunk at (end - at) t)
+        (omega (arith, length-chunk at (end - at) t room, left.few)) (omega (arith, some, left.bits))
 
     pub inside : place < end - at
-    inside = omega (arith, counted, length-chunk at (end - at) t room, stops (is_byte b) (chunk at (end - at) t) (λ z. some (left.bits ∙ z)))
+    inside = omega (
+      arith,
+      counted,
+      length-chunk at (end - at) t room,
+      stops (is_byte b) (chunk at (end - at) t)
+          (λ z. some (left.bits ∙ z)),
+    )
 
     -- the first of them is the next position
-    pub next_left : start ≤ at → NoneBefore (Passes (is_byte b) t) start (length t) (at + place) × Passes (is_byte b) t (at + place)
-    next_left low = (record { low = omega arith; high = omega (arith, inside, room); before = none_up_to place counted }, run_in_chunk_stops (is_byte b) t at (end - at) place 0 room counted inside)
+    pub next_left : start ≤ at
+        → NoneBefore (Passes (is_byte b) t) start (length t) (at + place) × Passes (is_byte b) t (at + place)
+    next_left low = (
+      record {
+        low = omega arith;
+        high = omega (arith, inside, room);
+        before = none_up_to place counted;
+      },
+      run_in_chunk_stops (is_byte b) t at (end - at) place 0 room counted inside,
+    )
 
     -- and the others remain after it
-    pub fewer_left : (count rest : ℕ) → at + place + count ≤ length t → rest ≡ mask / 2 ^ (place + count) → AreLeft b t (at + place + count) (at + place + count) end rest
+    pub fewer_left : (count rest : ℕ) → at + place + count ≤ length t → rest ≡ mask / 2 ^ (place + count)
+        → AreLeft b t (at + place + count) (at + place + count) end rest
     fewer_left count rest within behind =
         let next : at + (place + count) ≡ at + place + count = omega arith in
         record {
@@ -124,5 +162,6 @@ module _ (b : ℕ) (t : List ℕ) (start at end mask : ℕ) (left : AreLeft b t 
           few = omega (arith, left.few);
           high = left.high;
           before = λ k low high p. omega arith;
-          bits = behind ∙ ap (λ m. m / 2 ^ (place + count)) left.bits ∙ marks-later b t at end (place + count) ∙ ap (λ k. marks_between b t k end) next;
+          bits = behind ∙ ap (λ m. m / 2 ^ (place + count)) left.bits ∙ marks-later b t at end (place + count)
+              ∙ ap (λ k. marks_between b t k end) next;
         }

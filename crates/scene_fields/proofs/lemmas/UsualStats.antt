@@ -1,15 +1,22 @@
 -- Statistics in their usual order (for `number_after`, `read_usual_stats`).
-use Rattle.std.proofs.Common.{◌≡◌, ℕ, zero, suc, ◌+◌, ◌^◌, ◌<◌, ◌≤◌, ◌≢◌, List, [], ◌∷◌, ◌++◌, Bool, true, false, not, ◌==◌, length, take, take-append-drop, take_all, drop, get_or, set, get_or-set_other, rules, replicate, codes, Option, Some, refl, ap, sym, ◌∙◌, append_assoc, arith, inl, inr}
-use Rattle.std.{proofs.Common.append-nil, proofs.lemmas.Int.Digits.digits_value-lt, proofs.lemmas.Bool.Decides.nat_tests, proofs.lemmas.List.take-append-le, specs.Bool.Decides, specs.Char.digit_value, specs.Option.option_map, specs.Str.Parse.AllDigits, specs.Str.Parse.digits_value}
+use Rattle.std.proofs.Common.{◌≡◌, ℕ, zero, suc, ◌+◌, ◌^◌, ◌<◌, ◌≤◌, ◌≢◌, List, [], ◌∷◌, ◌++◌, Bool, true, false, not}
+use Rattle.std.proofs.Common.{◌==◌, length, take, take-append-drop, take_all, drop, get_or, set, get_or-set_other}
+use Rattle.std.proofs.Common.{rules, replicate, codes, Option, Some, refl, ap, sym, ◌∙◌, append_assoc, arith, inl, inr}
+use Rattle.std.{proofs.Common.append-nil, proofs.lemmas.Int.Digits.digits_value-lt}
+use Rattle.std.{proofs.lemmas.Bool.Decides.nat_tests, proofs.lemmas.List.take-append-le, specs.Bool.Decides}
+use Rattle.std.{specs.Char.digit_value, specs.Option.option_map, specs.Str.Parse.AllDigits}
+use Rattle.std.{specs.Str.Parse.digits_value}
 use native.Mathlib.Nat.{pow-le-pow_right}
 use Rattle.scene_fields.proofs.lemmas.Cuts.{cut-parts, split_on-lacks, split_on-parts}
-use Rattle.{run_model.specs.Stats.planned_stats, run_model.specs.declared.stats.RunStats.RunStats, scene_fields.proofs.lemmas.Numbers.number_by}
+use Rattle.{run_model.specs.Stats.planned_stats, run_model.specs.declared.stats.RunStats.RunStats}
+use Rattle.{scene_fields.proofs.lemmas.Numbers.number_by}
 use Rattle.scene_fields.specs.Counts.{in_turn, pair_in, row_in, stats_in, stats_rows}
 use Rattle.scene_fields.specs.Numbers.{IsLeadingNumber, IsNumberAfter, IsNumberOrZero, number_in}
 use Rattle.scene_fields.specs.{Split.Lacks, Split.split_on}
 
 -- the text after a key of n bytes
-pub behind_key : (key t front behind : List ℕ) (n : ℕ) → front ≡ take n t → behind ≡ drop n t → front ≡ key → t ≡ key ++ behind
+pub behind_key : (key t front behind : List ℕ) (n : ℕ) → front ≡ take n t → behind ≡ drop n t → front ≡ key
+    → t ≡ key ++ behind
 behind_key key t front behind n is rest same = let parts = sym (take-append-drop n t) in cc
 
 differs : {P : Type 0} (is_same : Bool) → Decides is_same P → true ≡ not is_same → P → ⊥
@@ -17,9 +24,11 @@ differs true same e h = cc
 differs false same e h = let equal = same.1 h in cc
 
 -- and nothing if other bytes are in its place
-pub has_no_key : (key t front : List ℕ) (n : ℕ) (is_same : Bool) → length key ≡ n → front ≡ take n t → Decides is_same (front ≡ key) → true ≡ not is_same → (behind : List ℕ) → t ≡ key ++ behind → ⊥
+pub has_no_key : (key t front : List ℕ) (n : ℕ) (is_same : Bool) → length key ≡ n → front ≡ take n t
+    → Decides is_same (front ≡ key) → true ≡ not is_same → (behind : List ℕ) → t ≡ key ++ behind → ⊥
 has_no_key key t front n is_same size is same other behind e =
-    let first : front ≡ key = is ∙ ap (λ u. take n u) e ∙ take-append-le n key behind (omega arith) ∙ take_all n key (omega arith) in
+    let first : front ≡ key = is ∙ ap (λ u. take n u) e ∙ take-append-le n key behind (omega arith)
+    ∙ take_all n key (omega arith) in
     differs is_same same other first
 
 -- what the pairs of a text say, after those of these keys
@@ -62,67 +71,128 @@ count_by t n rest r =
 record IsCounted (s : RunStats) (key : List ℕ) (place : ℕ) (counted : ℕ → RunStats) : Type 0 where
   no_space : Lacks 32 key
   no_equals : Lacks 61 key
-  row : (digits : List ℕ) (n : ℕ) → number_in 64 digits ≡ Some n → row_in 0 (stats_rows s) key digits ≡ Some (place, counted n)
+  row : (digits : List ℕ) (n : ℕ) → number_in 64 digits ≡ Some n
+      → row_in 0 (stats_rows s) key digits ≡ Some (place, counted n)
 
-module _ (all : Option RunStats) (s : RunStats) (key : List ℕ) (place : ℕ) (counted : ℕ → RunStats) (is : IsCounted s key place counted) where
-  one_pair : (keys : List Bool) (digits : List ℕ) (n : ℕ) (others : List (List ℕ)) → get_or keys place false ≡ false → number_in 64 digits ≡ Some n → in_turn (pair_in stats_rows) (s, keys) ((key ++ (61 ∷ digits)) ∷ others) ≡ in_turn (pair_in stats_rows) (counted n, set keys place true) others
+module _ (all : Option RunStats) (s : RunStats) (key : List ℕ) (place : ℕ) (counted : ℕ → RunStats)
+    (is : IsCounted s key place counted) where
+  one_pair : (keys : List Bool) (digits : List ℕ) (n : ℕ) (others : List (List ℕ)) → get_or keys place false ≡ false
+      → number_in 64 digits ≡ Some n
+      → in_turn (pair_in stats_rows) (s, keys) ((key ++ (61 ∷ digits)) ∷ others) ≡ in_turn (pair_in stats_rows) (
+        counted
+            n,
+        set keys place true,
+      ) others
   unfolding in_turn
   one_pair keys digits n others new e =
       let row = is.row digits n e in
       rw (cut-parts 61 key digits is.no_equals, row, new) refl
 
-  module _ (bound : ℕ) (low : bound ≤ place) (keys : List Bool) (free : (k : ℕ) → bound ≤ k → get_or keys k false ≡ false) where
+  module _ (bound : ℕ) (low : bound ≤ place) (keys : List Bool)
+      (free : (k : ℕ) → bound ≤ k → get_or keys k false ≡ false) where
     -- a pair at the front was read
-    pair_read : (behind : List ℕ) (n : ℕ) (rest : List ℕ) → all ≡ said s keys (key ++ (61 ∷ behind)) → IsLeadingNumber behind n rest → SaidBefore all (place + 1) (counted n) rest
+    pair_read : (behind : List ℕ) (n : ℕ) (rest : List ℕ) → all ≡ said s keys (key ++ (61 ∷ behind))
+        → IsLeadingNumber behind n rest → SaidBefore all (place + 1) (counted n) rest
     unfolding said in_turn
     pair_read behind n rest before r =
         let e = count_by behind n rest r in
-        let lacks : Lacks 32 (key ++ (61 ∷ r.digits)) = Lacks-append 32 key (61 ∷ r.digits) is.no_space (refl, digits_lack 32 r.digits refl r.numeral.1) in
+        let lacks : Lacks 32 (key ++ (61 ∷ r.digits)) = Lacks-append 32 key (61 ∷ r.digits) is.no_space
+        (refl, digits_lack 32 r.digits refl r.numeral.1) in
         let new = free place low in
-        let joined : key ++ (61 ∷ behind) ≡ (key ++ (61 ∷ r.digits)) ++ rest = ap (λ u. key ++ (61 ∷ u)) r.parts ∙ sym (append_assoc key (61 ∷ r.digits) rest) in
+        let joined : key ++ (61 ∷ behind) ≡ (key ++ (61 ∷ r.digits)) ++ rest = ap (λ u. key ++ (61 ∷ u)) r.parts
+        ∙ sym (append_assoc key (61 ∷ r.digits) rest) in
         record {
           keys = set keys place true;
-          free = λ k l. let other : k ≢ place = omega arith in get_or-set_other keys place k true false other ∙ free k (omega arith);
+          free = λ k l. let other : k ≢ place = omega arith in get_or-set_other keys place k true false other
+              ∙ free k (omega arith);
           ends = λ end.
-              let whole : key ++ (61 ∷ behind) ≡ key ++ (61 ∷ r.digits) = joined ∙ ap (λ u. (key ++ (61 ∷ r.digits)) ++ u) end ∙ append-nil _ in
+              let whole : key ++ (61 ∷ behind) ≡ key ++ (61 ∷ r.digits) = joined
+              ∙ ap (λ u. (key ++ (61 ∷ r.digits)) ++ u) end ∙ append-nil _ in
               rw (whole, split_on-lacks 32 (key ++ (61 ∷ r.digits)) lacks, one_pair keys r.digits n [] new e) at before;
           goes_on = λ t more.
-              let parts : key ++ (61 ∷ behind) ≡ (key ++ (61 ∷ r.digits)) ++ (32 ∷ t) = joined ∙ ap (λ u. (key ++ (61 ∷ r.digits)) ++ u) more in
-              rw (parts, split_on-parts 32 (key ++ (61 ∷ r.digits)) t lacks, one_pair keys r.digits n (split_on 32 t) new e) at before;
+              let parts : key ++ (61 ∷ behind) ≡ (key ++ (61 ∷ r.digits)) ++ (32 ∷ t) = joined
+              ∙ ap (λ u. (key ++ (61 ∷ r.digits)) ++ u) more in
+              rw (
+                parts,
+                split_on-parts 32 (key ++ (61 ∷ r.digits)) t lacks,
+                one_pair keys r.digits n
+                    (split_on 32 t) new e,
+              )
+              at before;
         }
 
   module _ (bound : ℕ) (low : bound ≤ place) (left : List ℕ) (before : SaidBefore all bound s left) where
     -- the next pair, after a space
-    next_pair : (n : ℕ) (rest : List ℕ) → IsNumberAfter (32 ∷ (key ++ (61 ∷ []))) left n rest → SaidBefore all (place + 1) (counted n) rest
+    next_pair : (n : ℕ) (rest : List ℕ) → IsNumberAfter (32 ∷ (key ++ (61 ∷ []))) left n rest
+        → SaidBefore all (place + 1) (counted n) rest
     next_pair n rest r =
-        let front : left ≡ 32 ∷ (key ++ (61 ∷ r.behind)) = r.front ∙ ap (λ u. 32 ∷ u) (append_assoc key (61 ∷ []) r.behind) in
+        let front : left ≡ 32 ∷ (key ++ (61 ∷ r.behind)) = r.front
+        ∙ ap (λ u. 32 ∷ u) (append_assoc key (61 ∷ []) r.behind) in
         pair_read bound low before.keys before.free r.behind n rest (before.goes_on _ front) r.number
 
     -- or none
-    next_or_zero : counted 0 ≡ s → (n : ℕ) (rest : List ℕ) → IsNumberOrZero (32 ∷ (key ++ (61 ∷ []))) left n rest → SaidBefore all (place + 1) (counted n) rest
+    next_or_zero : counted 0 ≡ s → (n : ℕ) (rest : List ℕ) → IsNumberOrZero (32 ∷ (key ++ (61 ∷ []))) left n rest
+        → SaidBefore all (place + 1) (counted n) rest
     next_or_zero same n rest (inl r) = next_pair n rest r
     next_or_zero same n rest (inr r) =
-        let it : SaidBefore all (place + 1) s left = record { keys = before.keys; free = λ k l. before.free k (omega arith); ends = before.ends; goes_on = before.goes_on } in
+        let it : SaidBefore all (place + 1) s left = record {
+          keys = before.keys;
+          free = λ k l. before.free k (omega arith);
+          ends = before.ends;
+          goes_on = before.goes_on;
+        } in
         let there : counted n ≡ s = ap counted r.1 ∙ same in
         rw (there, r.2) it
 
 -- the first pair of a field
-first_pair : (t : List ℕ) (n : ℕ) (rest : List ℕ) → IsNumberAfter (codes "initial=") t n rest → SaidBefore (stats_in t) 1 (planned_stats n) rest
+first_pair : (t : List ℕ) (n : ℕ) (rest : List ℕ) → IsNumberAfter (codes "initial=") t n rest
+    → SaidBefore (stats_in t) 1 (planned_stats n) rest
 unfolding stats_in said
 first_pair t n rest r =
-    let is : IsCounted (planned_stats 0) (codes "initial") 0 planned_stats = record { no_space = search rules; no_equals = search rules; row = λ digits m e. rw e refl } in
-    let said_so : stats_in t ≡ said (planned_stats 0) (replicate 15 false) (codes "initial" ++ (61 ∷ r.behind)) = rw r.front refl in
-    pair_read (stats_in t) (planned_stats 0) (codes "initial") 0 planned_stats is 0 (omega arith) (replicate 15 false) (λ k l. get_or-replicate k 15) r.behind n rest said_so r.number
+    let is : IsCounted (planned_stats 0) (codes "initial") 0 planned_stats = record {
+      no_space = search rules;
+      no_equals = search rules;
+      row = λ digits m e. rw e refl;
+    } in
+    let said_so : stats_in t ≡ said (planned_stats 0) (replicate 15 false) (codes "initial" ++ (61 ∷ r.behind)) = rw
+    r.front refl in
+    pair_read (stats_in t) (planned_stats 0) (codes "initial") 0 planned_stats is 0 (omega arith) (replicate 15 false)
+    (λ k l. get_or-replicate k 15) r.behind n rest said_so r.number
 
 abbrev usual_stats : ℕ → ℕ → ℕ → ℕ → ℕ → RunStats
-usual_stats initial finished passed failed skipped = record (planned_stats initial) { finished_count = finished; passed = passed; failed = failed; skipped = skipped }
+usual_stats initial finished passed failed skipped = record (planned_stats initial)
+    { finished_count = finished; passed = passed; failed = failed; skipped = skipped }
 
 -- these pairs say the statistics
-pub usual_pairs : (t : List ℕ) (initial finished passed failed skipped : ℕ) (r1 r2 r3 r4 r5 : List ℕ) → IsNumberAfter (codes "initial=") t initial r1 → IsNumberAfter (codes " finished=") r1 finished r2 → IsNumberOrZero (codes " passed=") r2 passed r3 → IsNumberOrZero (codes " failed=") r3 failed r4 → IsNumberOrZero (codes " skipped=") r4 skipped r5 → r5 ≡ [] → stats_in t ≡ Some (usual_stats initial finished passed failed skipped)
+pub usual_pairs : (t : List ℕ) (initial finished passed failed skipped : ℕ) (r1 r2 r3 r4 r5 : List ℕ)
+    → IsNumberAfter (codes "initial=") t initial r1 → IsNumberAfter (codes " finished=") r1 finished r2
+    → IsNumberOrZero (codes " passed=") r2 passed r3 → IsNumberOrZero (codes " failed=") r3 failed r4
+    → IsNumberOrZero (codes " skipped=") r4 skipped r5 → r5 ≡ []
+    → stats_in t ≡ Some (usual_stats initial finished passed failed skipped)
 usual_pairs t initial finished passed failed skipped r1 r2 r3 r4 r5 h1 h2 h3 h4 h5 end =
     let s1 = first_pair t initial r1 h1 in
-    let s2 = next_pair (stats_in t) (planned_stats initial) (codes "finished") 1 (λ n. usual_stats initial n 0 0 0) (record { no_space = search rules; no_equals = search rules; row = λ digits m e. rw e refl }) 1 (omega arith) r1 s1 finished r2 h2 in
-    let s3 = next_or_zero (stats_in t) (usual_stats initial finished 0 0 0) (codes "passed") 2 (λ n. usual_stats initial finished n 0 0) (record { no_space = search rules; no_equals = search rules; row = λ digits m e. rw e refl }) 2 (omega arith) r2 s2 refl passed r3 h3 in
-    let s4 = next_or_zero (stats_in t) (usual_stats initial finished passed 0 0) (codes "failed") 6 (λ n. usual_stats initial finished passed n 0) (record { no_space = search rules; no_equals = search rules; row = λ digits m e. rw e refl }) 3 (omega arith) r3 s3 refl failed r4 h4 in
-    let s5 = next_or_zero (stats_in t) (usual_stats initial finished passed failed 0) (codes "skipped") 10 (λ n. usual_stats initial finished passed failed n) (record { no_space = search rules; no_equals = search rules; row = λ digits m e. rw e refl }) 7 (omega arith) r4 s4 refl skipped r5 h5 in
+    let s2 = next_pair (stats_in t) (planned_stats initial) (codes "finished") 1 (λ n. usual_stats initial n 0 0 0)
+    (record {
+      no_space = search rules;
+      no_equals = search rules;
+      row = λ digits m e. rw e refl;
+    }) 1 (omega arith) r1 s1 finished r2 h2 in
+    let s3 = next_or_zero (stats_in t) (usual_stats initial finished 0 0 0) (codes "passed") 2
+    (λ n. usual_stats initial finished n 0 0) (record {
+      no_space = search rules;
+      no_equals = search rules;
+      row = λ digits m e. rw e refl;
+    }) 2 (omega arith) r2 s2 refl passed r3 h3 in
+    let s4 = next_or_zero (stats_in t) (usual_stats initial finished passed 0 0) (codes "failed") 6
+    (λ n. usual_stats initial finished passed n 0) (record {
+      no_space = search rules;
+      no_equals = search rules;
+      row = λ digits m e. rw e refl;
+    }) 3 (omega arith) r3 s3 refl failed r4 h4 in
+    let s5 = next_or_zero (stats_in t) (usual_stats initial finished passed failed 0) (codes "skipped") 10
+    (λ n. usual_stats initial finished passed failed n) (record {
+      no_space = search rules;
+      no_equals = search rules;
+      row = λ digits m e. rw e refl;
+    }) 7 (omega arith) r4 s4 refl skipped r5 h5 in
     s5.ends end

@@ -1,23 +1,24 @@
 //! The kinds of line that a scene has.
 
-ghost use Rattle.scene_reader.specs.Names.{Gives, SceneEvent, by_row, event_line_fields, made, other_event_rows, run_event_rows, test_fields, unknown};
+ghost use Rattle.scene_reader.specs.Names.{Gives, SceneEvent, by_row, event_line_fields, made, other_event_rows};
+ghost use Rattle.scene_reader.specs.Names.{run_event_rows, test_fields, unknown};
 
-use scene_run_lines::lines::{
-    read_cancel, read_end, read_end_stress, read_header, read_info, read_input, read_pause,
-    read_prefix, read_run, read_sub_end,
-};
-use scene_run_lines::parts::read_progress;
 use run_model::boxed::Boxed;
 use scene_events::scene::event::SceneEvent;
 use scene_fields::fault::{LineError, LineFault};
 use scene_fields::fields::Fields;
 use scene_fields::numbers::read_count;
-use std::alloc::Global;
+use scene_run_lines::lines::{
+    read_cancel, read_end, read_end_stress, read_header, read_info, read_input, read_pause,
+    read_prefix, read_run, read_sub_end,
+};
+use scene_run_lines::parts::read_progress;
 use scene_unit_lines::binary_ids::BinaryIds;
 use scene_unit_lines::lines::{
     read_answer_script, read_answer_test, read_done, read_retry, read_retry_start, read_setup,
     read_setup_done, read_setup_slow, read_slow, read_start, read_test,
 };
+use std::alloc::Global;
 
 /// Reads the fields behind a word, which names the kind of event. The words of tests come first, since most lines
 /// are theirs.
@@ -64,8 +65,8 @@ pub fn read_event(
     }
 }
 
-// Reads the fields behind a word that names no event of a test. Not inlined: the compiler zeroes all locals of a function at its entry,
-// used or not.
+// Reads the fields behind a word that names no event of a test. Not inlined: the compiler zeroes all locals of a
+// function at its entry, used or not.
 #[inline(never)]
 #[tactic(auto, unfolding(crate::specs::EventLines::other_event_rows))]
 fn read_other_event(
@@ -133,7 +134,8 @@ fn read_skip(
     Ok(SceneEvent::TestSkipped(Boxed::new(alloc, test)?))
 }
 
-// Reads the fields behind a word that names an event of the run as it goes on. They hold no text, so only the event allocates.
+// Reads the fields behind a word that names an event of the run as it goes on. They hold no text, so only the event
+// allocates.
 #[inline(never)]
 #[tactic(auto, unfolding(crate::specs::EventLines::run_event_rows))]
 fn read_run_event(

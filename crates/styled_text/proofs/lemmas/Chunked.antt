@@ -1,8 +1,13 @@
 -- Chunks, from the positions of line feeds (for `chunk_len`, `split_chunk`, `visit_chunks`).
-use Rattle.std.proofs.Common.{◌≡◌, ◌≢◌, ℕ, ◌+◌, ◌-◌, ◌<◌, ◌==◌, inl, inr, [], ◌∷◌, ◌++◌, refl, sym, ap, ◌∙◌, arith, length, get_or, take, drop, min, length-append, length-take, length-drop, add-one, get_or-take, get_or-drop}
-use Rattle.std.proofs.{Math.Seq.take-suc, Math.Seq.get_or-append_seam, lemmas.Bool.cases_lt, lemmas.Bool.eqb-true, lemmas.List.nil_from_length, lemmas.List.drop_all}
-use Rattle.{std.proofs.lemmas.Str.IsCharBoundary-end, styled_text.proofs.lemmas.Feeds.to_zero, styled_text.proofs.lemmas.Feeds.boundary_after_feed}
-use Rattle.styled_text.specs.Names.{IsUtf8, IsCharBoundary, Text, IsChunk, VisitsChunks, Bor, EndsFar, EndsText, IsChunkEnd}
+use Rattle.std.proofs.Common.{◌≡◌, ◌≢◌, ℕ, ◌+◌, ◌-◌, ◌<◌, ◌==◌, inl, inr, [], ◌∷◌, ◌++◌, refl, sym, ap, ◌∙◌, arith}
+use Rattle.std.proofs.Common.{length, get_or, take, drop, min, length-append, length-take, length-drop, add-one}
+use Rattle.std.proofs.Common.{get_or-take, get_or-drop}
+use Rattle.std.proofs.{Math.Seq.take-suc, Math.Seq.get_or-append_seam, lemmas.Bool.cases_lt, lemmas.Bool.eqb-true}
+use Rattle.std.proofs.{lemmas.List.nil_from_length, lemmas.List.drop_all}
+use Rattle.{std.proofs.lemmas.Str.IsCharBoundary-end, styled_text.proofs.lemmas.Feeds.to_zero}
+use Rattle.{styled_text.proofs.lemmas.Feeds.boundary_after_feed}
+use Rattle.styled_text.specs.Names.{IsUtf8, IsCharBoundary, Text, IsChunk, VisitsChunks, Bor, EndsFar, EndsText}
+use Rattle.styled_text.specs.Names.{IsChunkEnd}
 use Rattle.memchr.specs.Find.{Nowhere, NoneBefore, Passes, is_byte}
 
 -- a text up to a line feed, and the line feed
@@ -10,13 +15,15 @@ to_feed : (t : Text) (i : ℕ) → i < length t → get_or t i 0 ≡ 10 → take
 to_feed t i h e = rw add-one (take-suc t i 0 h ∙ ap (λ c. take i t ++ c ∷ []) e)
 
 -- the line feed of a following line
-feed_place : (t line after : Text) (n : ℕ) → drop n t ≡ line ++ 10 ∷ after → (get_or t (n + length line) 0 ≡ 10) × (n + length line < length t)
+feed_place : (t line after : Text) (n : ℕ) → drop n t ≡ line ++ 10 ∷ after
+    → (get_or t (n + length line) 0 ≡ 10) × (n + length line < length t)
 feed_place t line after n e = (
   sym (get_or-drop n t (length line) 0) ∙ ap (λ x. get_or x (length line) 0) e ∙ get_or-append_seam line 10 after 0,
   omega (arith, length-drop n t, ap length e, length-append line (10 ∷ after)),
 )
 
-pub chunk_from_end : (limit n : ℕ) (t : Text) → 0 < length t → IsChunkEnd limit t n → IsChunk limit (take n t) (drop n t)
+pub chunk_from_end : (limit n : ℕ) (t : Text) → 0 < length t → IsChunkEnd limit t n
+    → IsChunk limit (take n t) (drop n t)
 chunk_from_end limit n t h (inl near) = inr (inl (record {
   lines = take near.place t;
   ends_line = rw near.after (to_feed t near.place (omega (arith, near.after, near.inside)) near.feed);
@@ -45,15 +52,21 @@ chunk_from_end limit n t h (inr (inr text)) = inl (record {
 })
 
 pub boundary_from_end : (limit n : ℕ) (t : Text) → IsUtf8 t → IsChunkEnd limit t n → IsCharBoundary t n
-boundary_from_end limit n t u (inl near) = rw near.after (boundary_after_feed t near.place u (omega (arith, near.after, near.inside)) near.feed)
-boundary_from_end limit n t u (inr (inl far)) = rw far.after (boundary_after_feed t far.place u (omega (arith, far.after, far.inside)) far.feed)
+boundary_from_end limit n t u (inl near) = rw near.after
+    (boundary_after_feed t near.place u (omega (arith, near.after, near.inside)) near.feed)
+boundary_from_end limit n t u (inr (inl far)) = rw far.after
+    (boundary_after_feed t far.place u (omega (arith, far.after, far.inside)) far.feed)
 boundary_from_end limit n t u (inr (inr text)) = rw text.whole (IsCharBoundary-end t)
 
-no_feed : (t : Text) (n : ℕ) → Nowhere (Passes (is_byte 10) (take n t)) 0 (length (take n t)) → (k : ℕ) → k < n → k < length t → get_or t k 0 ≢ 10
-no_feed t n h k l m e = h k (omega arith) (omega (arith, length-take n t)) (ap (λ c. c == 10) (get_or-take n t k 0 l ∙ e))
+no_feed : (t : Text) (n : ℕ) → Nowhere (Passes (is_byte 10) (take n t)) 0 (length (take n t)) → (k : ℕ) → k < n
+    → k < length t → get_or t k 0 ≢ 10
+no_feed t n h k l m e = h k (omega arith) (omega (arith, length-take n t))
+    (ap (λ c. c == 10) (get_or-take n t k 0 l ∙ e))
 
-pub ends_far : (limit near next : ℕ) (t : Text) → near ≡ min limit (length t) → Nowhere (Passes (is_byte 10) (take near t)) 0 (length (take near t))
-    → NoneBefore (Passes (is_byte 10) (drop near t)) 0 (length (drop near t)) next → Passes (is_byte 10) (drop near t) next → EndsFar limit t (near + next + 1)
+pub ends_far : (limit near next : ℕ) (t : Text) → near ≡ min limit (length t)
+    → Nowhere (Passes (is_byte 10) (take near t)) 0 (length (take near t))
+    → NoneBefore (Passes (is_byte 10) (drop near t)) 0 (length (drop near t)) next
+    → Passes (is_byte 10) (drop near t) next → EndsFar limit t (near + next + 1)
 ends_far limit near next t e h b p = record {
   place = near + next;
   after = refl;
@@ -62,7 +75,8 @@ ends_far limit near next t e h b p = record {
   feed = sym (get_or-drop near t next 0) ∙ eqb-true (get_or (drop near t) next 0) 10 p;
   none = λ k l i. elim (cases_lt k near) [
     | inl m ↦ no_feed t near h k m (omega (arith, b.high, length-drop near t)) i
-    | inr m ↦ b.before (k - near) (omega arith) (omega arith) (ap (λ c. c == 10) (get_or-drop near t (k - near) 0 ∙ ap (λ x. get_or t x 0) (omega arith) ∙ i))
+    | inr m ↦ b.before (k - near) (omega arith) (omega arith)
+        (ap (λ c. c == 10) (get_or-drop near t (k - near) 0 ∙ ap (λ x. get_or t x 0) (omega arith) ∙ i))
   ];
 }
 
@@ -72,13 +86,21 @@ ends_text near t h b = record {
   whole = refl;
   none = λ k l i. elim (cases_lt k near) [
     | inl m ↦ no_feed t near h k m l i
-    | inr m ↦ b (k - near) (omega arith) (omega (arith, length-drop near t)) (ap (λ c. c == 10) (get_or-drop near t (k - near) 0 ∙ ap (λ x. get_or t x 0) (omega arith) ∙ i))
+    | inr m ↦ b (k - near) (omega arith) (omega (arith, length-drop near t))
+        (ap (λ c. c == 10) (get_or-drop near t (k - near) 0 ∙ ap (λ x. get_or t x 0) (omega arith) ∙ i))
   ];
 }
 
-pub visits_more : {F : Type 0} (step : F → Bor Text → F → Type 0) (limit : ℕ) (t : Text) (chunk : Bor Text) (rest : Text) (f g last : F) → t ≡ chunk.now ++ rest → IsChunk limit chunk.now rest → step f chunk g
+pub visits_more : {F : Type 0} (step : F → Bor Text → F → Type 0) (limit : ℕ) (t : Text) (chunk : Bor Text)
+    (rest : Text) (f g last : F)
+    → t ≡ chunk.now ++ rest → IsChunk limit chunk.now rest → step f chunk g
     → VisitsChunks step limit rest g last → VisitsChunks step limit t f last
-visits_more step limit t chunk rest f g last e h s v = record { chunks = chunk ∷ v.chunks; are_chunks = (rest, e, h, v.are_chunks); calls = (g, s, v.calls) }
+visits_more step limit t chunk rest f g last e h s v = record {
+  chunks = chunk ∷ v.chunks;
+  are_chunks = (rest, e, h, v.are_chunks);
+  calls = (g, s, v.calls);
+}
 
-pub visits_none : {F : Type 0} (step : F → Bor Text → F → Type 0) (limit : ℕ) (t : Text) (f : F) → length t ≡ 0 → VisitsChunks step limit t f f
+pub visits_none : {F : Type 0} (step : F → Bor Text → F → Type 0) (limit : ℕ) (t : Text) (f : F) → length t ≡ 0
+    → VisitsChunks step limit t f f
 visits_none step limit t f h = record { chunks = []; are_chunks = nil_from_length t h; calls = refl }

@@ -1,7 +1,11 @@
--- Texts each of whose sequences ends by itself, made of styles and of words without escape characters (for the lemmas of InstanceWidths).
-use Rattle.std.proofs.Common.{◌≡◌, ◌≢◌, ℕ, zero, suc, ◌-◌, false, inl, inr, [], ◌∷◌, ◌++◌, refl, sym, ap, ◌∙◌, arith, length, encode_utf8, chars, ◌/◌, ◌%◌}
+-- Texts each of whose sequences ends by itself, made of styles and of words without escape characters (for the lemmas
+-- of InstanceWidths).
+use Rattle.std.proofs.Common.{◌≡◌, ◌≢◌, ℕ, zero, suc, ◌-◌, false, inl, inr, [], ◌∷◌, ◌++◌, refl, sym, ap, ◌∙◌, arith}
+use Rattle.std.proofs.Common.{length, encode_utf8, chars, ◌/◌, ◌%◌}
 use Rattle.std.proofs.lemmas.{Bool.cases_lt, Bool.Decides.nat_tests, Bool.Decides.eqb_tells, Str.encode_ascii}
-use Rattle.styled_text.specs.Names.{decimal, digits, digits_onto, digit_glyph, repeat, Text, spaces, right_in, pieces, pieces_after, sequence_len, HasNoEscape, sequences, AreClosed, plain, styled, style_prefix, style_suffix, reset_color, Style}
+use Rattle.styled_text.specs.Names.{decimal, digits, digits_onto, digit_glyph, repeat, Text, spaces, right_in, pieces}
+use Rattle.styled_text.specs.Names.{pieces_after, sequence_len, HasNoEscape, sequences, AreClosed, plain, styled}
+use Rattle.styled_text.specs.Names.{style_prefix, style_suffix, reset_color, Style}
 use Rattle.styled_text.proofs.lemmas.{Marks.AreHigh, Marks.encode-high, Pieces.joined-pieces}
 use Rattle.styled_text.proofs.lemmas.Widths.{free_both, sequences-joined, free_after, sequences-free, closed_both}
 use Rattle.styled_text.specs.declared.style.Style.TheVariants as style
@@ -12,7 +16,9 @@ IsClosedText t = AreClosed (sequences (pieces t))
 
 pub closed-append : (a b : Text) → IsClosedText a → IsClosedText b → IsClosedText (a ++ b)
 closed-append a b h k =
-    let e : sequences (pieces (a ++ b)) ≡ sequences (pieces a) ++ sequences (pieces b) = ap (λ x. sequences (pieces (x ++ b))) (sym (joined-pieces a)) ∙ sequences-joined (pieces a) b (free_after 0 a) h in
+    let e : sequences (pieces (a ++ b)) ≡ sequences (pieces a) ++ sequences (pieces b) = ap (λ x. sequences
+    (pieces (x ++ b))) (sym (joined-pieces a))
+    ∙ sequences-joined (pieces a) b (free_after 0 a) h in
     rw e (closed_both (sequences (pieces a)) (sequences (pieces b)) h k)
 
 pub closed-free : (t : Text) → HasNoEscape t → IsClosedText t
@@ -41,7 +47,8 @@ closed-plain t h = closed-free t h
 
 pub closed-styled : (s : Style) (t : Text) → HasNoEscape t → IsClosedText (styled s t)
 unfolding styled
-closed-styled s t h = closed-append (style_prefix s) (t ++ style_suffix s) (prefix_closed s) (closed-append t (style_suffix s) (closed-free t h) (suffix_closed s))
+closed-styled s t h = closed-append (style_prefix s) (t ++ style_suffix s) (prefix_closed s)
+    (closed-append t (style_suffix s) (closed-free t h) (suffix_closed s))
 
 -- words without escape characters
 glyph_free : (d : ℕ) (acc : Text) → HasNoEscape acc → HasNoEscape (digit_glyph false d ∷ acc)
@@ -50,7 +57,8 @@ glyph_free d acc h = grind (arith, nat_tests)
 digits_free : (k n : ℕ) (acc : Text) → HasNoEscape acc → HasNoEscape (digits_onto k 10 false n acc)
 digits_free zero n acc h = h
 digits_free (suc k) n acc h =
-    let here = glyph_free (n % 10) acc h in grind (arith, here, digits_free k (n / 10) (digit_glyph false (n % 10) ∷ acc) here)
+    let here = glyph_free (n % 10) acc h in grind
+    (arith, here, digits_free k (n / 10) (digit_glyph false (n % 10) ∷ acc) here)
 
 pub decimal_free : (n : ℕ) → HasNoEscape (decimal n)
 unfolding digits

@@ -1,8 +1,11 @@
 -- What is kept of a text that is cut (for `ColumnCounterWriteStr::write_str`, `FittedWriteStr::write_str`).
-use Rattle.std.proofs.Common.{◌≡◌, ℕ, zero, suc, ◌+◌, ◌*◌, ◌<◌, ◌≤◌, false, inl, inr, List, [], ◌∷◌, ◌++◌, refl, ap, ◌∙◌, arith, length, chars, encode_utf8_all, drop, add-one, lit<}
-use Rattle.std.proofs.lemmas.{Bool.Decides.nat_tests, Bool.Decides.eqb_tells, List.Sums.sum_by-cons, List.Sums.sum_by-append}
+use Rattle.std.proofs.Common.{◌≡◌, ℕ, zero, suc, ◌+◌, ◌*◌, ◌<◌, ◌≤◌, false, inl, inr, List, [], ◌∷◌, ◌++◌, refl, ap}
+use Rattle.std.proofs.Common.{◌∙◌, arith, length, chars, encode_utf8_all, drop, add-one, lit<}
+use Rattle.std.proofs.lemmas.{Bool.Decides.nat_tests, Bool.Decides.eqb_tells, List.Sums.sum_by-cons}
+use Rattle.std.proofs.lemmas.{List.Sums.sum_by-append}
 use Rattle.std.proofs.lemmas.Str.{chars-append, IsUtf8-take, IsUtf8-drop, IsUtf8-append, IsUtf8-nil, chars-nil}
-use Rattle.styled_text.specs.Names.{IsUtf8, Text, PieceText, pieces, pieces_after, stretches, sequence_len, front_len, is_visible, SequenceText, StretchText, char_columns, columns_of, columns}
+use Rattle.styled_text.specs.Names.{IsUtf8, Text, PieceText, pieces, pieces_after, stretches, sequence_len, front_len}
+use Rattle.styled_text.specs.Names.{is_visible, SequenceText, StretchText, char_columns, columns_of, columns}
 use Rattle.styled_text.specs.Names.{kept_chars, kept_stretch, stretch_columns}
 use Rattle.{styled_text.proofs.lemmas.Cuts.sequence_len-cut, unicode_width.proofs.Rules.width_or_zero-le}
 use Rattle.styled_text.proofs.lemmas.Pieces.{boundary, stretch_len-cut, stretches-pieces}
@@ -17,7 +20,8 @@ columns_of-cons c cs = sum_by-cons char_columns c cs
 pub columns_of-append : (cs ds : List ℕ) → columns_of (cs ++ ds) ≡ columns_of cs + columns_of ds
 columns_of-append cs ds = sum_by-append char_columns cs ds
 
-pub kept_stretch-before : (start end pos : ℕ) (s : Text) → pos < end → kept_stretch start end pos s ≡ encode_utf8_all (kept_chars start end pos (chars s))
+pub kept_stretch-before : (start end pos : ℕ) (s : Text) → pos < end
+    → kept_stretch start end pos s ≡ encode_utf8_all (kept_chars start end pos (chars s))
 unfolding kept_stretch
 kept_stretch-before start end pos s h = grind (arith, nat_tests)
 
@@ -41,9 +45,17 @@ texts_after n [] u = tt
 texts_after (suc n) (c ∷ t) u = texts_after n t u
 texts_after zero (c ∷ t) u = elim (eqb_tells c 27) [
   | inl y ↦ (let b = rw add-one at (boundary c t (sequence_len t) u (rw y.1 (sequence_len-cut 27 t (lit< tt)))) in
-      rw y.0 (IsUtf8-take (c ∷ t) (suc (sequence_len t)) u b, texts_after (sequence_len t) t (IsUtf8-drop (c ∷ t) (suc (sequence_len t)) u b)))
+      rw y.0 (
+        IsUtf8-take (c ∷ t) (suc (sequence_len t)) u b,
+        texts_after (sequence_len t) t
+            (IsUtf8-drop (c ∷ t) (suc (sequence_len t)) u b),
+      ))
   | inr n ↦ (let b = rw add-one at (boundary c t (front_len is_visible t) u (stretch_len-cut c t)) in
-      rw n.0 (IsUtf8-take (c ∷ t) (suc (front_len is_visible t)) u b, texts_after (front_len is_visible t) t (IsUtf8-drop (c ∷ t) (suc (front_len is_visible t)) u b)))
+      rw n.0 (
+        IsUtf8-take (c ∷ t) (suc (front_len is_visible t)) u b,
+        texts_after (front_len is_visible t) t
+            (IsUtf8-drop (c ∷ t) (suc (front_len is_visible t)) u b),
+      ))
 ]
 
 pub texts : (t : Text) → IsUtf8 t → AreTexts (pieces t)
@@ -57,8 +69,10 @@ stretches-utf8 (StretchText s ∷ ps) u = IsUtf8-append s (stretches ps) u.0 (st
 stretch_columns-is : (ps : List PieceText) → AreTexts ps → stretch_columns ps ≡ columns_of (chars (stretches ps))
 stretch_columns-is [] u = rw chars-nil refl
 stretch_columns-is (SequenceText s ∷ ps) u = stretch_columns-is ps u.1
-stretch_columns-is (StretchText s ∷ ps) u = rw (chars-append s (stretches ps) u.0, columns_of-append) (ap (λ n. columns_of (chars s) + n) (stretch_columns-is ps u.1))
+stretch_columns-is (StretchText s ∷ ps) u = rw (chars-append s (stretches ps) u.0, columns_of-append)
+    (ap (λ n. columns_of (chars s) + n) (stretch_columns-is ps u.1))
 
 -- the columns of a text are those of its stretches
 pub stretch_columns-pieces : (t : Text) → IsUtf8 t → stretch_columns (pieces t) ≡ columns t
-stretch_columns-pieces t u = stretch_columns-is (pieces t) (texts t u) ∙ ap (λ x. columns_of (chars x)) (stretches-pieces t)
+stretch_columns-pieces t u = stretch_columns-is (pieces t) (texts t u)
+    ∙ ap (λ x. columns_of (chars x)) (stretches-pieces t)

@@ -1,9 +1,11 @@
 -- A text that is cut while it is written (for `FittedWriteStr::write_str`, `FittedWriteStr::write_str_flush`).
-use Rattle.std.proofs.Common.{◌≡◌, ℕ, [], ◌∷◌, ◌++◌, true, refl, sym, ap, ◌∙◌, append-nil, chars, encode_utf8, Result, Ok, Err}
+use Rattle.std.proofs.Common.{◌≡◌, ℕ, [], ◌∷◌, ◌++◌, true, refl, sym, ap, ◌∙◌, append-nil, chars, encode_utf8, Result}
+use Rattle.std.proofs.Common.{Ok, Err}
 use Rattle.std.{proofs.lemmas.Bool.and_parts, specs.Str.IsUtf8, specs.Str.all_scalars}
 use Rattle.std.proofs.lemmas.Str.{chars-encodes, chars-nil, IsUtf8-nil, cons_from_encodes}
 use lib.Utf8.{scalar}
-use Rattle.styled_text.specs.Names.{Text, kept_char, kept_from, fitted_text, fitted_text-nil, scan_after, PutsChar, fitted_meaning, Meaning, Puts, Fitted, WriteFault}
+use Rattle.styled_text.specs.Names.{Text, kept_char, kept_from, fitted_text, fitted_text-nil, scan_after, PutsChar}
+use Rattle.styled_text.specs.Names.{fitted_meaning, Meaning, Puts, Fitted, WriteFault}
 
 -- a character that a text begins with
 pub first_scalar : (t rest : Text) (c : ℕ) → IsUtf8 t → t ≡ encode_utf8 c ++ rest → scalar c ≡ true
@@ -23,7 +25,8 @@ module _ {W : Type 0} (m : Meaning W) where
   unfolding kept_from
   kept_one a c h = rw (one_char c h) (append-nil (kept_char a.start a.end a.scan c))
 
-  char_put : (a b : Fitted W) (c : ℕ) (r : Result (Unit {0}) WriteFault) → scalar c ≡ true → PutsChar m a c r b → Puts (fitted_meaning m) a (encode_utf8 c) r b
+  char_put : (a b : Fitted W) (c : ℕ) (r : Result (Unit {0}) WriteFault) → scalar c ≡ true → PutsChar m a c r b
+      → Puts (fitted_meaning m) a (encode_utf8 c) r b
   unfolding scan_after
   char_put a b c (Ok x) h p = record {
     utf8 = one_utf8 c h;
@@ -43,11 +46,28 @@ module _ {W : Type 0} (m : Meaning W) where
   }
 
   -- the next character of a text
-  pub next_put : (a b : Fitted W) (t rest : Text) (c : ℕ) (r : Result (Unit {0}) WriteFault) → IsUtf8 t → t ≡ encode_utf8 c ++ rest → PutsChar m a c r b → Puts (fitted_meaning m) a (encode_utf8 c) r b
+  pub next_put : (a b : Fitted W) (t rest : Text) (c : ℕ) (r : Result (Unit {0}) WriteFault) → IsUtf8 t
+      → t ≡ encode_utf8 c ++ rest → PutsChar m a c r b → Puts (fitted_meaning m) a (encode_utf8 c) r b
   next_put a b t rest c r u e p = char_put a b c r (first_scalar t rest c u e) p
 
   -- nothing is written, as by a flush
-  pub nothing_put : (a b : Fitted W) (r : Result (Unit {0}) WriteFault) → Puts m a.inner.now [] r b.inner.now → b.scan ≡ a.scan → b.start ≡ a.start → b.end ≡ a.end → b.inner.ghost_name ≡ a.inner.ghost_name → Puts (fitted_meaning m) a [] r b
+  pub nothing_put : (a b : Fitted W) (r : Result (Unit {0}) WriteFault) → Puts m a.inner.now [] r b.inner.now
+      → b.scan ≡ a.scan → b.start ≡ a.start → b.end ≡ a.end → b.inner.ghost_name ≡ a.inner.ghost_name
+      → Puts (fitted_meaning m) a [] r b
   unfolding scan_after
-  nothing_put a b (Ok x) p s i j o = record { utf8 = IsUtf8-nil; below = rw (fitted_text-nil a) p; scan = rw chars-nil s; start = i; end = j; same = o }
-  nothing_put a b (Err e) p s i j o = record { front = []; rest = []; whole = refl; utf8 = IsUtf8-nil; below = rw (fitted_text-nil a) p; same = o }
+  nothing_put a b (Ok x) p s i j o = record {
+    utf8 = IsUtf8-nil;
+    below = rw (fitted_text-nil a) p;
+    scan = rw chars-nil s;
+    start = i;
+    end = j;
+    same = o;
+  }
+  nothing_put a b (Err e) p s i j o = record {
+    front = [];
+    rest = [];
+    whole = refl;
+    utf8 = IsUtf8-nil;
+    below = rw (fitted_text-nil a) p;
+    same = o;
+  }

@@ -1,8 +1,12 @@
--- Lines that are indented (for `Indented::fmt_line`, `Indented::fmt_margin`, `Indented::write_line`, `Indented::write_margin` and others).
-use Rattle.std.proofs.Common.{◌≡◌, ◌≢◌, ℕ, suc, ◌+◌, ◌-◌, ◌<◌, [], ◌∷◌, ◌++◌, Bool, true, false, ◌==◌, nat_eq, length, take, get_or, get_or-take, length-take-le, refl, ap, sym, ◌∙◌, arith, inl, inr, Result, Ok, Err}
+-- Lines that are indented (for `Indented::fmt_line`, `Indented::fmt_margin`, `Indented::write_line`,
+-- `Indented::write_margin` and others).
+use Rattle.std.proofs.Common.{◌≡◌, ◌≢◌, ℕ, suc, ◌+◌, ◌-◌, ◌<◌, [], ◌∷◌, ◌++◌, Bool, true, false, ◌==◌, nat_eq, length}
+use Rattle.std.proofs.Common.{take, get_or, get_or-take, length-take-le, refl, ap, sym, ◌∙◌, arith, inl, inr, Result}
+use Rattle.std.proofs.Common.{Ok, Err}
 use Rattle.std.proofs.lemmas.{Bool.ne_eqb, Bool.Decides.eqb_tells, Bool.Decides.nat_tests}
 use lib.Pointwise.{pointwise}
-use Rattle.styled_text.specs.Names.{Text, IsOneLine, margin, indent, after, indent-append, indent_onward, indent-onward, after_onward, after-onward, indented_meaning, IndentedStops, IndentedAccepts}
+use Rattle.styled_text.specs.Names.{Text, IsOneLine, margin, indent, after, indent-append, indent_onward, indent-onward}
+use Rattle.styled_text.specs.Names.{after_onward, after-onward, indented_meaning, IndentedStops, IndentedAccepts}
 use Rattle.styled_text.specs.Names.{PutsMargin, Meaning, WriterLaws, Puts, Indented, WriteFault}
 
 -- one line, by its bytes
@@ -14,7 +18,8 @@ Line (c ∷ d ∷ t) = ((c == 10) ≡ false) × Line (d ∷ t)
 Line-from_each : (t : Text) → 0 < length t → ((i : ℕ) → i + 1 < length t → get_or t i 0 ≢ 10) → Line t
 Line-from_each [] h each = omega arith
 Line-from_each (c ∷ []) h each = tt
-Line-from_each (c ∷ d ∷ t) h each = (ne_eqb c 10 (each 0 (omega arith)), Line-from_each (d ∷ t) (omega arith) (λ i l. each (suc i) (omega arith)))
+Line-from_each (c ∷ d ∷ t) h each =
+    (ne_eqb c 10 (each 0 (omega arith)), Line-from_each (d ∷ t) (omega arith) (λ i l. each (suc i) (omega arith)))
 
 Line-from : (t : Text) → IsOneLine t → Line t
 Line-from t h = Line-from_each t h.is_there (λ i l e.
@@ -50,7 +55,10 @@ indent-line p b t h = indent-onward p b t ∙ margin-onward p b t (Line-from t h
 
 pub margin-first : (p t : Text) → 0 < length t → pointwise nat_eq t (10 ∷ []) ≡ false → margin p true t ≡ p
 margin-first p [] h k = absurd (omega arith)
-margin-first p (c ∷ []) h k = elim (eqb_tells c 10) [ inl y ↦ (let e : true ≡ false = rw y.0 at k in cc) | inr n ↦ rw n.0 refl ]
+margin-first p (c ∷ []) h k = elim (eqb_tells c 10) [
+  | inl y ↦ (let e : true ≡ false = rw y.0 at k in cc)
+  | inr n ↦ rw n.0 refl
+]
 margin-first p (c ∷ d ∷ t) h k = refl
 
 -- a line feed that is found at the end
@@ -61,10 +69,15 @@ ends-append (c ∷ d ∷ t) = ends-append (d ∷ t)
 
 front_of : (t : Text) → ends t ≡ true → (front : Text) × (t ≡ front ++ 10 ∷ [])
 front_of [] h = cc
-front_of (c ∷ []) h = elim (eqb_tells c 10) [ inl y ↦ ([], rw y.1 refl) | inr n ↦ (let e : true ≡ false = sym h ∙ n.0 in cc) ]
+front_of (c ∷ []) h = elim (eqb_tells c 10) [
+  | inl y ↦ ([], rw y.1 refl)
+  | inr n ↦ (let e : true ≡ false = sym h ∙ n.0 in cc)
+]
 front_of (c ∷ d ∷ t) h = let more = front_of (d ∷ t) h in (c ∷ more.0, ap (λ x. c ∷ x) more.1)
 
-pub after-ends : (b : Bool) (t : Text) (r : Bool) → IsOneLine t → (r ≡ true → t ≡ take (length t - 1) t ++ 10 ∷ []) × ((front : Text) → t ≡ front ++ 10 ∷ [] → r ≡ true) → r ≡ after b t
+pub after-ends : (b : Bool) (t : Text) (r : Bool) → IsOneLine t
+    → (r ≡ true → t ≡ take (length t - 1) t ++ 10 ∷ []) × ((front : Text) → t ≡ front ++ 10 ∷ [] → r ≡ true)
+    → r ≡ after b t
 after-ends b t r line h =
     let there : r ≡ true → ends t ≡ true = λ y. ap ends (h.0 y) ∙ ends-append (take (length t - 1) t) in
     let back : ends t ≡ true → r ≡ true = λ e. h.1 (front_of t e).0 (front_of t e).1 in
@@ -74,17 +87,23 @@ after-ends b t r line h =
 module _ {W : Type 0} {m : Meaning W} (laws : WriterLaws m) (t : Text) (line : IsOneLine t) where
   -- the margin is stopped
   pub margin_stopped : (a b : Indented W) (e : WriteFault) → PutsMargin m a t (Err e) b → IndentedStops m a t e b
-  margin_stopped a b e p = record { below = rw (indent-line a.indentation.now a.needs_indent t line) (laws.stops_within _ _ _ t e p.below); same = p.same }
+  margin_stopped a b e p = record {
+    below = rw (indent-line a.indentation.now a.needs_indent t line) (laws.stops_within _ _ _ t e p.below);
+    same = p.same;
+  }
 
   -- the line is stopped
-  pub line_stopped : (a b c : Indented W) (e : WriteFault) → PutsMargin m a t (Ok tt) b → m.stops b.inner.now t e c.inner.now → c.inner.ghost_name ≡ b.inner.ghost_name → IndentedStops m a t e c
+  pub line_stopped : (a b c : Indented W) (e : WriteFault) → PutsMargin m a t (Ok tt) b
+      → m.stops b.inner.now t e c.inner.now → c.inner.ghost_name ≡ b.inner.ghost_name → IndentedStops m a t e c
   line_stopped a b c e p s o = record {
     below = rw (indent-line a.indentation.now a.needs_indent t line) (laws.goes_on _ _ _ _ t e p.below s);
     same = o ∙ p.same;
   }
 
   -- the line is written
-  pub line_accepted : (a b c : Indented W) → PutsMargin m a t (Ok tt) b → m.accepts b.inner.now t c.inner.now → c.needs_indent ≡ after a.needs_indent t → c.indentation.now ≡ b.indentation.now → c.inner.ghost_name ≡ b.inner.ghost_name → IndentedAccepts m a t c
+  pub line_accepted : (a b c : Indented W) → PutsMargin m a t (Ok tt) b → m.accepts b.inner.now t c.inner.now
+      → c.needs_indent ≡ after a.needs_indent t → c.indentation.now ≡ b.indentation.now
+      → c.inner.ghost_name ≡ b.inner.ghost_name → IndentedAccepts m a t c
   line_accepted a b c p s f i o = record {
     below = rw (indent-line a.indentation.now a.needs_indent t line) (laws.joins _ _ _ _ t p.below s);
     line = f;
@@ -93,7 +112,9 @@ module _ {W : Type 0} {m : Meaning W} (laws : WriterLaws m) (t : Text) (line : I
   }
 
 -- nothing is written, as by a flush
-pub flush_put : {W : Type 0} (m : Meaning W) (a b : Indented W) (r : Result (Unit {0}) WriteFault) → Puts m a.inner.now [] r b.inner.now → b.needs_indent ≡ a.needs_indent → b.indentation.now ≡ a.indentation.now → b.inner.ghost_name ≡ a.inner.ghost_name → Puts (indented_meaning m) a [] r b
+pub flush_put : {W : Type 0} (m : Meaning W) (a b : Indented W) (r : Result (Unit {0}) WriteFault)
+    → Puts m a.inner.now [] r b.inner.now → b.needs_indent ≡ a.needs_indent → b.indentation.now ≡ a.indentation.now
+    → b.inner.ghost_name ≡ a.inner.ghost_name → Puts (indented_meaning m) a [] r b
 unfolding indent after
 flush_put m a b (Ok x) p f i o = record { below = p; line = f; indentation = i; same = o }
 flush_put m a b (Err e) p f i o = record { below = p; same = o }

@@ -1,7 +1,8 @@
 -- No sequence goes past a line feed (for `colour_pair-line`).
 use Rattle.std.proofs.Common.{◌≡◌, ℕ, zero, suc, ◌≤◌, Bool, false, [], ◌∷◌, ◌++◌, refl, arith, length, drop}
 use Rattle.std.proofs.lemmas.List.{drop-append-le}
-use Rattle.styled_text.specs.Names.{Text, is_before_backslash, is_within, is_parameter, is_intermediate, front_len, one_len, then_len, csi_len, osc_len, short_len, sequence_len, visible_after}
+use Rattle.styled_text.specs.Names.{Text, is_before_backslash, is_within, is_parameter, is_intermediate, front_len}
+use Rattle.styled_text.specs.Names.{one_len, then_len, csi_len, osc_len, short_len, sequence_len, visible_after}
 use Rattle.styled_text.specs.Names.{visible}
 use Rattle.styled_text.proofs.lemmas.{Cuts.sequence_len-le, Cuts.osc_len-cons, Pieces.front_len-le}
 
@@ -18,10 +19,17 @@ one_len-line p h [] y = rw h refl
 one_len-line p h (c ∷ x) y = refl
 
 then_len-line : (p : ℕ → Bool) (g : Text → ℕ) → p 10 ≡ false → IsWithinLine g → IsWithinLine (then_len (front_len p) g)
-then_len-line p g h hg x y = rw (front_len-line p h x y, drop-append-le (front_len p x) x (10 ∷ y) (front_len-le p x), hg (drop (front_len p x) x) y) refl
+then_len-line p g h hg x y = rw (
+  front_len-line p h x y,
+  drop-append-le (front_len p x) x (10 ∷ y) (front_len-le p x),
+  hg (drop (front_len p x) x)
+      y,
+)
+    refl
 
 csi_len-line : IsWithinLine csi_len
-csi_len-line = then_len-line is_parameter _ refl (then_len-line is_intermediate _ refl (one_len-line (is_within 0x40 0x7E) refl))
+csi_len-line = then_len-line is_parameter _ refl
+    (then_len-line is_intermediate _ refl (one_len-line (is_within 0x40 0x7E) refl))
 
 short_len-line : IsWithinLine short_len
 short_len-line = then_len-line is_intermediate _ refl (one_len-line (is_within 0x30 0x7E) refl)
@@ -39,12 +47,19 @@ unfolding sequence_len
 sequence_len-line [] y = refl
 sequence_len-line (c ∷ x) y = rw (csi_len-line x y, osc_len-line x y, short_len-line (c ∷ x) y) refl
 
-visible_after-line : (n : ℕ) (x y : Text) → n ≤ length x → visible_after n (x ++ 10 ∷ y) ≡ visible_after n x ++ 10 ∷ visible y
+visible_after-line : (n : ℕ) (x y : Text) → n ≤ length x
+    → visible_after n (x ++ 10 ∷ y) ≡ visible_after n x ++ 10 ∷ visible y
 unfolding visible_after
 visible_after-line zero [] y h = refl
 visible_after-line (suc n) [] y h = absurd (omega arith)
 visible_after-line (suc n) (c ∷ x) y h = visible_after-line n x y (omega arith)
-visible_after-line zero (c ∷ x) y h = grind (arith, sequence_len-line x y, visible_after-line (sequence_len x) x y (sequence_len-le x), visible_after-line zero x y (omega arith))
+visible_after-line zero (c ∷ x) y h = grind (
+  arith,
+  sequence_len-line x y,
+  visible_after-line (sequence_len x) x y (sequence_len-le x),
+  visible_after-line
+      zero x y (omega arith),
+)
 
 -- no sequence goes past a line feed
 pub visible-line : (x y : Text) → visible (x ++ 10 ∷ y) ≡ visible x ++ 10 ∷ visible y

@@ -1,16 +1,23 @@
 -- The pieces of a text (for `control_len`, `piece_laws`, `split_escape`, `split_piece` and others).
-use Rattle.std.proofs.Common.{◌≡◌, ◌≢◌, ℕ, zero, suc, ◌+◌, ◌<◌, ◌≤◌, Bool, true, false, not, ◌==◌, inl, inr, [], ◌∷◌, ◌++◌, refl, sym, ap, arith, length, get_or, take, drop, ◌⊎◌, lit<, add-one}
+use Rattle.std.proofs.Common.{◌≡◌, ◌≢◌, ℕ, zero, suc, ◌+◌, ◌<◌, ◌≤◌, Bool, true, false, not, ◌==◌, inl, inr, [], ◌∷◌}
+use Rattle.std.proofs.Common.{◌++◌, refl, sym, ap, arith, length, get_or, take, drop, ◌⊎◌, lit<, add-one}
 use Rattle.std.proofs.lemmas.Bool.{cases_Bool, and_parts, not-true, false_from_ne_true}
-use Rattle.std.proofs.{lemmas.Bool.Decides.eqb_tells, lemmas.Bool.Decides.nat_tests, Math.Seq.drop-cons, lemmas.Str.IsCharBoundary-after_ascii}
+use Rattle.std.proofs.{lemmas.Bool.Decides.eqb_tells, lemmas.Bool.Decides.nat_tests, Math.Seq.drop-cons}
+use Rattle.std.proofs.{lemmas.Str.IsCharBoundary-after_ascii}
 use Rattle.std.proofs.lemmas.List.{take-append-drop, nil_from_length, drop_all}
-use Rattle.styled_text.specs.Names.{IsUtf8, IsCharBoundary, Text, front_len, is_visible, sequence_len, pieces_after, pieces, joined, stretches, visible_after, visible, has_no_escape, HasNoEscape}
+use Rattle.styled_text.specs.Names.{IsUtf8, IsCharBoundary, Text, front_len, is_visible, sequence_len, pieces_after}
+use Rattle.styled_text.specs.Names.{pieces, joined, stretches, visible_after, visible, has_no_escape, HasNoEscape}
 use Rattle.styled_text.specs.Names.{SequenceText, StretchText}
 use Rattle.memchr.specs.Find.{Nowhere, NoneBefore, Passes, is_byte}
-use Rattle.styled_text.proofs.lemmas.Cuts.{IsCut, cut_on, csi_end_len-le, csi_len-le, csi_len-final, sequence_len-cut, sequence_len-le}
+use Rattle.styled_text.proofs.lemmas.Cuts.{IsCut, cut_on, csi_end_len-le, csi_len-le, csi_len-final, sequence_len-cut}
+use Rattle.styled_text.proofs.lemmas.Cuts.{sequence_len-le}
 
 pub front_len-le : (p : ℕ → Bool) (t : Text) → front_len p t ≤ length t
 front_len-le p [] = omega arith
-front_len-le p (c ∷ t) = elim (cases_Bool (p c)) [ inl y ↦ (let more = front_len-le p t in rw y (omega arith)) | inr n ↦ rw n (omega arith) ]
+front_len-le p (c ∷ t) = elim (cases_Bool (p c)) [
+  | inl y ↦ (let more = front_len-le p t in rw y (omega arith))
+  | inr n ↦ rw n (omega arith)
+]
 
 pub stretch_len-cut : (c : ℕ) (t : Text) → IsCut c t (front_len is_visible t)
 stretch_len-cut c [] = (omega arith, inr (inl refl))
@@ -31,11 +38,13 @@ pieces_after-drop zero t = refl
 pieces_after-drop (suc n) [] = refl
 pieces_after-drop (suc n) (c ∷ t) = pieces_after-drop n t
 
-pub pieces-sequence : (t : Text) → pieces (27 ∷ t) ≡ SequenceText (27 ∷ take (sequence_len t) t) ∷ pieces (drop (sequence_len t) t)
+pub pieces-sequence : (t : Text)
+    → pieces (27 ∷ t) ≡ SequenceText (27 ∷ take (sequence_len t) t) ∷ pieces (drop (sequence_len t) t)
 unfolding pieces_after
 pieces-sequence t = rw (← pieces_after-drop (sequence_len t) t) refl
 
-pub pieces-stretch : (c : ℕ) (t : Text) → (c == 27) ≡ false → pieces (c ∷ t) ≡ StretchText (c ∷ take (front_len is_visible t) t) ∷ pieces (drop (front_len is_visible t) t)
+pub pieces-stretch : (c : ℕ) (t : Text) → (c == 27) ≡ false
+    → pieces (c ∷ t) ≡ StretchText (c ∷ take (front_len is_visible t) t) ∷ pieces (drop (front_len is_visible t) t)
 unfolding pieces_after
 pieces-stretch c t h = rw (h, ← pieces_after-drop (front_len is_visible t) t) refl
 
@@ -46,13 +55,21 @@ joined-after zero [] = refl
 joined-after (suc n) [] = refl
 joined-after (suc n) (c ∷ t) = joined-after n t
 joined-after zero (c ∷ t) =
-    grind (arith, joined-after (sequence_len t) t, joined-after (front_len is_visible t) t, take-append-drop (sequence_len t) t, take-append-drop (front_len is_visible t) t)
+    grind (
+      arith,
+      joined-after (sequence_len t) t,
+      joined-after (front_len is_visible t) t,
+      take-append-drop
+          (sequence_len t) t,
+      take-append-drop (front_len is_visible t) t,
+    )
 
 pub joined-pieces : (t : Text) → joined (pieces t) ≡ t
 joined-pieces t = joined-after 0 t
 
 -- the stretches are what is visible
-stretch-visible : (t : Text) → take (front_len is_visible t) t ++ visible_after (front_len is_visible t) t ≡ visible_after 0 t
+stretch-visible : (t : Text)
+    → take (front_len is_visible t) t ++ visible_after (front_len is_visible t) t ≡ visible_after 0 t
 unfolding visible_after
 stretch-visible [] = refl
 stretch-visible (c ∷ t) = grind (arith, stretch-visible t)
@@ -61,7 +78,8 @@ stretches-after : (n : ℕ) (t : Text) → stretches (pieces_after n t) ≡ visi
 unfolding pieces_after visible_after
 stretches-after n [] = refl
 stretches-after (suc n) (c ∷ t) = stretches-after n t
-stretches-after zero (c ∷ t) = grind (arith, stretches-after (sequence_len t) t, stretches-after (front_len is_visible t) t, stretch-visible t)
+stretches-after zero (c ∷ t) = grind
+    (arith, stretches-after (sequence_len t) t, stretches-after (front_len is_visible t) t, stretch-visible t)
 
 pub stretches-pieces : (t : Text) → stretches (pieces t) ≡ visible t
 stretches-pieces t = stretches-after 0 t
@@ -89,7 +107,8 @@ visible_after-drop zero t = refl
 visible_after-drop (suc n) [] = refl
 visible_after-drop (suc n) (c ∷ t) = visible_after-drop n t
 
-pub visible-stretch : (t front back : Text) → front ≡ take (front_len is_visible t) t → back ≡ drop (front_len is_visible t) t → visible t ≡ front ++ visible back
+pub visible-stretch : (t front back : Text) → front ≡ take (front_len is_visible t) t
+    → back ≡ drop (front_len is_visible t) t → visible t ≡ front ++ visible back
 visible-stretch t front back p q = rw (p, q, ← visible_after-drop (front_len is_visible t) t) (sym (stretch-visible t))
 
 -- an escape character comes first there
@@ -111,7 +130,8 @@ front_free [] = refl
 front_free (c ∷ t) = elim (cases_Bool (c == 27)) [ inl y ↦ rw y refl | inr n ↦ rw n (rw n (front_free t)) ]
 
 -- it begins a sequence, and the text after that is visible
-pub visible-sequence : (t after : Text) (c : ℕ) → t ≡ c ∷ after → c ≡ 27 → visible t ≡ visible (drop (sequence_len after + 1) t)
+pub visible-sequence : (t after : Text) (c : ℕ) → t ≡ c ∷ after → c ≡ 27
+    → visible t ≡ visible (drop (sequence_len after + 1) t)
 unfolding visible_after
 visible-sequence t after c e i = rw (e, i, add-one) (visible_after-drop (sequence_len after) after)
 
@@ -150,7 +170,8 @@ module _ (bs after : Text) (first count : ℕ) (e : bs ≡ first ∷ after) wher
     pub sequence_boundary : IsUtf8 bs → IsCharBoundary bs (count + 1)
     sequence_boundary u = cut_boundary u sequence_cut
 
-    pub sequence_first : (front back : Text) → front ≡ take (count + 1) bs → back ≡ drop (count + 1) bs → pieces bs ≡ SequenceText front ∷ pieces back
+    pub sequence_first : (front back : Text) → front ≡ take (count + 1) bs → back ≡ drop (count + 1) bs
+        → pieces bs ≡ SequenceText front ∷ pieces back
     sequence_first front back p q = rw (p, q, e, i, h, add-one) (pieces-sequence after)
 
   module _ (i : first ≢ 27) (h : count ≡ front_len is_visible after) where
@@ -163,24 +184,35 @@ module _ (bs after : Text) (first count : ℕ) (e : bs ≡ first ∷ after) wher
     pub stretch_boundary : IsUtf8 bs → IsCharBoundary bs (count + 1)
     stretch_boundary u = cut_boundary u stretch_cut
 
-    pub stretch_first : (front back : Text) → front ≡ take (count + 1) bs → back ≡ drop (count + 1) bs → pieces bs ≡ StretchText front ∷ pieces back
-    stretch_first front back p q = rw (p, q, e, h, add-one) (pieces-stretch first after (elim (eqb_tells first 27) [ inl y ↦ absurd (i y.1) | inr n ↦ n.0 ]))
+    pub stretch_first : (front back : Text) → front ≡ take (count + 1) bs → back ≡ drop (count + 1) bs
+        → pieces bs ≡ StretchText front ∷ pieces back
+    stretch_first front back p q = rw (p, q, e, h, add-one) (pieces-stretch first after (elim (eqb_tells first 27) [
+      | inl y ↦ absurd (i y.1)
+      | inr n ↦ n.0
+    ]))
 
 pub ruleset piece_laws = (joined-pieces, stretches-pieces)
 
 -- the bytes before the first escape character
-front_at : (t : Text) (n : ℕ) → n ≤ length t → ((k : ℕ) → k < n → (get_or t k 0 == 27) ≡ false) → (n ≡ length t) ⊎ ((get_or t n 0 == 27) ≡ true) → n ≡ front_len is_visible t
+front_at : (t : Text) (n : ℕ) → n ≤ length t → ((k : ℕ) → k < n → (get_or t k 0 == 27) ≡ false)
+    → (n ≡ length t) ⊎ ((get_or t n 0 == 27) ≡ true) → n ≡ front_len is_visible t
 front_at [] n h before ends = omega arith
 front_at (c ∷ t) zero h before ends = elim ends [ inl e ↦ absurd (omega arith) | inr e ↦ rw e refl ]
 front_at (c ∷ t) (suc n) h before ends =
     let first : (c == 27) ≡ false = before 0 (omega arith) in
-    rw first (ap suc (front_at t n (omega arith) (λ k l. before (suc k) (omega arith)) (elim ends [ inl e ↦ inl (omega arith) | inr e ↦ inr e ])))
+    rw first (ap suc (front_at t n (omega arith) (λ k l. before (suc k) (omega arith)) (elim ends [
+      | inl e ↦ inl (omega arith)
+      | inr e ↦ inr e
+    ])))
 
-pub stretch_at : (t : Text) (i : ℕ) → NoneBefore (Passes (is_byte 27) t) 0 (length t) i × Passes (is_byte 27) t i → i ≡ front_len is_visible t
-stretch_at t i found = front_at t i (omega (arith, found.0.high)) (λ k l. false_from_ne_true _ (found.0.before k (omega arith) l)) (inr found.1)
+pub stretch_at : (t : Text) (i : ℕ) → NoneBefore (Passes (is_byte 27) t) 0 (length t) i × Passes (is_byte 27) t i
+    → i ≡ front_len is_visible t
+stretch_at t i found = front_at t i (omega (arith, found.0.high))
+    (λ k l. false_from_ne_true _ (found.0.before k (omega arith) l)) (inr found.1)
 
 pub stretch_whole : (t : Text) → Nowhere (Passes (is_byte 27) t) 0 (length t) → length t ≡ front_len is_visible t
-stretch_whole t none = front_at t (length t) (omega arith) (λ k l. false_from_ne_true _ (none k (omega arith) l)) (inl refl)
+stretch_whole t none = front_at t (length t) (omega arith) (λ k l. false_from_ne_true _ (none k (omega arith) l))
+    (inl refl)
 
 pub ruleset len_laws = (front_len-le, csi_end_len-le, csi_len-le, csi_len-final, sequence_len-le)
 
@@ -188,14 +220,25 @@ pub ruleset first_piece = (pieces-empty, sequence_fits, sequence_boundary, stret
 
 pub ruleset visible_laws = (visible_after-free, visible-visible, visible-free)
 
-pub ruleset fronts = (visible-front, visible-stretch, visible-sequence, front_boundary, front_stops, sequence_fits, sequence_boundary, nil_from_length)
+pub ruleset fronts = (
+  visible-front,
+  visible-stretch,
+  visible-sequence,
+  front_boundary,
+  front_stops,
+  sequence_fits,
+  sequence_boundary,
+  nil_from_length,
+)
 
 -- the run goes on with a byte that passes
-pub front_len-on : (p : ℕ → Bool) (t : Text) (i none : ℕ) → i < length t → p (get_or t i none) ≡ true → front_len p (drop i t) ≡ suc (front_len p (drop (i + 1) t))
+pub front_len-on : (p : ℕ → Bool) (t : Text) (i none : ℕ) → i < length t → p (get_or t i none) ≡ true
+    → front_len p (drop i t) ≡ suc (front_len p (drop (i + 1) t))
 front_len-on p t i none h e = rw (drop-cons t i none, e, add-one) refl
 
 -- a run ends at a byte that does not pass, or with the text
-pub front_len-off : (p : ℕ → Bool) (t : Text) (i none : ℕ) → i < length t → p (get_or t i none) ≡ false → front_len p (drop i t) ≡ 0
+pub front_len-off : (p : ℕ → Bool) (t : Text) (i none : ℕ) → i < length t → p (get_or t i none) ≡ false
+    → front_len p (drop i t) ≡ 0
 front_len-off p t i none h e = rw (drop-cons t i none, e) refl
 
 pub front_len-end : (p : ℕ → Bool) (t : Text) (i : ℕ) → length t ≤ i → front_len p (drop i t) ≡ 0

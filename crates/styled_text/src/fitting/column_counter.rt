@@ -38,7 +38,8 @@ impl ColumnCounter {
 
     fn count(&mut self, c: char)
         ensures mode { self.new.mode ≡ mode_after self.old.mode c }
-        ensures columns { self.new.columns ≡ saturated (self.old.columns + columns_counted c (advanced self.old.mode c)) }
+        ensures columns { self.new.columns
+            ≡ saturated (self.old.columns + columns_counted c (advanced self.old.mode c)) }
     {
         let columns = self.columns;
         match advance(self.mode, c) {

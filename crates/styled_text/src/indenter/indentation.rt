@@ -3,7 +3,8 @@
 //! It has its own module, since its name and that of the function `indented` differ only in case.
 
 ghost use Rattle.std.specs.Prelude.{◌≡◌, false, OnOk};
-ghost use Rattle.styled_text.specs.Names.{PutsMargin, TakesMargin, IndentedTakes, indented_meaning, indented_laws, IsOneLine, Puts};
+ghost use Rattle.styled_text.specs.Names.{PutsMargin, TakesMargin, IndentedTakes, indented_meaning, indented_laws};
+ghost use Rattle.styled_text.specs.Names.{IsOneLine, Puts};
 
 use crate::lines::split_line;
 use std::fmt;

@@ -4,58 +4,88 @@ use Rattle.styled_text.specs.Names.{AllByRecursion, HasNoEscape, Text}
 use Rattle.run_model.specs.Names.{TestOutputDisplay, TestInstanceId, StressIndex, Attempt}
 use Rattle.text_parts.specs.Names.{RunStats, RetryData, IsPlainResult, IsPlainWritten}
 use Rattle.run_names.specs.declared.unit.UnitKind.TheVariants as unit
-use Rattle.report_words.{specs.PlainTexts.IsPlainInstance, proofs.lemmas.ColourPairs.colour_pair-free, proofs.lemmas.FreeWords.frees, proofs.lemmas.PartsInColour.AreFree}
+use Rattle.report_words.{specs.PlainTexts.IsPlainInstance, proofs.lemmas.ColourPairs.colour_pair-free}
+use Rattle.report_words.{proofs.lemmas.FreeWords.frees, proofs.lemmas.PartsInColour.AreFree}
 use Rattle.text_parts.specs.declared.{instance.CountedInstance.CountedInstance, settings.Settings.Settings}
-use Rattle.{report_text.proofs.lemmas.FreeDetails.free-shell_words, test_text.specs.TestSkipped.skip_line, test_text.specs.TestSkipped.test_skipped_text}
-use Rattle.text_parts.proofs.lemmas.LineColourPairs.{IsPlainTest, plain-started_counter, plain-padded, free-instance_end, free-untimed_end}
+use Rattle.{report_text.proofs.lemmas.FreeDetails.free-shell_words, test_text.specs.TestSkipped.skip_line}
+use Rattle.{test_text.specs.TestSkipped.test_skipped_text}
+use Rattle.text_parts.proofs.lemmas.LineColourPairs.{IsPlainTest, plain-started_counter, plain-padded}
+use Rattle.text_parts.proofs.lemmas.LineColourPairs.{free-instance_end, free-untimed_end}
 use Rattle.text_parts.proofs.lemmas.{OutputColourPairs.free-unit_output, ResultColourPairs.free-short_word}
 use Rattle.test_text.specs.TestRetry.{attempt_failed_line, failed_output, delay_line, attempt_failed_text}
 use Rattle.test_text.specs.TestSlow.{slow_end, slow_text, terminating_text, test_slow_text}
-use Rattle.test_text.specs.TestStarted.{start_line, retry_start_line, command_text, test_started_text, test_retry_started_text}
+use Rattle.test_text.specs.TestStarted.{start_line, retry_start_line, command_text, test_started_text}
+use Rattle.test_text.specs.TestStarted.{test_retry_started_text}
 
 -- a test that is not run
 pub free-skip_line : (k : Bool) (test : CountedInstance) → IsPlainTest test → AreFree k (skip_line test)
 unfolding skip_line
 free-skip_line k test h = (tt, free-untimed_end k test h)
 
-pub free-test_skipped_text : (k : Bool) (s : Settings) (stress : Option StressIndex) (i : TestInstanceId) → IsPlainInstance i → AreFree k (test_skipped_text s stress i)
+pub free-test_skipped_text : (k : Bool) (s : Settings) (stress : Option StressIndex) (i : TestInstanceId)
+    → IsPlainInstance i → AreFree k (test_skipped_text s stress i)
 unfolding test_skipped_text
 free-test_skipped_text k s stress i h = (free-skip_line k _ (plain-padded s stress i h), tt)
 
 -- a test that starts
-free-command_text : (k : Bool) (s : Settings) (words : List Text) → AllByRecursion HasNoEscape words → AreFree k (command_text s words)
+free-command_text : (k : Bool) (s : Settings) (words : List Text) → AllByRecursion HasNoEscape words
+    → AreFree k (command_text s words)
 unfolding command_text
 free-command_text k s words h = ((tt, (tt, (colour_pair-free k _ (free-shell_words words h), tt))), tt)
 
-pub free-test_started_text : (k : Bool) (s : Settings) (stress : Option StressIndex) (i : TestInstanceId) (x : RunStats) (words : List Text) → IsPlainInstance i → AllByRecursion HasNoEscape words
+pub free-test_started_text : (k : Bool) (s : Settings) (stress : Option StressIndex) (i : TestInstanceId) (x : RunStats)
+    (words : List Text)
+    → IsPlainInstance i → AllByRecursion HasNoEscape words
     → AreFree k (test_started_text s stress i x words)
 unfolding test_started_text start_line
-free-test_started_text k s stress i x words h j = (((tt, free-untimed_end k _ (plain-started_counter s x, h)), tt), free-command_text k s words j)
+free-test_started_text k s stress i x words h j = (
+  ((tt, free-untimed_end k _ (plain-started_counter s x, h)), tt),
+  free-command_text k s words j,
+)
 
-pub free-test_retry_started_text : (k : Bool) (s : Settings) (stress : Option StressIndex) (i : TestInstanceId) (r : RetryData) (words : List Text) → IsPlainInstance i → AllByRecursion HasNoEscape words
+pub free-test_retry_started_text : (k : Bool) (s : Settings) (stress : Option StressIndex) (i : TestInstanceId)
+    (r : RetryData) (words : List Text)
+    → IsPlainInstance i → AllByRecursion HasNoEscape words
     → AreFree k (test_retry_started_text s stress i r words)
 unfolding test_retry_started_text retry_start_line
-free-test_retry_started_text k s stress i r words h j = (((tt, free-untimed_end k _ (plain-padded s stress i h)), tt), free-command_text k s words j)
+free-test_retry_started_text k s stress i r words h j = (
+  ((tt, free-untimed_end k _ (plain-padded s stress i h)), tt),
+  free-command_text k s words j,
+)
 
 -- a test that is slow
 free-slow_end : (k : Bool) (test : CountedInstance) (elapsed : ℕ) → IsPlainTest test → AreFree k (slow_end test elapsed)
 unfolding slow_end
 free-slow_end k test elapsed h = (tt, (tt, free-instance_end k test h))
 
-pub free-test_slow_text : (k : Bool) (s : Settings) (stress : Option StressIndex) (i : TestInstanceId) (r : RetryData) (elapsed : ℕ) (will_terminate : Bool) → IsPlainInstance i
+pub free-test_slow_text : (k : Bool) (s : Settings) (stress : Option StressIndex) (i : TestInstanceId) (r : RetryData)
+    (elapsed : ℕ) (will_terminate : Bool)
+    → IsPlainInstance i
     → AreFree k (test_slow_text s stress i r elapsed will_terminate)
 unfolding test_slow_text slow_text terminating_text
 free-test_slow_text k s stress i r elapsed true h = ((tt, free-slow_end k _ elapsed (plain-padded s stress i h)), tt)
 free-test_slow_text k s stress i r elapsed false h = ((tt, free-slow_end k _ elapsed (plain-padded s stress i h)), tt)
 
 -- a failed attempt that is retried
-free-attempt_failed_line : (k : Bool) (test : CountedInstance) (x : Attempt) → IsPlainTest test → IsPlainResult x.result → AreFree k (attempt_failed_line test x)
+free-attempt_failed_line : (k : Bool) (test : CountedInstance) (x : Attempt) → IsPlainTest test → IsPlainResult x.result
+    → AreFree k (attempt_failed_line test x)
 unfolding attempt_failed_line
-free-attempt_failed_line k test x h j = let word = free-short_word x.result j in (search frees depth 12, (tt, (tt, free-instance_end k test h)))
+free-attempt_failed_line k test x h j = let word = free-short_word x.result j in
+    (search frees depth 12, (tt, (tt, free-instance_end k test h)))
 
-pub free-attempt_failed_text : (k : Bool) (s : Settings) (stress : Option StressIndex) (i : TestInstanceId) (x : Attempt) (delay : ℕ) (failure : TestOutputDisplay) → IsPlainInstance i → IsPlainResult x.result → IsPlainWritten k x.output
+pub free-attempt_failed_text : (k : Bool) (s : Settings) (stress : Option StressIndex) (i : TestInstanceId)
+    (x : Attempt) (delay : ℕ) (failure : TestOutputDisplay)
+    → IsPlainInstance i → IsPlainResult x.result → IsPlainWritten k x.output
     → AreFree k (attempt_failed_text s stress i x delay failure)
 unfolding attempt_failed_text failed_output delay_line
 free-attempt_failed_text k s stress i x delay failure h j w =
-    let test = plain-padded s stress i h in
-    ((free-attempt_failed_line k _ x test j, ((free-unit_output k s unit.Test true x.result x.output j w, tt), (tt, (tt, (tt, (tt, free-instance_end k _ test)))))), tt)
+    let test = plain-padded s stress i h in (
+      (
+        free-attempt_failed_line k _ x test j,
+        (
+          (free-unit_output k s unit.Test true x.result x.output j w, tt),
+          (tt, (tt, (tt, (tt, free-instance_end k _ test)))),
+        ),
+      ),
+      tt,
+    )

@@ -1,8 +1,11 @@
--- What a cancel reason does to the outputs of tests (for `reasons_only_hide`, and in console_reporter for the lemmas of UninterruptedRuns, Exactness).
+-- What a cancel reason does to the outputs of tests (for `reasons_only_hide`, and in console_reporter for the lemmas of
+-- UninterruptedRuns, Exactness).
 use Rattle.std.proofs.Common.{◌≡◌, ℕ, ◌<◌, ◌∙◌, true, false, refl, sym, ap, arith, ◌==◌, nat_lt}
-use Rattle.{std.proofs.lemmas.Bool.false≢true, std.proofs.lemmas.Bool.Decides.nat_tests, run_model.specs.Names.is_immediate, run_model.specs.Names.is_final, run_model.specs.Names.TestOutputDisplay}
+use Rattle.{std.proofs.lemmas.Bool.false≢true, std.proofs.lemmas.Bool.Decides.nat_tests}
+use Rattle.{run_model.specs.Names.is_immediate, run_model.specs.Names.is_final, run_model.specs.Names.TestOutputDisplay}
 use Rattle.run_names.specs.declared.config.TestOutputDisplay.TheVariants.{Immediate, ImmediateFinal, Final, Never}
-use Rattle.text_parts.specs.Names.{IsOnlyHidden, IsSameBelowImmediate, output_timing, is_shown_at_end, is_shown_at_once, timed_at_end, timed_at_once, OutputTiming, ExecutionResultDescription}
+use Rattle.text_parts.specs.Names.{IsOnlyHidden, IsSameBelowImmediate, output_timing, is_shown_at_end, is_shown_at_once}
+use Rattle.text_parts.specs.Names.{timed_at_end, timed_at_once, OutputTiming, ExecutionResultDescription}
 use Rattle.text_parts.specs.declared.finish.OutputTiming.TheVariants.{Hidden, Shown, ShownOnce}
 
 -- a reason less severe than `TestFailureImmediate` gives the same timing as no reason
@@ -13,13 +16,15 @@ row_below reason result h =
     let less : nat_lt reason 6 ≡ true = grind (arith, nat_tests) in
     rw (other, less) refl
 
-at_once-immediate : (row : OutputTiming) (display : TestOutputDisplay) → timed_at_once row display ≡ true → is_immediate display ≡ true
+at_once-immediate : (row : OutputTiming) (display : TestOutputDisplay) → timed_at_once row display ≡ true
+    → is_immediate display ≡ true
 unfolding timed_at_once
 at_once-immediate Hidden display h = absurd (false≢true h)
 at_once-immediate Shown display h = h
 at_once-immediate ShownOnce display h = h
 
-at_end-final : (row : OutputTiming) (display : TestOutputDisplay) → timed_at_end row display ≡ true → is_final display ≡ true
+at_end-final : (row : OutputTiming) (display : TestOutputDisplay) → timed_at_end row display ≡ true
+    → is_final display ≡ true
 unfolding timed_at_end
 at_end-final Hidden display h = absurd (false≢true h)
 at_end-final Shown display h = h
@@ -37,7 +42,9 @@ unfolding output_timing timed_at_end
 only_hidden-at_end reason display result h = at_end-final (output_timing reason result) display h
 
 pub same-at_once : IsSameBelowImmediate is_shown_at_once
-same-at_once reason display result h = ap (λ row. timed_at_once row display) (row_below reason result h ∙ sym (row_below 0 result (omega arith)))
+same-at_once reason display result h = ap (λ row. timed_at_once row display)
+    (row_below reason result h ∙ sym (row_below 0 result (omega arith)))
 
 pub same-at_end : IsSameBelowImmediate is_shown_at_end
-same-at_end reason display result h = ap (λ row. timed_at_end row display) (row_below reason result h ∙ sym (row_below 0 result (omega arith)))
+same-at_end reason display result h = ap (λ row. timed_at_end row display)
+    (row_below reason result h ∙ sym (row_below 0 result (omega arith)))

@@ -1,8 +1,13 @@
 -- The tests and setup scripts of lines, without escape characters (for all lines of units).
 use Rattle.std.proofs.Common.{◌≢◌, ◌∷◌, ℕ, Bool, true, false, arith, Option, None, Some}
-use Rattle.{run_model.specs.Names.TestInstanceId, run_model.specs.Names.StressIndex, styled_text.specs.Style.styles_of, report_words.specs.Names.IsPlainInstance, report_words.specs.Names.hbar_character, report_words.proofs.lemmas.PartsInColour.AreFree}
-use Rattle.text_parts.specs.Names.{HasPlainCounter, padded_instance, instance_end, untimed_end, IsPlainScript, Script, shown_script, counter_where, finished_counter, next_where, started_counter, padded_where, padded_counter, CountedInstance, Settings, RunStats}
-use Rattle.report_text.proofs.lemmas.{FreeDetails.free-shell_words, InstanceColourPairs.colour_pair-instance_text, InstanceColourPairs.colour_pair-script_text}
+use Rattle.{run_model.specs.Names.TestInstanceId, run_model.specs.Names.StressIndex, styled_text.specs.Style.styles_of}
+use Rattle.{report_words.specs.Names.IsPlainInstance, report_words.specs.Names.hbar_character}
+use Rattle.{report_words.proofs.lemmas.PartsInColour.AreFree}
+use Rattle.text_parts.specs.Names.{HasPlainCounter, padded_instance, instance_end, untimed_end, IsPlainScript, Script}
+use Rattle.text_parts.specs.Names.{shown_script, counter_where, finished_counter, next_where, started_counter}
+use Rattle.text_parts.specs.Names.{padded_where, padded_counter, CountedInstance, Settings, RunStats}
+use Rattle.report_text.proofs.lemmas.{FreeDetails.free-shell_words, InstanceColourPairs.colour_pair-instance_text}
+use Rattle.report_text.proofs.lemmas.{InstanceColourPairs.colour_pair-script_text}
 
 -- these settings, with colours or without
 abbrev pub painted : Bool → Settings → Settings
@@ -38,7 +43,8 @@ plain-padded_counter s = go s.counter_width
 abbrev pub IsPlainTest : CountedInstance → Type 0
 IsPlainTest test = HasPlainCounter test.counter × IsPlainInstance test.instance
 
-pub plain-padded : (s : Settings) (stress : Option StressIndex) (i : TestInstanceId) → IsPlainInstance i → IsPlainTest (padded_instance s stress i)
+pub plain-padded : (s : Settings) (stress : Option StressIndex) (i : TestInstanceId) → IsPlainInstance i
+    → IsPlainTest (padded_instance s stress i)
 plain-padded s stress i h = (plain-padded_counter s, h)
 
 -- the ends of a test's lines
@@ -52,4 +58,5 @@ free-untimed_end k test h = (tt, free-instance_end k test h)
 
 -- a script as its lines name it
 pub free-shown_script : (k : Bool) (x : Script) → IsPlainScript x → AreFree k (shown_script x)
-free-shown_script k x h = colour_pair-script_text k _ _ x.stress_index x.script_id _ h.0 (free-shell_words (x.program ∷ x.args) (h.1, h.2))
+free-shown_script k x h = colour_pair-script_text k _ _ x.stress_index x.script_id _ h.0
+    (free-shell_words (x.program ∷ x.args) (h.1, h.2))

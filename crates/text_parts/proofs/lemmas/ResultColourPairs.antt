@@ -1,9 +1,14 @@
 -- Results in words, without escape characters (for the lines and the outputs of tests).
 use Rattle.std.proofs.Common.{Bool, true, false, refl, Option, None, Some}
 use Rattle.run_names.specs.declared.abort.AbortDescription.TheVariants.{UnixSignal, WindowsNtStatus, WindowsJobObject}
-use Rattle.{run_model.specs.declared.status.FailureDescription.TheVariants.ExitCode, run_model.specs.declared.status.FailureDescription.TheVariants.Abort, styled_text.specs.Names.Text, styled_text.specs.Names.HasNoEscape, report_words.specs.PlainTexts.HoldsIf}
-use Rattle.report_words.proofs.lemmas.{FreeWords.free-signed, FreeWords.frees, ColourPairs.colour_pair-free, PartsInColour.AreFree}
-use Rattle.text_parts.specs.Names.{indented_message, nt_message, nt_line, abort_line, signal_name, signal_info, info_text, long_word, short_word, success_word, IsPlainResult, ExecutionResultDescription}
+use Rattle.{run_model.specs.declared.status.FailureDescription.TheVariants.ExitCode}
+use Rattle.{run_model.specs.declared.status.FailureDescription.TheVariants.Abort, styled_text.specs.Names.Text}
+use Rattle.{styled_text.specs.Names.HasNoEscape, report_words.specs.PlainTexts.HoldsIf}
+use Rattle.report_words.proofs.lemmas.{FreeWords.free-signed, FreeWords.frees, ColourPairs.colour_pair-free}
+use Rattle.report_words.proofs.lemmas.{PartsInColour.AreFree}
+use Rattle.text_parts.specs.Names.{indented_message, nt_message, nt_line, abort_line, signal_name, signal_info}
+use Rattle.text_parts.specs.Names.{info_text, long_word, short_word, success_word, IsPlainResult}
+use Rattle.text_parts.specs.Names.{ExecutionResultDescription}
 use Rattle.run_model.specs.declared.status.ExecutionResultDescription.TheVariants as outcome
 use Rattle.run_model.specs.declared.status.LeakTimeoutResult.TheVariants as leak
 use Rattle.run_model.specs.declared.status.SlowTimeoutResult.TheVariants as slow
@@ -62,7 +67,8 @@ free-abort_line k outcome.Pass h = tt
 free-abort_line k (outcome.Leak result) h = tt
 free-abort_line k (outcome.Fail (ExitCode code) leaked) h = tt
 free-abort_line k (outcome.Fail (Abort (UnixSignal signal name)) leaked) h = tt
-free-abort_line k (outcome.Fail (Abort (WindowsNtStatus code message)) leaked) h = (tt, (tt, (tt, (tt, (colour_pair-free k _ (free-nt_message message h), tt)))))
+free-abort_line k (outcome.Fail (Abort (WindowsNtStatus code message)) leaked) h =
+    (tt, (tt, (tt, (tt, (colour_pair-free k _ (free-nt_message message h), tt)))))
 free-abort_line k (outcome.Fail (Abort WindowsJobObject) leaked) h = tt
 free-abort_line k outcome.ExecFail h = tt
 free-abort_line k (outcome.Timeout result) h = tt
@@ -73,12 +79,14 @@ free-signal_name None h = refl
 free-signal_name (Some name) h = search frees depth 12
 
 -- how an attempt ended
-pub free-info_text : (k : Bool) (b : Bool) (x : ExecutionResultDescription) → IsPlainResult x → AreFree k (info_text b x)
+pub free-info_text : (k : Bool) (b : Bool) (x : ExecutionResultDescription) → IsPlainResult x
+    → AreFree k (info_text b x)
 unfolding signal_info
 free-info_text k b outcome.Pass h = tt
 free-info_text k b (outcome.Leak result) h = tt
 free-info_text k b (outcome.Fail (ExitCode code) leaked) h = tt
-free-info_text k b (outcome.Fail (Abort (UnixSignal signal name)) leaked) h = (tt, (tt, (tt, (colour_pair-free k _ (free-signal_name name h), tt))))
+free-info_text k b (outcome.Fail (Abort (UnixSignal signal name)) leaked) h =
+    (tt, (tt, (tt, (colour_pair-free k _ (free-signal_name name h), tt))))
 free-info_text k b (outcome.Fail (Abort (WindowsNtStatus code message)) leaked) h = tt
 free-info_text k b (outcome.Fail (Abort WindowsJobObject) leaked) h = tt
 free-info_text k b outcome.ExecFail h = tt

@@ -19,8 +19,8 @@ fn chunks(alloc: Global, text: &str, limit: usize) -> Result<String, Fail> {
     Ok(chunks)
 }
 
-// Texts, limits and chunks. The rows up to the one of mixed lengths are those of nextest-runner's test `test_print_lines_in_chunks`, save
-// the two of long lines.
+// Texts, limits and chunks. The rows up to the one of mixed lengths are those of nextest-runner's test
+// `test_print_lines_in_chunks`, save the two of long lines.
 const CHUNKS: [(&str, usize, &str); 16] = [
     ("", 1024, ""),
     ("hello", 1024, "hello|"),

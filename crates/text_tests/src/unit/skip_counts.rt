@@ -10,9 +10,9 @@ use std::test::Fail;
 use styled_text::style::Styles;
 use unit_report::formatters::write_skip_counts;
 
-// The rows of nextest-runner's test `test_write_skip_counts`, and two in colour. A digit each for the tests that passed before, are
-// skipped and are filtered, and for the binaries that are skipped and filtered; `p` for a filter of the profile or `o` for one
-// of its overrides; `c` for colour; and then the words between the brackets.
+// The rows of nextest-runner's test `test_write_skip_counts`, and two in colour. A digit each for the tests that passed
+// before, are skipped and are filtered, and for the binaries that are skipped and filtered; `p` for a filter of the
+// profile or `o` for one of its overrides; `c` for colour; and then the words between the brackets.
 const ROWS: &str = "\
 01100p- 1 test skipped via profile.my-profile.default-filter\n\
 02200p- 2 tests skipped via profile.my-profile.default-filter\n\

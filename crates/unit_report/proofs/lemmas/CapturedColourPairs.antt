@@ -1,11 +1,18 @@
 -- Captured output with its highlight, in colour and plain (for `colour_pair-shown_stream`).
-use Rattle.std.proofs.Common.{◌≡◌, ℕ, ◌<◌, Bool, true, false, List, [], ◌∷◌, ◌++◌, refl, sym, ◌∙◌, ap, ap₂, arith, inl, inr, append_assoc, append-nil, Option, None, Some, length, take, drop, take-append-drop, drop-drop, length-drop, ◌==◌, eqb-true}
-use Rattle.styled_text.specs.Names.{AllByRecursion, flat_map, without_trailing_newline, ends_in_line_feed, visible_after, visible, HasNoEscape, highlight_end, indent, plain, styles_of, reset_color, style_suffix, Text, onto_first_line, whole_lines, without_end_spaces}
+use Rattle.std.proofs.Common.{◌≡◌, ℕ, ◌<◌, Bool, true, false, List, [], ◌∷◌, ◌++◌, refl, sym, ◌∙◌, ap, ap₂, arith, inl}
+use Rattle.std.proofs.Common.{inr, append_assoc, append-nil, Option, None, Some, length, take, drop, take-append-drop}
+use Rattle.std.proofs.Common.{drop-drop, length-drop, ◌==◌, eqb-true}
+use Rattle.styled_text.specs.Names.{AllByRecursion, flat_map, without_trailing_newline, ends_in_line_feed}
+use Rattle.styled_text.specs.Names.{visible_after, visible, HasNoEscape, highlight_end, indent, plain, styles_of}
+use Rattle.styled_text.specs.Names.{reset_color, style_suffix, Text, onto_first_line, whole_lines, without_end_spaces}
 use Rattle.report_words.specs.Names.{Style, IsColourPair, HoldsIf}
 use Rattle.{std.proofs.lemmas.Bool.cases_Bool, run_model.specs.Names.Part, run_model.specs.Names.decoded_text}
-use Rattle.unit_report.specs.Captured.{plain_output, reset_output, highlighted_output, is_valid, highlight_stop, highlighted_by, coloured_output, captured}
-use Rattle.unit_report.specs.{HighlightedLines.body_len, HighlightedLines.highlighted_line, HighlightedLines.highlighted_lines, PlainOutputs.IsInside, PlainOutputs.IsPlainStream}
-use Rattle.styled_text.proofs.lemmas.{Pieces.free_parts, Pieces.visible-free, IndentedEndSpaces.IsBlank, Widths.free_both, Widths.visible-free_append}
+use Rattle.unit_report.specs.Captured.{plain_output, reset_output, highlighted_output, is_valid, highlight_stop}
+use Rattle.unit_report.specs.Captured.{highlighted_by, coloured_output, captured}
+use Rattle.unit_report.specs.{HighlightedLines.body_len, HighlightedLines.highlighted_line}
+use Rattle.unit_report.specs.{HighlightedLines.highlighted_lines, PlainOutputs.IsInside, PlainOutputs.IsPlainStream}
+use Rattle.styled_text.proofs.lemmas.{Pieces.free_parts, Pieces.visible-free, IndentedEndSpaces.IsBlank}
+use Rattle.styled_text.proofs.lemmas.{Widths.free_both, Widths.visible-free_append}
 use Rattle.report_words.proofs.lemmas.FreeWords.{free-take, free-drop, free-indent, free-visible}
 use Rattle.report_words.proofs.lemmas.ColourPairs.{prefix-append, suffix-append, reset-append, colour_pair-indent}
 
@@ -22,11 +29,16 @@ pub record IsEndedColourPair (k : Bool) (c u : Text) : Type 0 where
   pub coloured : k ≡ true → IsEndedColour c u
   pub plain : k ≡ false → HasNoEscape u
 
-coloured-indent : (p : Text) (c u : Text) → HasNoEscape p → IsBlank p → IsEndedColour c u → IsColourPair true (indent p true c) (indent p true u)
+coloured-indent : (p : Text) (c u : Text) → HasNoEscape p → IsBlank p → IsEndedColour c u
+    → IsColourPair true (indent p true c) (indent p true u)
 coloured-indent p c u h blank e =
-    rw (e.coloured_is, e.uncoloured_is) (colour_pair-indent true p true e.coloured e.uncoloured h blank (record { coloured = λ q. ap without_end_spaces e.same; plain = λ q. cc }))
+    rw (e.coloured_is, e.uncoloured_is) (colour_pair-indent true p true e.coloured e.uncoloured h blank (record {
+      coloured = λ q. ap without_end_spaces e.same;
+      plain = λ q. cc;
+    }))
 
-pub colour_pair-indent_ended : (k : Bool) (p : Text) (c u : Text) → HasNoEscape p → IsBlank p → IsEndedColourPair k c u → IsColourPair k (indent p true c) (indent p true u)
+pub colour_pair-indent_ended : (k : Bool) (p : Text) (c u : Text) → HasNoEscape p → IsBlank p → IsEndedColourPair k c u
+    → IsColourPair k (indent p true c) (indent p true u)
 colour_pair-indent_ended k p c u h blank e = record {
   coloured = λ q. (coloured-indent p c u h blank (e.coloured q)).coloured refl;
   plain = λ q. free-indent p true u h (e.plain q);
@@ -36,13 +48,16 @@ free-without_trailing_newline : (t : Text) → HasNoEscape t → HasNoEscape (wi
 unfolding without_trailing_newline
 free-without_trailing_newline [] h = refl
 free-without_trailing_newline (c ∷ []) h = elim (cases_Bool (c == 10)) [ inl e ↦ rw e refl | inr n ↦ rw n h ]
-free-without_trailing_newline (c ∷ d ∷ t) h = let both = free_parts c (d ∷ t) h in rw (both.0, free-without_trailing_newline (d ∷ t) both.1) refl
+free-without_trailing_newline (c ∷ d ∷ t) h = let both = free_parts c (d ∷ t) h in rw
+    (both.0, free-without_trailing_newline (d ∷ t) both.1) refl
 
 -- the text without a highlight, before its line feed
-visible-reset : (t : Text) → HasNoEscape t → visible (without_trailing_newline t ++ reset_color) ≡ without_trailing_newline t
+visible-reset : (t : Text) → HasNoEscape t
+    → visible (without_trailing_newline t ++ reset_color) ≡ without_trailing_newline t
 unfolding visible_after
 visible-reset t h = visible-free_append (without_trailing_newline t) reset_color (free-without_trailing_newline t h)
-    ∙ ap (λ x. without_trailing_newline t ++ x) (ap visible (sym (append-nil reset_color)) ∙ reset-append []) ∙ append-nil (without_trailing_newline t)
+    ∙ ap (λ x. without_trailing_newline t ++ x) (ap visible (sym (append-nil reset_color)) ∙ reset-append [])
+    ∙ append-nil (without_trailing_newline t)
 
 ended-reset : (t : Text) → HasNoEscape t → IsEndedColour (reset_output t) (plain_output t)
 unfolding reset_output plain_output
@@ -60,15 +75,20 @@ no_trailing_newline [] h = refl
 no_trailing_newline (c ∷ []) h = rw h refl
 no_trailing_newline (c ∷ d ∷ t) h = ap (λ l. c ∷ l) (no_trailing_newline (d ∷ t) h)
 
-without_trailing_newline-more : (t : Text) (d : ℕ) (u : Text) → without_trailing_newline (t ++ d ∷ u) ≡ t ++ without_trailing_newline (d ∷ u)
+without_trailing_newline-more : (t : Text) (d : ℕ) (u : Text)
+    → without_trailing_newline (t ++ d ∷ u) ≡ t ++ without_trailing_newline (d ∷ u)
 unfolding without_trailing_newline
 without_trailing_newline-more [] d u = refl
 without_trailing_newline-more (c ∷ []) d u = refl
 without_trailing_newline-more (c ∷ e ∷ t) d u = ap (λ l. c ∷ l) (without_trailing_newline-more (e ∷ t) d u)
 
-without_trailing_newline-inside : (t u : Text) → (ends_in_line_feed (t ++ u) ≡ true → 0 < length u) → without_trailing_newline (t ++ u) ≡ t ++ without_trailing_newline u
+without_trailing_newline-inside : (t u : Text) → (ends_in_line_feed (t ++ u) ≡ true → 0 < length u)
+    → without_trailing_newline (t ++ u) ≡ t ++ without_trailing_newline u
 unfolding without_trailing_newline
-without_trailing_newline-inside t [] h = elim (cases_Bool (ends_in_line_feed (t ++ []))) [ inl y ↦ absurd (let l = h y in omega arith) | inr n ↦ no_trailing_newline (t ++ []) n ]
+without_trailing_newline-inside t [] h = elim (cases_Bool (ends_in_line_feed (t ++ []))) [
+  | inl y ↦ absurd (let l = h y in omega arith)
+  | inr n ↦ no_trailing_newline (t ++ []) n
+]
 without_trailing_newline-inside t (d ∷ u) h = without_trailing_newline-more t d u
 
 line_parts : (l : Text) (n : ℕ) → take n l ++ drop n l ≡ l
@@ -88,7 +108,8 @@ abbrev concat_lines : List Text → Text
 concat_lines [] = []
 concat_lines (l ∷ ls) = l ++ concat_lines ls
 
-whole_lines-are : (t : Text) → HasNoEscape t → AllByRecursion HasNoEscape (whole_lines t) × (concat_lines (whole_lines t) ≡ t)
+whole_lines-are : (t : Text) → HasNoEscape t
+    → AllByRecursion HasNoEscape (whole_lines t) × (concat_lines (whole_lines t) ≡ t)
 unfolding whole_lines
 whole_lines-are [] h = (tt, refl)
 whole_lines-are (c ∷ t) h = let both = free_parts c t h in let more = whole_lines-are t both.1 in
@@ -97,7 +118,8 @@ whole_lines-are (c ∷ t) h = let both = free_parts c t h in let more = whole_li
       | inr n ↦ rw n (go both.0 (whole_lines t) more.0, same (whole_lines t) ∙ ap (λ l. c ∷ l) more.1)
     ]
   where
-    go : (c == 27) ≡ false → (ls : List Text) → AllByRecursion HasNoEscape ls → AllByRecursion HasNoEscape (onto_first_line c ls)
+    go : (c == 27) ≡ false → (ls : List Text) → AllByRecursion HasNoEscape ls
+        → AllByRecursion HasNoEscape (onto_first_line c ls)
     go e [] all = (rw e refl, tt)
     go e (l ∷ ls) all = (rw (e, all.0) refl, all.1)
 
@@ -105,44 +127,59 @@ whole_lines-are (c ∷ t) h = let both = free_parts c t h in let more = whole_li
     same [] = refl
     same (l ∷ ls) = refl
 
-lit_lines-append : (s : Style) (ls : List Text) (u : Text) → AllByRecursion HasNoEscape ls → visible (flat_map (highlighted_line s) ls ++ u) ≡ concat_lines ls ++ visible u
+lit_lines-append : (s : Style) (ls : List Text) (u : Text) → AllByRecursion HasNoEscape ls
+    → visible (flat_map (highlighted_line s) ls ++ u) ≡ concat_lines ls ++ visible u
 lit_lines-append s [] u h = refl
-lit_lines-append s (l ∷ ls) u h = simp append_assoc (lit_line-append s l (flat_map (highlighted_line s) ls ++ u) h.0 ∙ ap (λ t. l ++ t) (lit_lines-append s ls u h.1))
+lit_lines-append s (l ∷ ls) u h = simp append_assoc
+    (lit_line-append s l (flat_map (highlighted_line s) ls ++ u) h.0 ∙ ap (λ t. l ++ t) (lit_lines-append s ls u h.1))
 
 highlighted-append : (s : Style) (t u : Text) → HasNoEscape t → visible (highlighted_lines s t ++ u) ≡ t ++ visible u
 unfolding highlighted_lines
-highlighted-append s t u h = let lines = whole_lines-are t h in lit_lines-append s (whole_lines t) u lines.0 ∙ ap (λ x. x ++ visible u) lines.1
+highlighted-append s t u h = let lines = whole_lines-are t h in lit_lines-append s (whole_lines t) u lines.0
+    ∙ ap (λ x. x ++ visible u) lines.1
 
 -- a highlight between two texts
-ended-parts : (s : Style) (front lit back : Text) → HasNoEscape front → HasNoEscape lit → HasNoEscape back → (ends_in_line_feed ((front ++ lit) ++ back) ≡ true → 0 < length back)
+ended-parts : (s : Style) (front lit back : Text) → HasNoEscape front → HasNoEscape lit → HasNoEscape back
+    → (ends_in_line_feed ((front ++ lit) ++ back) ≡ true → 0 < length back)
     → IsEndedColour (highlighted_output s front lit back) (plain_output ((front ++ lit) ++ back))
 unfolding highlighted_output plain reset_output plain_output
 ended-parts s front lit back a b d inside = record {
   coloured = front ++ (reset_color ++ (highlighted_lines s lit ++ (without_trailing_newline back ++ reset_color)));
   uncoloured = (front ++ lit) ++ without_trailing_newline back;
-  coloured_is = assoc_five front reset_color (highlighted_lines s lit) (without_trailing_newline back) reset_color (10 ∷ []);
-  uncoloured_is = ap (λ x. without_trailing_newline x ++ 10 ∷ []) (visible-free ((front ++ lit) ++ back) (free_both (front ++ lit) back (free_both front lit a b) d))
+  coloured_is = assoc_five front reset_color (highlighted_lines s lit) (without_trailing_newline back) reset_color
+      (10 ∷ []);
+  uncoloured_is = ap (λ x. without_trailing_newline x ++ 10 ∷ [])
+      (visible-free ((front ++ lit) ++ back) (free_both (front ++ lit) back (free_both front lit a b) d))
       ∙ ap (λ x. x ++ 10 ∷ []) (without_trailing_newline-inside (front ++ lit) back inside);
-  same = visible-free_append front (reset_color ++ (highlighted_lines s lit ++ (without_trailing_newline back ++ reset_color))) a
+  same = visible-free_append front
+      (reset_color ++ (highlighted_lines s lit ++ (without_trailing_newline back ++ reset_color))) a
       ∙ ap (λ x. front ++ x) (reset-append (highlighted_lines s lit ++ (without_trailing_newline back ++ reset_color))
-      ∙ highlighted-append s lit (without_trailing_newline back ++ reset_color) b ∙ ap (λ x. lit ++ x) (visible-reset back d))
+      ∙ highlighted-append s lit (without_trailing_newline back ++ reset_color) b
+      ∙ ap (λ x. lit ++ x) (visible-reset back d))
       ∙ sym (append_assoc front lit (without_trailing_newline back));
 }
   where
     assoc_five : (p q r x y z : Text) → p ++ (q ++ (r ++ (x ++ (y ++ z)))) ≡ (p ++ (q ++ (r ++ (x ++ y)))) ++ z
     assoc_five p q r x y z = simp append_assoc refl
 
-ended-highlighted : (s : Style) (t : Text) (h : Part) → HasNoEscape t → IsInside t h → is_valid t h ≡ true → IsEndedColour (highlighted_by s t h) (plain_output t)
+ended-highlighted : (s : Style) (t : Text) (h : Part) → HasNoEscape t → IsInside t h → is_valid t h ≡ true
+    → IsEndedColour (highlighted_by s t h) (plain_output t)
 ended-highlighted s t h free inside valid =
-    let front = take h.start t in let lit = take (highlight_end h.bytes) (drop h.start t) in let back = drop (highlight_stop h) t in
+    let front = take h.start t in let lit = take (highlight_end h.bytes) (drop h.start t) in let back = drop
+    (highlight_stop h) t in
     let whole : (front ++ lit) ++ back ≡ t =
     append_assoc front lit back ∙ ap (λ x. front ++ (lit ++ x)) (sym (drop-drop (highlight_end h.bytes) h.start t))
     ∙ ap (λ x. front ++ x) (take-append-drop (highlight_end h.bytes) (drop h.start t)) ∙ take-append-drop h.start t in
-    let some : ends_in_line_feed ((front ++ lit) ++ back) ≡ true → 0 < length back = λ e. let l = inside valid (rw whole at e) in omega (arith, length-drop (highlight_stop h) t) in
-    rw whole at (ended-parts s front lit back (free-take h.start t free) (free-take (highlight_end h.bytes) (drop h.start t) (free-drop h.start t free)) (free-drop (highlight_stop h) t free) some)
+    let some : ends_in_line_feed ((front ++ lit) ++ back) ≡ true → 0 < length back = λ e. let l = inside valid
+    (rw whole at e) in omega (arith, length-drop (highlight_stop h) t) in
+    rw whole at
+    (ended-parts s front lit back (free-take h.start t free)
+    (free-take (highlight_end h.bytes) (drop h.start t) (free-drop h.start t free))
+    (free-drop (highlight_stop h) t free) some)
 
 -- the visible part of a captured output in colour is the plain one
-coloured-captured : (t : Text) (o : Option Part) → HasNoEscape t → HoldsIf (IsInside t) o → IsEndedColour (captured (styles_of true) t o) (captured (styles_of false) t o)
+coloured-captured : (t : Text) (o : Option Part) → HasNoEscape t → HoldsIf (IsInside t) o
+    → IsEndedColour (captured (styles_of true) t o) (captured (styles_of false) t o)
 unfolding captured coloured_output
 coloured-captured t None free inside = ended-reset t free
 coloured-captured t (Some h) free inside = elim (cases_Bool (is_valid t h)) [
@@ -153,8 +190,14 @@ coloured-captured t (Some h) free inside = elim (cases_Bool (is_valid t h)) [
 -- the plain one holds no escape character, whatever the output and its highlight are
 plain-captured : (t : Text) (o : Option Part) → HasNoEscape (captured (styles_of false) t o)
 unfolding captured plain_output
-plain-captured t o = free_both (without_trailing_newline (visible t)) (10 ∷ []) (free-without_trailing_newline (visible t) (free-visible t)) refl
+plain-captured t o = free_both (without_trailing_newline (visible t)) (10 ∷ [])
+    (free-without_trailing_newline (visible t) (free-visible t)) refl
 
-pub ended-captured : (k : Bool) (bytes : Text) (o : Option Part) → IsPlainStream k o bytes → IsEndedColourPair k (captured (styles_of true) (decoded_text bytes) o) (captured (styles_of false) (decoded_text bytes) o)
-ended-captured true bytes o h = record { coloured = λ q. coloured-captured (decoded_text bytes) o h.0 h.1; plain = λ q. cc }
+pub ended-captured : (k : Bool) (bytes : Text) (o : Option Part) → IsPlainStream k o bytes
+    → IsEndedColourPair k (captured (styles_of true) (decoded_text bytes) o) (captured (styles_of false)
+    (decoded_text bytes) o)
+ended-captured true bytes o h = record {
+  coloured = λ q. coloured-captured (decoded_text bytes) o h.0 h.1;
+  plain = λ q. cc;
+}
 ended-captured false bytes o h = record { coloured = λ q. cc; plain = λ q. plain-captured (decoded_text bytes) o }

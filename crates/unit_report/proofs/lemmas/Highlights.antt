@@ -1,7 +1,8 @@
 -- Highlights that are valid (for `split_highlight`).
 use Rattle.std.proofs.Common.{◌≡◌, ℕ, true, false, ◌==◌, ◌&&◌, Bool, refl, ◌∙◌, arith, drop, drop-drop}
 use Rattle.unit_report.specs.Captured.{ends_character, highlight_stop, is_valid}
-use Rattle.{std.proofs.lemmas.Bool.Decides.nat_tests, std.proofs.lemmas.Str.IsCharBoundary-from_rest, run_model.specs.Outputs.Part}
+use Rattle.{std.proofs.lemmas.Bool.Decides.nat_tests, std.proofs.lemmas.Str.IsCharBoundary-from_rest}
+use Rattle.{run_model.specs.Outputs.Part}
 use Rattle.styled_text.specs.Names.{starts_with, IsCharBoundary, highlight_end, Text}
 
 boundary-ends : (n : ℕ) (t : Text) → IsCharBoundary t n → ends_character n t ≡ true
@@ -17,8 +18,15 @@ module _ (t : Text) (h : Part) where
       none false = refl
 
   module _ (end : ℕ) (e : end ≡ highlight_end h.bytes) where
-    pub part_valid : IsCharBoundary t h.start → starts_with ◌==◌ (drop h.start t) h.bytes ≡ true → IsCharBoundary (drop h.start t) end → is_valid t h ≡ true
-    part_valid place here stop = rw (boundary-ends h.start t place, here, boundary-ends (highlight_stop h) t (rw e at (IsCharBoundary-from_rest t h.start end place.0 stop))) refl
+    pub part_valid : IsCharBoundary t h.start → starts_with ◌==◌ (drop h.start t) h.bytes ≡ true
+        → IsCharBoundary (drop h.start t) end → is_valid t h ≡ true
+    part_valid place here stop = rw (
+      boundary-ends h.start t place,
+      here,
+      boundary-ends (highlight_stop h) t
+          (rw e at (IsCharBoundary-from_rest t h.start end place.0 stop)),
+    )
+        refl
 
     pub part_rest : drop end (drop h.start t) ≡ drop (highlight_stop h) t
     part_rest = drop-drop end h.start t ∙ rw e refl

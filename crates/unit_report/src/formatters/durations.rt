@@ -41,8 +41,8 @@ impl fmt::Display for DisplayBracketedDuration {
     }
 }
 
-/// How long a run has taken, between brackets and a space: hours, minutes and seconds, right-aligned in nine columns. Fractions of a
-/// second are cut off.
+/// How long a run has taken, between brackets and a space: hours, minutes and seconds, right-aligned in nine columns.
+/// Fractions of a second are cut off.
 ///
 /// ```
 /// assert_eq!(DisplayBracketedHhMmSs(Nanos(12_000_000_000)).to_string(alloc)?.as_str(), "[ 00:00:12] ");
@@ -94,7 +94,8 @@ impl fmt::Display for DisplayDurationBy {
     }
 }
 
-/// A duration that was exceeded, between brackets and a space: seconds with three decimals, right-aligned in seven columns.
+/// A duration that was exceeded, between brackets and a space: seconds with three decimals, right-aligned in seven
+/// columns.
 ///
 /// ```
 /// assert_eq!(DisplaySlowDuration(Nanos(60_000_000_000)).to_string(alloc)?.as_str(), "[> 60.000s] ");

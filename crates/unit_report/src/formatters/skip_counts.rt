@@ -2,7 +2,8 @@
 
 ghost use Rattle.std.specs.Prelude.{◌≡◌};
 ghost use Rattle.{writers.specs.Writer.Puts, report_words.specs.Parts.paint};
-ghost use Rattle.unit_report.specs.SkipCounts.{filter_name, included_text, skip_counts_text, skip_reason, skipped_tests_in, tests_and_binaries, tests_text, via_filter};
+ghost use Rattle.unit_report.specs.SkipCounts.{filter_name, included_text, skip_counts_text, skip_reason};
+ghost use Rattle.unit_report.specs.SkipCounts.{skipped_tests_in, tests_and_binaries, tests_text, via_filter};
 
 use report_words::plural::{binaries_str, tests_str};
 use run_model::config::{CompiledDefaultFilter, CompiledDefaultFilterSection, NextestRunMode};
@@ -34,7 +35,8 @@ pub fn write_skip_counts<W: WriteStr>(
     styles: &Styles,
     w: &mut W,
 ) -> Result<(), WriteFault>
-    ensures { Puts W.meaning w.old (paint styles.now (skip_counts_text mode skip_counts.now default_filter.now)) result w.new }
+    ensures { Puts W.meaning w.old (paint styles.now (skip_counts_text mode skip_counts.now default_filter.now))
+        result w.new }
 {
     let tests = skipped_tests(mode, skip_counts);
     let binaries = skip_counts.skipped_binaries;
@@ -97,7 +99,9 @@ impl WriteText for SkipReason<'_> {
 // Writes how many of the skipped tests passed before, and how many tests and binaries the default filter leaves out.
 #[tactic(auto, unfolding(crate::specs::SkipCounts::included_text, crate::specs::SkipCounts::rerun_text, crate::specs::SkipCounts::filtered_text))]
 fn write_included<W: WriteStr>(w: &mut W, reason: &SkipReason<'_>) -> Result<(), WriteFault>
-    ensures { Puts W.meaning w.old (paint reason.now.styles.now (included_text reason.now.mode reason.now.counts.now reason.now.filter.now)) result w.new }
+    ensures { Puts W.meaning w.old
+        (paint reason.now.styles.now (included_text reason.now.mode reason.now.counts.now reason.now.filter.now))
+        result w.new }
 {
     let SkipReason {
         styles,

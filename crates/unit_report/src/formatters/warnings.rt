@@ -1,7 +1,8 @@
 //! Warnings of tests that a run left out.
 
 ghost use Rattle.{writers.specs.Writer.Puts, report_words.specs.Parts.paint};
-ghost use Rattle.unit_report.specs.Warnings.{due_to, final_warnings, hint_after, not_run_warning, options_hint, warning_of};
+ghost use Rattle.unit_report.specs.Warnings.{due_to, final_warnings, hint_after, not_run_warning, options_hint};
+ghost use Rattle.unit_report.specs.Warnings.{warning_of};
 
 use report_words::plural::{tests_plural_if, were_plural_if};
 use run_model::config::NextestRunMode;

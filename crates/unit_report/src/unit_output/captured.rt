@@ -1,11 +1,13 @@
 //! Captured output as a report shows it.
 //!
-//! Without colours the output's escape sequences are left out. With colours they stay, and a reset at the end keeps them
-//! from going on after it. Nothing is copied: what is written are slices of the text.
+//! Without colours the output's escape sequences are left out. With colours they stay, and a reset at the end keeps
+//! them from going on after it. Nothing is copied: what is written are slices of the text.
 
 ghost use Rattle.std.specs.Prelude.{◌≡◌, true, false, take, drop, MatchOption};
-ghost use Rattle.{run_model.specs.Outputs.subslice_value, styled_text.specs.Names.highlight_end, styled_text.specs.Names.Puts};
-ghost use Rattle.unit_report.specs.Captured.{captured, coloured_output, highlight_stop, is_valid, part_value, reset_output};
+ghost use Rattle.{run_model.specs.Outputs.subslice_value, styled_text.specs.Names.highlight_end};
+ghost use Rattle.{styled_text.specs.Names.Puts};
+ghost use Rattle.unit_report.specs.Captured.{captured, coloured_output, highlight_stop, is_valid, part_value};
+ghost use Rattle.unit_report.specs.Captured.{reset_output};
 
 use super::highlighted_lines::write_highlighted_lines;
 use run_model::output::ByteSubslice;

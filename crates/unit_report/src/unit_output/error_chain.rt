@@ -1,6 +1,7 @@
 //! An error and its causes, as text.
 
-ghost use Rattle.{styled_text.specs.Names.flat_map, styled_text.specs.Names.Puts, unit_report.specs.ErrorChain.cause_text, unit_report.specs.ErrorChain.error_chain_text};
+ghost use Rattle.{styled_text.specs.Names.flat_map, styled_text.specs.Names.Puts};
+ghost use Rattle.{unit_report.specs.ErrorChain.cause_text, unit_report.specs.ErrorChain.error_chain_text};
 
 use run_model::abort::DescriptionText;
 use run_model::output::ErrorChain;

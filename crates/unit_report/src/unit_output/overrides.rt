@@ -1,7 +1,8 @@
 //! Overrides of the display settings that tests have for their output.
 
 ghost use Rattle.std.specs.Prelude.{◌≡◌, unwrap_or};
-ghost use Rattle.{run_model.specs.Statuses.described_summary, unit_report.specs.Overrides.display_for, unit_report.specs.Overrides.display_when};
+ghost use Rattle.{run_model.specs.Statuses.described_summary, unit_report.specs.Overrides.display_for};
+ghost use Rattle.{unit_report.specs.Overrides.display_when};
 
 use run_model::config::TestOutputDisplay;
 use run_model::output::OutputSpec;

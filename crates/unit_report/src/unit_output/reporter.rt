@@ -3,8 +3,11 @@
 ghost use Rattle.std.specs.Prelude.{◌≡◌, ◌∷◌, ◌++◌, [], true};
 ghost use Rattle.styled_text.specs.Names.{option_map, option_and_then, indent, Puts};
 ghost use Rattle.{unit_report.specs.Captured.captured, unit_report.specs.ErrorChain.error_chain_text};
-ghost use Rattle.run_model.specs.Outputs.{combined_part, has_loaded_output, is_loaded, stderr_part, stdout_part, subslice_value};
-ghost use Rattle.unit_report.specs.UnitOutput.{both_streams, child_output, errors_block, errors_text, execution_output, layout_of, not_captured_text, present_stream, shown_stream, split_text, stream_text};
+ghost use Rattle.run_model.specs.Outputs.{combined_part, has_loaded_output, is_loaded, stderr_part, stdout_part};
+ghost use Rattle.run_model.specs.Outputs.{subslice_value};
+ghost use Rattle.unit_report.specs.UnitOutput.{both_streams, child_output, errors_block, errors_text, execution_output};
+ghost use Rattle.unit_report.specs.UnitOutput.{layout_of, not_captured_text, present_stream, shown_stream, split_text};
+ghost use Rattle.unit_report.specs.UnitOutput.{stream_text};
 
 use super::DisplayerKind;
 use super::captured::Captured;
@@ -72,7 +75,8 @@ impl UnitOutputReporter {
         self.overrides
     }
 
-    /// Writes all that is shown of an attempt: errors first, then its output, then an empty line. The output must be loaded.
+    /// Writes all that is shown of an attempt: errors first, then its output, then an empty line. The output must be
+    /// loaded.
     ///
     /// # Errors
     ///
@@ -86,7 +90,8 @@ impl UnitOutputReporter {
         w: &mut W,
     ) -> Result<(), WriteFault>
         requires { has_loaded_output exec_output.now ≡ true }
-        ensures { Puts W.meaning w.old (execution_output self.now styles.now (layout_of spec.now) exec_output.now) result w.new }
+        ensures { Puts W.meaning w.old (execution_output self.now styles.now (layout_of spec.now) exec_output.now)
+            result w.new }
     {
         match exec_output {
             ChildExecutionOutputDescription::Output {
@@ -121,7 +126,10 @@ impl UnitOutputReporter {
         w: &mut W,
     ) -> Result<(), WriteFault>
         requires { is_loaded output.now ≡ true }
-        ensures { Puts W.meaning w.old (child_output self.now styles.now (layout_of spec.now) output.now (option_map (λ h. h.now) highlight.entry)) result w.new }
+        ensures { Puts W.meaning w.old
+            (child_output self.now styles.now (layout_of spec.now) output.now
+            (option_map (λ h. h.now) highlight.entry))
+            result w.new }
     {
         let streams = StreamWriter {
             reporter: self,
@@ -158,7 +166,10 @@ impl StreamWriter<'_> {
         stderr: &Option<ChildSingleOutput>,
         highlight: Option<&Highlight>,
     ) -> Result<(), WriteFault>
-        ensures { Puts W.meaning w.old (split_text self.now.reporter.now self.now.styles.now (layout_of self.now.spec.now) stdout.now stderr.now (option_map (λ h. h.now) highlight.entry)) result w.new }
+        ensures { Puts W.meaning w.old
+            (split_text self.now.reporter.now self.now.styles.now (layout_of self.now.spec.now) stdout.now
+            stderr.now (option_map (λ h. h.now) highlight.entry))
+            result w.new }
     {
         match (stdout, stderr) {
             (None, None) if self.reporter.displayer_kind == DisplayerKind::Replay => {
@@ -176,7 +187,10 @@ impl StreamWriter<'_> {
         stderr: &Option<ChildSingleOutput>,
         highlight: Option<&Highlight>,
     ) -> Result<(), WriteFault>
-        ensures { Puts W.meaning w.old (both_streams self.now.reporter.now self.now.styles.now (layout_of self.now.spec.now) stdout.now stderr.now (option_map (λ h. h.now) highlight.entry)) result w.new }
+        ensures { Puts W.meaning w.old
+            (both_streams self.now.reporter.now self.now.styles.now (layout_of self.now.spec.now) stdout.now
+            stderr.now (option_map (λ h. h.now) highlight.entry))
+            result w.new }
     {
         let part = highlight.and_then(|it| it.stdout_subslice());
         self.write_stream(w, self.spec.stdout_header, OutputName::Stdout, stdout, part)?;
@@ -194,7 +208,10 @@ impl StreamWriter<'_> {
         output: &Option<ChildSingleOutput>,
         highlight: Option<ByteSubslice<'_>>,
     ) -> Result<(), WriteFault>
-        ensures { Puts W.meaning w.old (stream_text self.now.reporter.now self.now.styles.now self.now.spec.now.output_indent.now header name output.now (subslice_value highlight.entry)) result w.new }
+        ensures { Puts W.meaning w.old
+            (stream_text self.now.reporter.now self.now.styles.now self.now.spec.now.output_indent.now header name
+            output.now (subslice_value highlight.entry))
+            result w.new }
     {
         match output {
             Some(output) => self.write_present(w, header, output, highlight),
@@ -213,7 +230,10 @@ impl StreamWriter<'_> {
         output: &ChildSingleOutput,
         highlight: Option<ByteSubslice<'_>>,
     ) -> Result<(), WriteFault>
-        ensures { Puts W.meaning w.old (present_stream self.now.reporter.now self.now.styles.now self.now.spec.now.output_indent.now header output.now (subslice_value highlight.entry)) result w.new }
+        ensures { Puts W.meaning w.old
+            (present_stream self.now.reporter.now self.now.styles.now self.now.spec.now.output_indent.now header
+            output.now (subslice_value highlight.entry))
+            result w.new }
     {
         if self.reporter.display_empty_outputs || !output.is_empty() {
             self.write_shown(w, header, output, highlight)
@@ -230,7 +250,10 @@ impl StreamWriter<'_> {
         output: &ChildSingleOutput,
         highlight: Option<ByteSubslice<'_>>,
     ) -> Result<(), WriteFault>
-        ensures { Puts W.meaning w.old (shown_stream self.now.styles.now self.now.spec.now.output_indent.now header output.now (subslice_value highlight.entry)) result w.new }
+        ensures { Puts W.meaning w.old
+            (shown_stream self.now.styles.now self.now.spec.now.output_indent.now header output.now
+            (subslice_value highlight.entry))
+            result w.new }
     {
         let captured = Captured {
             styles: self.styles,

@@ -1,6 +1,7 @@
 //! A device whose interrupted calls are repeated.
 
-ghost use Rattle.std.specs.{Prelude.◌≡◌, Prelude.◌≢◌, Prelude.IfErr, IoError.error_kind, Io.WritesAtMost, Io.KnownBytes.Keeps, Io.KnownBytes.WriteAppends};
+ghost use Rattle.std.specs.{Prelude.◌≡◌, Prelude.◌≢◌, Prelude.IfErr, IoError.error_kind, Io.WritesAtMost};
+ghost use Rattle.std.specs.{Io.KnownBytes.Keeps, Io.KnownBytes.WriteAppends};
 
 use std::io;
 use std::io::{ErrorKind, Write};

@@ -18,7 +18,8 @@ returns-in-Nothing-clause-piece g c = λ text known.
     let end = rw before.1 at c.in-Ok.ensures.end in
     let none_shown : length (reader_buffer c.fill_buf.follows.lender-at-none) ≡ 0 = ap length taken.0 in
     let none_left = end (omega (arith, shown, none_shown)) in
-    let whole = before.2 ∙ ap (λ more. c.loop-turn.piece.items ++ more) none_left ∙ append-nil c.loop-turn.piece.items ∙ sym taken.2 in
+    let whole = before.2 ∙ ap (λ more. c.loop-turn.piece.items ++ more) none_left
+    ∙ append-nil c.loop-turn.piece.items ∙ sym taken.2 in
     let size = c.is_empty.ensures ∙ ap (λ n. n == 0) c.take_at_hand.new.piece.ok.0 in
     at_end text c.take_at_hand.new.piece.items _ c.is_empty.result size whole (taken.1 ∙ ap Some none_left)
 

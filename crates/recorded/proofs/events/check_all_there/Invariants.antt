@@ -1,4 +1,5 @@
-use Rattle.{std.proofs.Common.◌≡◌, std.proofs.Common.drop, recorded.specs.Events.is_there, recorded.proofs.lemmas.Fields.IsLeft}
+use Rattle.{std.proofs.Common.◌≡◌, std.proofs.Common.drop, recorded.specs.Events.is_there}
+use Rattle.{recorded.proofs.lemmas.Fields.IsLeft}
 
 -- the outputs so far are there
 abbrev pub invariant-loop-placed : Rattle.recorded.proofs.events.check_all_there.Given.invariant-loop-placed

@@ -5,9 +5,12 @@ use Rattle.recorded.{proofs.lemmas.Fields.IsLeft, proofs.lemmas.Fields.IsLeftEve
 -- the outputs so far, of those that are loaded, are undamaged and in the event, and the others will be
 abbrev pub invariant-loop-placed : Rattle.recorded.proofs.events.load_wanted.Given.invariant-loop-placed
 invariant-loop-placed g l = record {
-  undamaged : IsLeft is_undamaged (g.O.ReadAt.recorded l.fn.outputs.source) (wanted l.only (drop l.placed-index l.stored)) (wanted l.only l.stored);
-  loaded : IsLeftEvent (g.O.ReadAt.recorded l.fn.outputs.source) (wanted l.only (drop l.placed-index l.stored)) l.event (wanted l.only l.stored) l.fn.event;
+  undamaged : IsLeft is_undamaged (g.O.ReadAt.recorded l.fn.outputs.source)
+      (wanted l.only (drop l.placed-index l.stored)) (wanted l.only l.stored);
+  loaded : IsLeftEvent (g.O.ReadAt.recorded l.fn.outputs.source) (wanted l.only (drop l.placed-index l.stored)) l.event
+      (wanted l.only l.stored) l.fn.event;
   kept : g.O.ReadAt.recorded l.outputs.source ≡ g.O.ReadAt.recorded l.fn.outputs.source;
   small : g.O.ReadAt.count l.outputs.source ≤ 2 ^ 64 - 1;
-  count : counted (g.O.ReadAt.count l.outputs.source) (outputs_len (wanted l.only (drop l.placed-index l.stored))) ≡ counted (g.O.ReadAt.count l.fn.outputs.source) (outputs_len (wanted l.only l.stored));
+  count : counted (g.O.ReadAt.count l.outputs.source) (outputs_len (wanted l.only (drop l.placed-index l.stored)))
+      ≡ counted (g.O.ReadAt.count l.fn.outputs.source) (outputs_len (wanted l.only l.stored));
 }

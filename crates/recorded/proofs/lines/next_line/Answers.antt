@@ -7,7 +7,8 @@ pub returns-in-Line-clause-line : goal.returns-in-Line-clause-line
 returns-in-Line-clause-line g c = λ text known.
     let before = c.loop-turn.invariant text known in
     let left = kept_known _ _ before.0 before.1 c.fill_buf.follows.holds-at-none.0 in
-    line_taken text _ before.0 [] _ _ before.2 before.3 ((rw c.in-Line.is at c.in_ok-take_at_hand.ensures) before.0 left)
+    line_taken text _ before.0 [] _ _ before.2 before.3
+    ((rw c.in-Line.is at c.in_ok-take_at_hand.ensures) before.0 left)
 
 pub returns-in-Nothing-clause-line : goal.returns-in-Nothing-clause-line
 returns-in-Nothing-clause-line g c = λ text known.
@@ -23,4 +24,5 @@ pub loop-turn-preserved : goal.loop-turn-preserved
 loop-turn-preserved g c = λ text known.
     let before = c.loop-turn.invariant text known in
     let left = kept_known _ _ before.0 before.1 c.fill_buf.follows.holds-at-none.0 in
-    part_taken text _ before.0 [] _ _ before.2 before.3 ((rw c.in-Part.is at c.in_ok-take_at_hand.ensures) before.0 left)
+    part_taken text _ before.0 [] _ _ before.2 before.3
+    ((rw c.in-Part.is at c.in_ok-take_at_hand.ensures) before.0 left)

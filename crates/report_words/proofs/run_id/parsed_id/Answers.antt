@@ -2,7 +2,8 @@ use Rattle.std.proofs.Common.{◌≡◌, ◌↔◌, Option, None, Some, Result, 
 use Rattle.std.specs.Result.{result_ok}
 
 -- a parser returns `Ok` exactly if there is a value, and with it
-parsed_or_none : {A E : Type 0} (o : Option A) (r : Result A E) → (IsOk r ↔ ((x : A) × (o ≡ Some x))) → IfOk r (λ x. Some x ≡ o) → result_ok r ≡ o
+parsed_or_none : {A E : Type 0} (o : Option A) (r : Result A E) → (IsOk r ↔ ((x : A) × (o ≡ Some x)))
+    → IfOk r (λ x. Some x ≡ o) → result_ok r ≡ o
 parsed_or_none o (Ok x) is_there same = same
 parsed_or_none None (Err e) is_there same = refl
 parsed_or_none (Some x) (Err e) is_there same = absurd (let h = is_there.1 (x, refl) in cc)

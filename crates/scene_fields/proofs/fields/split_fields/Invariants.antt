@@ -1,6 +1,7 @@
 use Rattle.std.proofs.Common.{◌≡◌, ◌++◌, ◌+◌, ◌-◌, ◌≤◌, drop, length, min}
 use Rattle.memchr.specs.Find.{is_byte, Nowhere, Passes}
-use Rattle.{std.specs.Str.IsCharBoundary, scene_fields.specs.Split.split_on, scene_fields.specs.Split.field_texts, scene_fields.proofs.lemmas.Marks.AreLeft}
+use Rattle.{std.specs.Str.IsCharBoundary, scene_fields.specs.Split.split_on, scene_fields.specs.Split.field_texts}
+use Rattle.{scene_fields.proofs.lemmas.Marks.AreLeft}
 use Rattle.scene_fields.proofs.fields.split_fields.Given as goal
 
 -- the fields so far, and those from the start on, are all

@@ -7,7 +7,10 @@ use Rattle.scene_fields.proofs.lists.read_chain.Given as goal
 abbrev pub invariant-loop-word : goal.invariant-loop-word
 invariant-loop-word l = record {
   len : into_iter_len l.rest ≡ length (into_iter_items l.rest);
-  all : chain_in l.fn.field ≡ Some (record { message = string_bytes l.message-inside.text; causes = l.causes.items ++ map string_bytes (into_iter_items l.rest) });
+  all : chain_in l.fn.field ≡ Some (record {
+    message = string_bytes l.message-inside.text;
+    causes = l.causes.items ++ map string_bytes (into_iter_items l.rest);
+  });
 }
 
 abbrev pub decreases-loop-word : goal.decreases-loop-word

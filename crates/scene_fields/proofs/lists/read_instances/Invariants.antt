@@ -8,7 +8,8 @@ use Rattle.scene_fields.proofs.lists.read_instances.Given as goal
 abbrev pub invariant-loop-binary_id : goal.invariant-loop-binary_id
 invariant-loop-binary_id l = record {
   len : into_iter_len l.rest ≡ length (into_iter_items l.rest);
-  all : instances_in l.fn.field ≡ option_map (λ others. l.instances.items ++ others) (instances_of (map string_bytes (into_iter_items l.rest)));
+  all : instances_in l.fn.field
+      ≡ option_map (λ others. l.instances.items ++ others) (instances_of (map string_bytes (into_iter_items l.rest)));
 }
 
 abbrev pub decreases-loop-binary_id : goal.decreases-loop-binary_id

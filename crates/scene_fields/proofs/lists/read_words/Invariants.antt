@@ -7,7 +7,8 @@ use Rattle.scene_fields.proofs.lists.read_words.Given as goal
 abbrev pub invariant-loop-plain : goal.invariant-loop-plain
 invariant-loop-plain l = record {
   valid : shadow (Utf8 l.rest);
-  read : option_map (λ ws. ws.0 ∷ ws.1) (list_words l.fn.field) ≡ option_map (λ ws. map string_bytes l.words.items ++ (string_bytes l.word ++ ws.0) ∷ ws.1) (list_words l.rest);
+  read : option_map (λ ws. ws.0 ∷ ws.1) (list_words l.fn.field)
+      ≡ option_map (λ ws. map string_bytes l.words.items ++ (string_bytes l.word ++ ws.0) ∷ ws.1) (list_words l.rest);
 }
 
 abbrev pub decreases-loop-plain : goal.decreases-loop-plain

@@ -1,4 +1,5 @@
-use Rattle.{std.proofs.Common.arith, scene_fields.proofs.lemmas.Marks.all_left, scene_fields.proofs.lemmas.Marks.next_left}
+use Rattle.{std.proofs.Common.arith, scene_fields.proofs.lemmas.Marks.all_left}
+use Rattle.{scene_fields.proofs.lemmas.Marks.next_left}
 
 pub returns-then-marks-ne0 : Rattle.scene_fields.proofs.marks.find_byte.Goals.returns-then-marks-ne0
 returns-then-marks-ne0 c =

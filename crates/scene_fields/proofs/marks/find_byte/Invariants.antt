@@ -1,4 +1,5 @@
-use Rattle.{std.proofs.Common.◌-◌, std.proofs.Common.length, std.proofs.Common.min, memchr.specs.Find.is_byte, memchr.specs.Find.Nowhere, memchr.specs.Find.Passes}
+use Rattle.{std.proofs.Common.◌-◌, std.proofs.Common.length, std.proofs.Common.min, memchr.specs.Find.is_byte}
+use Rattle.{memchr.specs.Find.Nowhere, memchr.specs.Find.Passes}
 use Rattle.scene_fields.proofs.marks.find_byte.Given as goal
 
 -- there is no such byte so far

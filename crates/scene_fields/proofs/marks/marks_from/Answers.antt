@@ -1,9 +1,11 @@
 use Rattle.std.proofs.Common.{◌≡◌, ◌+◌, ◌-◌, ◌/◌, ◌^◌, ◌∙◌, ap, arith, drop, length, min, take}
-use Rattle.scene_fields.{specs.Marks.marks, specs.Marks.marks_between, proofs.lemmas.Marks.marks-block, proofs.lemmas.Marks.marks-later}
+use Rattle.scene_fields.{specs.Marks.marks, specs.Marks.marks_between, proofs.lemmas.Marks.marks-block}
+use Rattle.scene_fields.{proofs.lemmas.Marks.marks-later}
 use Rattle.scene_fields.proofs.marks.marks_from.Goals as goal
 
 pub returns-then-left-ge32 : goal.returns-then-left-ge32
-returns-then-left-ge32 c = c.match_mask.ensures ∙ ap (marks c.args.byte) c.load_block.ensures ∙ marks-block c.args.byte c.args.bytes.now c.args.from c.requires.within _ c.requires.byte
+returns-then-left-ge32 c = c.match_mask.ensures ∙ ap (marks c.args.byte) c.load_block.ensures
+    ∙ marks-block c.args.byte c.args.bytes.now c.args.from c.requires.within _ c.requires.byte
 
 pub returns : goal.returns
 returns c =

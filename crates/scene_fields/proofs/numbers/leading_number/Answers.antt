@@ -1,5 +1,7 @@
 use Rattle.std.proofs.Common.{◌≡◌, ◌<◌, true, length-take, drop, get_or-take, arith}
-use Rattle.scene_fields.{specs.Numbers.starts_with_digit, proofs.lemmas.Cuts.rest_is, proofs.numbers.leading_number.Goals.else-loop-byte-test, proofs.numbers.leading_number.Goals.then-loop-byte-test+then-digit-gt9}
+use Rattle.scene_fields.{specs.Numbers.starts_with_digit, proofs.lemmas.Cuts.rest_is}
+use Rattle.scene_fields.{proofs.numbers.leading_number.Goals.else-loop-byte-test}
+use Rattle.scene_fields.{proofs.numbers.leading_number.Goals.then-loop-byte-test+then-digit-gt9}
 use Rattle.scene_fields.proofs.lemmas.ShortNumbers.{stays_small, one_digit_more, leading, digit_in}
 use Rattle.scene_fields.proofs.numbers.leading_number.Goals as goal
 
@@ -19,7 +21,8 @@ loop-byte-preserved c =
     let same = get_or-take c.min.result c.args.text.now c.loop-byte.byte-index 0 (omega arith) in
     let byte = c.type_inv.text c.loop-byte.byte-index in
     record {
-      so_far = one_digit_more _ _ _ c.loop-byte.invariant.so_far _ (omega arith) (omega arith, omega arith) (omega arith);
+      so_far = one_digit_more _ _ _ c.loop-byte.invariant.so_far _ (omega arith) (omega arith, omega arith)
+          (omega arith);
       counted = omega arith;
     }
 
@@ -37,4 +40,6 @@ returns c =
           absurd (omega (arith, w.if-digit-gt9.true, here.1))
           )
     ] in
-    rw counted (leading _ _ _ c.loop-byte.invariant.so_far _ (rest_is c.args.text.now c.loop-byte.byte-index) (omega arith) (omega arith) (omega arith) longest)
+    rw counted
+    (leading _ _ _ c.loop-byte.invariant.so_far _ (rest_is c.args.text.now c.loop-byte.byte-index) (omega arith)
+    (omega arith) (omega arith) longest)

@@ -9,7 +9,8 @@ returns-in-Some c =
       record {
         low = found.0.low;
         high = omega (arith, near, c.if-text-lt-NEAR.false);
-        before = λ k low high p. found.0.before k low high (subst is_byte_at (sym (get_or-take 16 t k 0 (omega (arith, near)))) p);
+        before = λ k low high p. found.0.before k low high
+            (subst is_byte_at (sym (get_or-take 16 t k 0 (omega (arith, near)))) p);
       },
       subst is_byte_at (get_or-take 16 t c.in-Some.place 0 near) found.1,
     )

@@ -1,6 +1,8 @@
 use Rattle.std.proofs.Common.{◌≡◌, ◌<◌, length, get_or, take, arith, sym, ap, ◌∙◌}
-use Rattle.{std.proofs.lemmas.Bool.Decides.nat_tests, std.proofs.lemmas.Str.IsCharBoundary-after_ascii, scene_fields.specs.Split.cut}
-use Rattle.scene_fields.proofs.lemmas.Cuts.{Lacks-from_each, cut_at, split_on-first, split_on-lacks, cut-lacks, cut-parts}
+use Rattle.{std.proofs.lemmas.Bool.Decides.nat_tests, std.proofs.lemmas.Str.IsCharBoundary-after_ascii}
+use Rattle.{scene_fields.specs.Split.cut}
+use Rattle.scene_fields.proofs.lemmas.Cuts.{Lacks-from_each, cut_at, split_on-first, split_on-lacks, cut-lacks}
+use Rattle.scene_fields.proofs.lemmas.Cuts.{cut-parts}
 use Rattle.scene_fields.proofs.split.split_at_byte.Goals as goal
 
 pub range_from-requires : goal.range_from-requires
@@ -13,7 +15,13 @@ range_from-requires c above =
 pub returns-in_default : goal.returns-in_default
 returns-in_default c =
     let lacks = Lacks-from_each c.args.byte c.args.text.now (rw c.as_bytes.ensures.value at c.in_default.ensures) in
-    record { parts = lacks; shorter = tt; split_on = split_on-lacks c.args.byte c.args.text.now lacks; cut = cut-lacks c.args.byte c.args.text.now lacks }
+    record {
+      parts = lacks;
+      shorter = tt;
+      split_on = split_on-lacks c.args.byte c.args.text.now lacks;
+      cut = cut-lacks
+          c.args.byte c.args.text.now lacks;
+    }
 
 pub returns : goal.returns
 returns c =
@@ -23,6 +31,8 @@ returns c =
     record {
       parts = rw (front, c.range_from.ensures.value) parts;
       shorter = rw c.range_from.ensures.value (grind (arith, found.0));
-      split_on = rw (front, c.range_from.ensures.value) (split_on-first c.args.byte c.args.text.now c.in-Some.at found.0 found.1);
-      cut = rw (front, c.range_from.ensures.value) (sym (ap (λ t. cut c.args.byte t) parts.1 ∙ cut-parts c.args.byte _ _ parts.0));
+      split_on = rw (front, c.range_from.ensures.value)
+          (split_on-first c.args.byte c.args.text.now c.in-Some.at found.0 found.1);
+      cut = rw (front, c.range_from.ensures.value)
+          (sym (ap (λ t. cut c.args.byte t) parts.1 ∙ cut-parts c.args.byte _ _ parts.0));
     }

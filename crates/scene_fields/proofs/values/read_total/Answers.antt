@@ -1,5 +1,8 @@
-use Rattle.std.proofs.Common.{◌∙◌, ap, ◌≡◌, ℕ, zero, suc, ◌<◌, Option, None, Some, MatchOption, refl, arith, zero-lt-suc}
-use Rattle.{scene_fields.specs.Values.total_in, scene_fields.specs.Values.non_zero, std.specs.Int.NonZero.non_zero_u32_get, std.specs.declared.num.NonZeroU32.NonZeroU32, std.proofs.Props.props}
+use Rattle.std.proofs.Common.{◌∙◌, ap, ◌≡◌, ℕ, zero, suc, ◌<◌, Option, None, Some, MatchOption, refl, arith}
+use Rattle.std.proofs.Common.{zero-lt-suc}
+use Rattle.{scene_fields.specs.Values.total_in, scene_fields.specs.Values.non_zero}
+use Rattle.{std.specs.Int.NonZero.non_zero_u32_get, std.specs.declared.num.NonZeroU32.NonZeroU32}
+use Rattle.{std.proofs.Props.props}
 
 below_prop : (n m : ℕ) → IsProp (n < m)
 below_prop n m = search props

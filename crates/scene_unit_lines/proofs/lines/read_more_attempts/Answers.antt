@@ -1,12 +1,16 @@
-use Rattle.std.proofs.Common.{◌≡◌, ℕ, suc, ◌-◌, ◌+◌, ◌/◌, ◌^◌, ◌<◌, true, false, Result, Ok, nat_lt, ap, refl, sym, ◌∙◌, arith}
+use Rattle.std.proofs.Common.{◌≡◌, ℕ, suc, ◌-◌, ◌+◌, ◌/◌, ◌^◌, ◌<◌, true, false, Result, Ok, nat_lt, ap, refl, sym, ◌∙◌}
+use Rattle.std.proofs.Common.{arith}
 use Rattle.std.proofs.lemmas.{Bool.Decides.nat_tests, Result.err_from_is_err_and}
 use Rattle.scene_fields.specs.Fields.{Line, Place, Fails, goes_on}
-use Rattle.{scene_fields.specs.declared.fault.LineError.LineError, scene_fields.specs.declared.fault.LineFault.LineFault, scene_unit_lines.specs.Lines.attempts_from}
+use Rattle.{scene_fields.specs.declared.fault.LineError.LineError}
+use Rattle.{scene_fields.specs.declared.fault.LineFault.LineFault, scene_unit_lines.specs.Lines.attempts_from}
 use Rattle.scene_fields.specs.declared.fault.LineError.TheVariants as error
 use Rattle.scene_unit_lines.proofs.lines.read_more_attempts.Goals as goal
 
 -- a fault of what is read first is that of all
-fails_first : {A B : Type 0} (e : LineError) (f : A → Line B) (read : Result (A × Place) LineFault) (whole : Result (B × Place) LineFault) → whole ≡ goes_on f read → Fails e read → Fails e whole
+fails_first : {A B : Type 0} (e : LineError) (f : A → Line B) (read : Result (A × Place) LineFault) (whole : Result
+    (B × Place) LineFault)
+    → whole ≡ goes_on f read → Fails e read → Fails e whole
 fails_first error.OutOfMemory f read whole is h = tt
 fails_first (error.Fault x) f read whole is h = is ∙ rw h refl
 

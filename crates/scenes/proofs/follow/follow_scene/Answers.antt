@@ -1,5 +1,6 @@
 use Rattle.std.proofs.Common.{◌∙◌, inl, refl}
-use Rattle.scenes.{proofs.Common.Appends-nil, proofs.Common.OutOfMemory, specs.Names.device, proofs.lemmas.FollowedRuns.nothing_stops}
+use Rattle.scenes.{proofs.Common.Appends-nil, proofs.Common.OutOfMemory, specs.Names.device}
+use Rattle.scenes.{proofs.lemmas.FollowedRuns.nothing_stops}
 use Rattle.scenes.proofs.follow.follow_scene.Goals as goal
 
 pub returns-in-Ok-clause-ok : goal.returns-in-Ok-clause-ok
@@ -9,4 +10,5 @@ pub returns-in-Ok-clause-err : goal.returns-in-Ok-clause-err
 returns-in-Ok-clause-err g c = λ text known. c.follow_source.ensures.err 0 _ (text, c.in-Ok.ensures ∙ known, inl refl)
 
 pub returns-in-Err-clause-err : goal.returns-in-Err-clause-err
-returns-in-Err-clause-err g c = λ text known. nothing_stops device device c.args.options.now _ _ (Appends-nil _) (Appends-nil _) tt tt _ OutOfMemory refl
+returns-in-Err-clause-err g c = λ text known. nothing_stops device device c.args.options.now _ _ (Appends-nil _)
+    (Appends-nil _) tt tt _ OutOfMemory refl

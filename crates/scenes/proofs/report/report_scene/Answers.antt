@@ -10,7 +10,12 @@ of_judge IsWrong file other h = absurd h
 
 pub returns-clause-err : Rattle.scenes.proofs.report.report_scene.Goals.returns-clause-err
 returns-clause-err g c = λ text known. inl (record {
-  judged = inr (record { scene = c.in-Ok.scene; spelled = c.in-Ok.ensures.answer text known; lines = c.in-Ok.ensures.lines text known; refused = c.in-Err-accept_scene.ensures.err });
+  judged = inr (record {
+    scene = c.in-Ok.scene;
+    spelled = c.in-Ok.ensures.answer text known;
+    lines = c.in-Ok.ensures.lines text known;
+    refused = c.in-Err-accept_scene.ensures.err;
+  });
   of_judge = of_judge _ _ c.in-Err-accept_scene.fault c.in-Err-accept_scene.ensures.err;
   untouched = (refl, refl);
 })

@@ -7,7 +7,8 @@ pub returns-in_err-write_str : goal.returns-in_err-write_str
 returns-in_err-write_str g c =
     let e : c.loop-piece.piece-iterator ≡ StretchText c.in-Stretch.stretch.now ∷ c.next.new.self = search rules in
     rw (← stretches-pieces c.args.text.now)
-    (owes_stopped g.met.W.WriteStr.laws _ _ _ _ _ _ (stretches c.next.new.self) _ _ c.loop-piece.invariant.owed (ap stretches e) c.from_residual.ensures.1 c.in_err-write_str.ensures)
+    (owes_stopped g.met.W.WriteStr.laws _ _ _ _ _ _ (stretches c.next.new.self) _ _ c.loop-piece.invariant.owed
+    (ap stretches e) c.from_residual.ensures.1 c.in_err-write_str.ensures)
 
 pub returns : goal.returns
 returns g c =

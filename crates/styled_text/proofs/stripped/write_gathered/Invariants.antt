@@ -7,7 +7,8 @@ use Rattle.styled_text.proofs.stripped.write_gathered.Given as goal
 abbrev pub invariant-loop-rest : goal.invariant-loop-rest
 invariant-loop-rest g l = record {
   text : shadow (Utf8 l.rest);
-  owed : Owes g.W.WriteStr.meaning l.fn.w (without_trailing_newline (visible l.fn.text)) l.w (unwritten l.gathered (visible l.rest));
+  owed : Owes g.W.WriteStr.meaning l.fn.w (without_trailing_newline (visible l.fn.text)) l.w
+      (unwritten l.gathered (visible l.rest));
 }
 
 abbrev pub decreases-loop-rest : goal.decreases-loop-rest

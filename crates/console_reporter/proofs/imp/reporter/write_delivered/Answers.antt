@@ -1,4 +1,5 @@
 use Rattle.writers.proofs.lemmas.Flushes.{puts_flushed}
 
 pub returns-clause-text : Rattle.console_reporter.proofs.imp.reporter.write_delivered.Goals.returns-clause-text
-returns-clause-text g c = puts_flushed g.met.W.WriteStr.laws _ _ _ _ _ c.in_ok-write_event_text.ensures c.deliver.ensures.text
+returns-clause-text g c = puts_flushed g.met.W.WriteStr.laws _ _ _ _ _ c.in_ok-write_event_text.ensures
+    c.deliver.ensures.text

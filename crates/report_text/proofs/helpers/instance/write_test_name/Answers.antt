@@ -1,4 +1,5 @@
-use Rattle.{std.proofs.Common.◌≡◌, std.proofs.Common.rules, styled_text.specs.declared.style.Style.TheVariants.Plain, report_text.proofs.lemmas.PlainNames.plain_name}
+use Rattle.{std.proofs.Common.◌≡◌, std.proofs.Common.rules, styled_text.specs.declared.style.Style.TheVariants.Plain}
+use Rattle.{report_text.proofs.lemmas.PlainNames.plain_name}
 
 pub returns-then-eq-2 : Rattle.report_text.proofs.helpers.instance.write_test_name.Goals.returns-then-eq-2
 returns-then-eq-2 g c =

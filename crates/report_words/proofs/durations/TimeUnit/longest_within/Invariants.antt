@@ -1,4 +1,5 @@
-use Rattle.{std.proofs.Common.◌≡◌, std.proofs.Common.drop, report_words.specs.Durations.time_units, report_words.specs.Durations.unit_within}
+use Rattle.{std.proofs.Common.◌≡◌, std.proofs.Common.drop, report_words.specs.Durations.time_units}
+use Rattle.{report_words.specs.Durations.unit_within}
 
 -- no unit so far is short enough
 abbrev pub invariant-loop-unit : Rattle.report_words.proofs.durations.TimeUnit.longest_within.Given.invariant-loop-unit

@@ -6,7 +6,11 @@ use Rattle.scenes.proofs.scene_reporter.SceneReporter.report_events.Goals as goa
 pub loop-place-init : goal.loop-place-init
 loop-place-init g c = record {
   same = search rules;
-  follows = λ config start base follows. subst (λ events. Follows g.W.WriteStr.meaning g.S.WriteStr.meaning c.args.options.now start c.args.self.now (record { config = config; events = events })) (sym (append-nil base)) follows;
+  follows = λ config start base follows. subst
+      (λ events. Follows g.W.WriteStr.meaning g.S.WriteStr.meaning c.args.options.now start c.args.self.now (record {
+        config = config;
+        events = events;
+      })) (sym (append-nil base)) follows;
   failed = search rules;
 }
 
@@ -17,23 +21,37 @@ loop-place-preserved g c =
       same = same-after i.same c.in-Ok-make_call.ensures.same;
       follows = λ config start base follows.
           let decides = c.output_load_decider-decider.ensures.stands _ _ follows.stands in
-          reported_to g.met.W.WriteStr.laws g.met.S.WriteStr.laws c.args.options.now start config c.args.events.now base c.loop-place.place c.loop-place.self _ c.index-events-place.result (search rules) (search rules) (i.follows config start base follows)
-          c.in-Ok.call.now (subst (λ d. IsReadyCall c.args.options.now d c.index-events-place.result c.in-Ok.call.now) decides c.in-Ok.ensures) c.in-Ok-make_call.ensures c.after-self.ensures;
+          reported_to g.met.W.WriteStr.laws g.met.S.WriteStr.laws c.args.options.now start config c.args.events.now base
+          c.loop-place.place c.loop-place.self _ c.index-events-place.result (search rules) (search rules)
+          (i.follows config start base follows)
+          c.in-Ok.call.now
+          (subst (λ d. IsReadyCall c.args.options.now d c.index-events-place.result c.in-Ok.call.now) decides
+          c.in-Ok.ensures)
+          c.in-Ok-make_call.ensures c.after-self.ensures;
       failed = λ failed. absurd (search rules);
     }
 
 pub returns-in-Err-clause-left : goal.returns-in-Err-clause-left
 returns-in-Err-clause-left g c = λ config start base follows.
     let decides = c.output_load_decider-decider.ensures.stands _ _ follows.stands in
-    rw (c.fault_at_call.ensures, c.line_at.ensures) (stopped_at g.met.W.WriteStr.laws g.met.S.WriteStr.laws c.args.options.now start config c.args.events.now base c.loop-place.place c.loop-place.self _ c.index-events-place.result (search rules) (search rules)
-    (c.loop-place.invariant.follows config start base follows) c.args.lines.now c.in-Ok.call.now (subst (λ d. IsReadyCall c.args.options.now d c.index-events-place.result c.in-Ok.call.now) decides c.in-Ok.ensures) c.in-Err.error c.in-Err.ensures)
+    rw (c.fault_at_call.ensures, c.line_at.ensures)
+    (stopped_at g.met.W.WriteStr.laws g.met.S.WriteStr.laws c.args.options.now start config c.args.events.now base
+    c.loop-place.place c.loop-place.self _ c.index-events-place.result (search rules) (search rules)
+    (c.loop-place.invariant.follows config start base follows) c.args.lines.now c.in-Ok.call.now
+    (subst (λ d. IsReadyCall c.args.options.now d c.index-events-place.result c.in-Ok.call.now) decides
+    c.in-Ok.ensures)
+    c.in-Err.error c.in-Err.ensures)
 
 pub returns-in_default-clause-left : goal.returns-in_default-clause-left
 returns-in_default-clause-left g c = λ config start base follows.
-    stopped_before g.met.W.WriteStr.laws g.met.S.WriteStr.laws c.args.options.now start config c.args.events.now base c.loop-place.place c.loop-place.self c.loop-place.self c.index-events-place.result (search rules) (search rules)
+    stopped_before g.met.W.WriteStr.laws g.met.S.WriteStr.laws c.args.options.now start config c.args.events.now base
+    c.loop-place.place c.loop-place.self c.loop-place.self c.index-events-place.result (search rules) (search rules)
     (c.loop-place.invariant.follows config start base follows) c.args.lines.now refl
 
 pub returns-clause-reported : goal.returns-clause-reported
 returns-clause-reported g c = λ config start base follows.
     let all = take_all c.loop-place.place c.args.events.now (search rules) in
-    subst (λ es. Follows g.W.WriteStr.meaning g.S.WriteStr.meaning c.args.options.now start c.loop-place.self (record { config = config; events = base ++ es })) all (c.loop-place.invariant.follows config start base follows)
+    subst (λ es. Follows g.W.WriteStr.meaning g.S.WriteStr.meaning c.args.options.now start c.loop-place.self (record {
+      config = config;
+      events = base ++ es;
+    })) all (c.loop-place.invariant.follows config start base follows)

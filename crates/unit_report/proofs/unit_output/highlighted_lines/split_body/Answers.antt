@@ -1,4 +1,5 @@
-use Rattle.{std.proofs.Common.◌≡◌, unit_report.specs.HighlightedLines.body_len, unit_report.proofs.lemmas.HighlightedLines.body_boundary}
+use Rattle.{std.proofs.Common.◌≡◌, unit_report.specs.HighlightedLines.body_len}
+use Rattle.{unit_report.proofs.lemmas.HighlightedLines.body_boundary}
 
 pub split_at-requires : Rattle.unit_report.proofs.unit_output.highlighted_lines.split_body.Goals.split_at-requires
 split_at-requires c =

@@ -1,4 +1,5 @@
-use Rattle.std.proofs.Common.{◌-◌, ◌++◌, length, take, drop, sym, ap, subst, ◌∙◌, arith, length-take, take-add, take-take}
+use Rattle.std.proofs.Common.{◌-◌, ◌++◌, length, take, drop, sym, ap, subst, ◌∙◌, arith, length-take, take-add}
+use Rattle.std.proofs.Common.{take-take}
 use Rattle.std.{specs.Io.KnownBytes.Appends, proofs.KnownBytes.Appends-trans}
 
 pub loop-sent-preserved : Rattle.writers.proofs.write_str.text_buffer.send.Goals.loop-sent-preserved
@@ -9,5 +10,6 @@ loop-sent-preserved g c =
     let before = c.loop-sent.invariant in
     let fits = c.in-Ok.ensures.bound in
     let most = length-take (length xs - done) (drop done xs) in
-    let joined = ap (λ l. take done xs ++ l) (take-take n (length xs - done) (drop done xs) (omega arith)) ∙ sym (take-add done n xs) in
+    let joined = ap (λ l. take done xs ++ l) (take-take n (length xs - done) (drop done xs) (omega arith))
+    ∙ sym (take-add done n xs) in
     (omega arith, subst (Appends _ _) joined (Appends-trans _ _ _ _ _ before.1 c.in-Ok.ensures.bytes))

@@ -3,7 +3,8 @@ use Rattle.std.specs.Io.KnownBytes.{Appends}
 use Rattle.writers.proofs.write_str.text_buffer.send.Given as goal
 
 abbrev pub invariant-loop-sent : goal.invariant-loop-sent
-invariant-loop-sent g l = (l.sent ≤ length l.bytes) × Appends (g.W.Write.contents l.initial.to) (g.W.Write.contents l.to) (take l.sent l.bytes)
+invariant-loop-sent g l = (l.sent ≤ length l.bytes)
+    × Appends (g.W.Write.contents l.initial.to) (g.W.Write.contents l.to) (take l.sent l.bytes)
 
 abbrev pub decreases-loop-sent : goal.decreases-loop-sent
 decreases-loop-sent g l = length l.bytes - l.sent

@@ -1,4 +1,5 @@
-use Rattle.{std.proofs.Common.ap, std.proofs.Common.◌∙◌, run_names.specs.Levels.reason_rank, reporter_state.specs.Entries.cancel, reporter_state.specs.Entries.kept, reporter_state.specs.Entries.prefix}
+use Rattle.{std.proofs.Common.ap, std.proofs.Common.◌∙◌, run_names.specs.Levels.reason_rank}
+use Rattle.{reporter_state.specs.Entries.cancel, reporter_state.specs.Entries.kept, reporter_state.specs.Entries.prefix}
 
 pub returns-clause-stands : Rattle.console_reporter.proofs.imp.reporter.DisplayReporter.new.Goals.returns-clause-stands
 unfolding cancel kept prefix

@@ -7,7 +7,9 @@ use Rattle.console_reporter.proofs.imp.reporter.DisplayReporter.report_event.Goa
 pub returns-in-Err-clause-err : goal.returns-in-Err-clause-err
 returns-in-Err-clause-err g c = λ config past stands.
     let held = text-held config past c.args.self.now c.args.event.now stands in
-    stops_error g.W.WriteStr.meaning c.args.self.now.writer.now c.write_delivered.new.w (text config past (Event c.args.event.now)) c.in-Err.fault c.error_of.result c.error_of.ensures.error (rw held at c.in-Err.ensures.text)
+    stops_error g.W.WriteStr.meaning c.args.self.now.writer.now c.write_delivered.new.w
+    (text config past (Event c.args.event.now)) c.in-Err.fault c.error_of.result c.error_of.ensures.error
+    (rw held at c.in-Err.ensures.text)
 
 pub returns-in-Ok-clause-accepted : goal.returns-in-Ok-clause-accepted
 returns-in-Ok-clause-accepted g c = λ config past stands.
@@ -28,4 +30,9 @@ returns-in-Ok-clause-stands g c = λ config past stands. record {
 pub returns-in-Err-apply-clause-err : goal.returns-in-Err-apply-clause-err
 returns-in-Err-apply-clause-err g c = λ config past stands.
     let held = text-held config past c.args.self.now c.args.event.now stands in
-    inr (record { front = text config past (Event c.args.event.now); rest = []; whole = sym (append-nil _); accepted = rw held at c.in_default.ensures.text })
+    inr (record {
+      front = text config past (Event c.args.event.now);
+      rest = [];
+      whole = sym (append-nil _);
+      accepted = rw held at c.in_default.ensures.text;
+    })

@@ -4,7 +4,10 @@ use Rattle.styled_text.proofs.indenter.indentation.IndentedWriteStr.write_str.Gi
 
 -- the rest is owed
 abbrev pub invariant-loop-rest : goal.invariant-loop-rest
-invariant-loop-rest g l = record { text : shadow (Utf8 l.rest); owed : Owes (indented_meaning g.W.WriteStr.meaning) l.initial.self l.s l.self l.rest }
+invariant-loop-rest g l = record {
+  text : shadow (Utf8 l.rest);
+  owed : Owes (indented_meaning g.W.WriteStr.meaning) l.initial.self l.s l.self l.rest;
+}
 
 abbrev pub decreases-loop-rest : goal.decreases-loop-rest
 decreases-loop-rest g l = length l.rest

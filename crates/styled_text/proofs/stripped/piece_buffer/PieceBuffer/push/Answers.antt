@@ -9,5 +9,12 @@ invariant_of-self c =
     let view : c.args.self.now ≡ take len bytes = search rules in
     let gathered : length c.args.self.now ≡ len = ap length view ∙ length-take-le len bytes short in
     let copied : c.copy_from_slice.new.self ≡ c.args.piece.now = search rules in
-    let utf8 : IsUtf8 (take len bytes ++ c.copy_from_slice.new.self) = rw copied (IsUtf8-append _ _ c.self.invariant.1 c.utf8.piece) in
-    (omega (arith, gathered), subst IsUtf8 (sym (take-put_mid len (len + length c.args.piece.now - len) bytes c.copy_from_slice.new.self (len + length c.args.piece.now) (omega (arith, ap length copied)) short)) utf8)
+    let utf8 : IsUtf8 (take len bytes ++ c.copy_from_slice.new.self) = rw copied
+    (IsUtf8-append _ _ c.self.invariant.1 c.utf8.piece) in (
+      omega (arith, gathered),
+      subst IsUtf8
+          (sym
+          (take-put_mid len (len + length c.args.piece.now - len) bytes c.copy_from_slice.new.self
+          (len + length c.args.piece.now) (omega (arith, ap length copied)) short))
+          utf8,
+    )
