@@ -2,8 +2,8 @@
 
        example FILE [--color] [--counter] [--replay] [--level N] [--room N]
 
-   N of --level is a number from 0 (none) to 7 (all). With --room it makes one call with a buffer of so many bytes. The status is 0, 2 where
-   a line of the scene is wrong or the words are, and 3 for all else. */
+   N of --level is a number from 0 (none) to 7 (all). With --room it makes one call with a buffer of N bytes. The
+   status is 0, or 2 if a line of the scene or a word is wrong, or 3 for any other fault. */
 #include "norigully.h"
 
 #include <stdio.h>
@@ -46,7 +46,8 @@ static Buffer read_file(const char *name)
     return read;
 }
 
-/* Prints the report by a buffer of this room, and answers the status. Where `may_grow`, a buffer that is too small is made larger once. */
+/* Prints the report by a buffer of this size, and returns the status. With `may_grow`, a buffer that is too small is
+   made larger once. */
 static int print_report(const NorigullyOptions *options, Buffer scene, size_t room, bool may_grow)
 {
     uint8_t *out = calloc(room ? room : 1, 1);

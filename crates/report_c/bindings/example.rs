@@ -1,9 +1,10 @@
-//! An example: prints the report of the scene in the file that its first argument names, by the safe wrapper `norigully.rs`.
+//! An example: prints the report of the scene in the file that its first argument names, by the safe wrapper
+//! `norigully.rs`.
 //!
 //!     example FILE [--color] [--counter] [--replay] [--level N] [--room N]
 //!
-//! N of `--level` is a number from 0 (none) to 7 (all). With `--room` it makes one call with a buffer of so many bytes. The status is 0, 2
-//! where a line of the scene is wrong or the words are, and 3 for all else.
+//! N of `--level` is a number from 0 (none) to 7 (all). With `--room` it makes one call with a buffer of N bytes. The
+//! status is 0, or 2 if a line of the scene or a word is wrong, or 3 for any other fault.
 
 mod norigully;
 

@@ -1,7 +1,7 @@
 /* The report of a test run, from a run that is written as text (docs/SCENES.md): the library `report_c` for C.
 
-   Link libreport_c.a and the kit's liblibc_c.a, in this order; docs/USING.md has the commands. The library keeps nothing between two
-   calls, and gives back all memory that it takes by malloc. */
+   Link libreport_c.a and the kit's liblibc_c.a, in this order; docs/USING.md has the commands. The library keeps
+   nothing between two calls, and gives back all memory that it takes by malloc. */
 #ifndef NORIGULLY_H
 #define NORIGULLY_H
 
@@ -43,19 +43,20 @@ typedef struct {
 } NorigullyOptions;
 
 typedef struct {
-    size_t length;   /* How many bytes the report has where the status is NORIGULLY_WRITTEN or NORIGULLY_TOO_LONG, and else 0. */
-    uint64_t line;   /* The line of the scene, from 1, where the status is NORIGULLY_WRONG_LINE, and else 0. */
+    size_t length;   /* The bytes of the report, if the status is NORIGULLY_WRITTEN or NORIGULLY_TOO_LONG; else 0. */
+    uint64_t line;   /* The line of the scene, from 1, if the status is NORIGULLY_WRONG_LINE; else 0. */
     uint32_t status; /* One of the five above. */
 } NorigullyOutcome;
 
-/* Writes the report of the scene to the front of the buffer `out`, and no byte behind it. Under each other status than NORIGULLY_WRITTEN
-   the buffer stays as it was. The report is bytes, with no zero at its end.
+/* Writes the report of the scene to the front of the buffer `out`, and no byte after it. With any other status than
+   NORIGULLY_WRITTEN the buffer stays as it was. The report is bytes, with no zero at its end.
 
-   The caller owes what C cannot check: `options` points to options whose bools are 0 or 1; `scene` is not null and points to `scene_len`
-   bytes that nobody writes during the call; `out` is not null and points to `out_len` bytes that nobody else reads or writes during it.
-   Neither length is above PTRDIFF_MAX. A length of 0 is allowed. `options` and `scene` are read, so they must be initialised; `out` need
-   not be, since it is only written. */
-NorigullyOutcome norigully_report(const NorigullyOptions *options, const uint8_t *scene, size_t scene_len, uint8_t *out, size_t out_len);
+   C cannot check what the caller must see to: `options` points to options whose bools are 0 or 1; `scene` is not null
+   and points to `scene_len` bytes that nobody writes during the call; `out` is not null and points to `out_len` bytes
+   that nobody else reads or writes during it. Neither length is above PTRDIFF_MAX. A length of 0 is allowed. `options`
+   and `scene` are read, so they must be initialised; `out` need not be, since it is only written. */
+NorigullyOutcome norigully_report(const NorigullyOptions *options, const uint8_t *scene, size_t scene_len, uint8_t *out,
+                                  size_t out_len);
 
 #ifdef __cplusplus
 }

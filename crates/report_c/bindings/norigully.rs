@@ -1,6 +1,7 @@
 //! The report of a test run for Rust: a safe wrapper of the static library `report_c`, with no dependency.
 //!
-//! Take this file into a crate as a module, and link `libreport_c.a` and the kit's `liblibc_c.a` (docs/USING.md has the commands).
+//! Take this file into a crate as a module, and link `libreport_c.a` and the kit's `liblibc_c.a` (docs/USING.md has
+//! the commands).
 
 use std::fmt;
 
@@ -92,8 +93,8 @@ pub fn report_into(options: &Options, scene: &[u8], out: &mut [u8]) -> Result<Fi
         is_replay: options.is_replay,
         status_level: options.status_level as u32,
     };
-    // SAFETY: the declaration below is that of norigully.h. The pointers and lengths are those of slices, which are valid for the call,
-    // and `out` is lent for it alone.
+    // SAFETY: the declaration below is that of norigully.h. The pointers and lengths are those of slices, which are
+    // valid for the call, and `out` is lent for it alone.
     let outcome = unsafe {
         norigully_report(
             &options,
