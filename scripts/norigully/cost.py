@@ -2,7 +2,7 @@
 
 # The processor minutes of each kind of work from nothing, on the machine where FIRST took FIRST_SECONDS of a processor.
 # No other machine was faster, and the slowest took SLOWEST times as long.
-FROM_NOTHING = {"proofs": 63, "tests": 14, "edits": 18, "mistakes": 49, "scripts": 11}
+FROM_NOTHING = {"proofs": 53, "tests": 21, "edits": 15, "mistakes": 49, "scripts": 12}
 FIRST, FIRST_SECONDS = "run_names", 65
 SLOWEST = 1.85
 # This part of the work is a chain of crates, each over the one before: on many processors it still takes that long.
