@@ -10,7 +10,9 @@ ghost use Rattle.console_reporter.specs.Names.{AreAccepted, Configuration, EndsW
 ghost use Rattle.console_reporter.specs.Names.{Runs, absent};
 
 pub use reporter_state::laws::one_final_order;
+pub use styled_text::laws::{indent_laws, piece_laws};
 pub use text_parts::laws::reasons_only_hide;
+pub use writers::laws::delivery_law;
 use writers::write_str::WriteStr;
 
 /// A report is the texts of its calls, one after another, each at the index of its call.
