@@ -1,5 +1,5 @@
 -- A text that is read in pieces of whole lines.
-use Rattle.std.specs.Prelude.{◌≡◌, ◌⊎◌, ◌<◌, ℕ, Bool, true, false, List, [], ◌∷◌, ◌++◌, length, Option, Some, ⊤}
+use Rattle.std.specs.Prelude.{◌≡◌, ◌⊎◌, ◌<◌, ℕ, Bool, true, false, List, [], ◌∷◌, ◌++◌, get_or, length, Option, Some, ⊤}
 use Rattle.command_line.specs.declared.{fault.Fault.Fault, pieces.Chunk.Chunk}
 use Rattle.command_line.specs.declared.fault.Fault.TheVariants as fault
 use Rattle.command_line.specs.declared.pieces.Chunk.TheVariants as taken
@@ -23,3 +23,7 @@ abbrev pub IsUnread : List ℕ → Fault → Type 0
 IsUnread file (fault.CannotRead f) = f.now ≡ file
 IsUnread file fault.OutOfMemory = ⊤
 IsUnread file _ = ⊥
+
+-- the byte at this place is a line feed
+abbrev pub IsFeed : List ℕ → ℕ → Type 0
+IsFeed bytes at = (at < length bytes) × (get_or bytes at 0 ≡ 10)

@@ -1,11 +1,11 @@
 //! Reads a file in pieces of whole lines, so that only one piece is in memory at a time.
 
 ghost use Rattle.std.specs.Prelude.{◌≡◌, ℕ, List, Some, IfOk, IfErr};
-ghost use Rattle.std.specs.{Io.Buffered.reader_buffer, Io.Buffered.reader_remaining};
-ghost use Rattle.command_line.specs.Pieces.{IsBehind, IsNextPiece, IsUnread};
+ghost use Rattle.std.specs.{Io.Buffered.reader_buffer, Io.Buffered.reader_remaining, Option.ForSome};
+ghost use Rattle.command_line.specs.Pieces.{IsBehind, IsFeed, IsNextPiece, IsUnread};
 
 use crate::fault::Fault;
-use memchr::memrchr;
+use memchr::{memchr, memrchr};
 use run_model::memory::OutOfMemory;
 use std::io::{BufRead, BufReader, ErrorKind, Read};
 
@@ -64,7 +64,7 @@ fn take_at_hand<R: Read>(
         R.remaining reader.new)) }
 {
     let at_hand = reader.buffer();
-    match memrchr(b'\n', at_hand) {
+    match end_of_lines(!piece.is_empty(), at_hand) {
         Some(at) => {
             piece.extend_from_slice(&at_hand[..at])?;
             reader.consume(at + 1);
@@ -77,5 +77,17 @@ fn take_at_hand<R: Read>(
             reader.consume(count);
             Ok(Chunk::Part)
         }
+    }
+}
+
+// The line feed that a piece ends before: the last one at hand, or the first if the piece is the beginning of a line. A
+// line that is longer than what is read at once is so a piece by itself.
+fn end_of_lines(is_begun: bool, at_hand: &[u8]) -> Option<usize>
+    ensures { ForSome result (IsFeed at_hand.now) }
+{
+    if is_begun {
+        memchr(b'\n', at_hand)
+    } else {
+        memrchr(b'\n', at_hand)
     }
 }

@@ -20,12 +20,8 @@
 //! A line of a scene passes others before that:
 //!
 //! 1. `command_line`: takes the next whole lines of the file.
-//! 2. `scene_reader`: reads the line into an event of `scene_events`, field by field with `scene_fields`.
-//! 3. `scenes`, in `report`: asks the decider about each event, once all lines are read. `follow` asks when the event's
-//!    turn comes.
-//! 4. `scenes`, `SceneReporter`: turns the event into a call of the reporter.
-//!
-//! `follow` reports all lines that have arrived before it reads more.
+//! 2. `scene_reader`: reads the line into a call of the reporter, field by field with `scene_fields`.
+//! 3. `scenes`, `SceneReporter`: makes the call. `report` gathers its text until all lines are accepted.
 #![tactic(auto)]
 
 pub mod error;

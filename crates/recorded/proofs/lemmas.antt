@@ -5,6 +5,7 @@ pub mod LeftLines
 pub mod Loaded
 pub mod LoadedLines
 pub mod MarkedFields
+pub mod Named
 pub mod Reports
 pub mod Rows
 pub mod Skipped

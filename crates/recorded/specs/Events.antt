@@ -4,7 +4,7 @@ use Rattle.std.specs.Prelude.{None, Some, Result, Ok, Err, ⊤}
 use Rattle.{scene_fields.specs.declared.fault.LineFault.TheVariants.BadField, std.specs.Option.is_some}
 use Rattle.{std.specs.Option.option_or, console_reporter.specs.Names.OutputLoadDecider}
 use Rattle.scene_reader.specs.Names.{ChildOutputDescription, end_of, field_of, stream_in_field, PlacedOutput}
-use Rattle.scene_reader.specs.Names.{StoredOutput, StoredStream, StreamField, event_with, SceneEvent, LineFault}
+use Rattle.scene_reader.specs.Names.{EventCall, StoredOutput, StoredStream, StreamField, SceneEvent, LineFault}
 use Rattle.recorded.specs.{Outputs.bytes_at, Captured.captured_stream_at, Skips.skips}
 use Rattle.recorded.specs.{declared.outputs.LoadFault.LoadFault, declared.events.LoadEventFault.LoadEventFault}
 use Rattle.recorded.specs.declared.outputs.LoadFault.TheVariants.{CannotRead, PastEnd, WrongSum, OutOfMemory}
@@ -12,7 +12,8 @@ use Rattle.scene_fields.specs.declared.stored.{StoredOutput.TheVariants.Split, S
 use Rattle.scene_fields.specs.declared.stored.{StreamField.TheVariants.First, StreamField.TheVariants.Second}
 use Rattle.scene_fields.specs.declared.stored.StoredStream.TheVariants.{NotCaptured, Empty, At}
 use Rattle.run_model.specs.declared.output.ChildOutputDescription.TheVariants as captured
-use Rattle.scene_events.specs.declared.scene.event.SceneEvent.TheVariants as scene
+use Rattle.run_model.specs.{Loads.kind_with, declared.event.TestEventKind.TestEventKind}
+use Rattle.run_model.specs.declared.event.TestEventKind.TheVariants as kind
 
 -- the bytes of a stream at its place among all outputs, whatever their sum
 abbrev pub stream_inline : List ℕ → StoredStream → Option (List ℕ)
@@ -23,6 +24,11 @@ stream_inline all (At reference) = Some (bytes_at all reference)
 abbrev pub output_inline : List ℕ → StoredOutput → ChildOutputDescription
 output_inline all (Split stdout stderr) = captured.Split (stream_inline all stdout) (stream_inline all stderr)
 output_inline all (Combined reference) = captured.Combined (bytes_at all reference)
+
+-- an event whose output at this place was captured
+abbrev pub event_with : ℕ → ChildOutputDescription → SceneEvent → SceneEvent
+event_with place captured (EventCall e) = EventCall (record e { kind = kind_with place captured e.kind })
+event_with place captured other = other
 
 -- an event with these outputs in it
 abbrev pub event_inline : List ℕ → List PlacedOutput → SceneEvent → SceneEvent
@@ -72,8 +78,12 @@ unless_bad None event = event
 
 -- The place whose output alone a replay loads: of a test that has finished that of its last attempt, since no report
 -- and no record depends on what the attempts before it wrote. Of another event it loads all outputs.
+abbrev pub only_place_of : TestEventKind → Option ℕ
+only_place_of (kind.TestFinished stress test success failure statuses stats) = Some (length statuses.earlier)
+only_place_of other = None
+
 abbrev pub only_place : SceneEvent → Option ℕ
-only_place (scene.TestFinished e) = Some (length e.attempts.earlier)
+only_place (EventCall e) = only_place_of e.kind
 only_place other = None
 
 abbrev pub is_wanted : Option ℕ → PlacedOutput → Bool

@@ -1,13 +1,12 @@
 -- The names that the crates above import in one line. A new one is added to the line of its module.
 pub use Rattle.recorded.specs.Captured.{IsCaptured, IsCapturedStream, IsCountedOf, IsCountedOfStream, captured_at}
 pub use Rattle.recorded.specs.Captured.{captured_stream_at, counted_output}
-pub use Rattle.recorded.specs.Events.{IfDamaged, IsFirstBad, IsReplayed, event_inline, field_not, first_field_not}
-pub use Rattle.recorded.specs.Events.{is_there, is_undamaged, is_wanted, needed_of, only_place, output_inline}
-pub use Rattle.recorded.specs.Events.{output_len, outputs_len, stream_field_not, stream_inline, unless_bad, wanted}
-pub use Rattle.recorded.specs.Events.{wanted_of}
+pub use Rattle.recorded.specs.Events.{IfDamaged, IsFirstBad, IsReplayed, event_inline, event_with, field_not}
+pub use Rattle.recorded.specs.Events.{first_field_not, is_there, is_undamaged, is_wanted, needed_of, only_place}
+pub use Rattle.recorded.specs.Events.{only_place_of, output_inline, output_len, outputs_len, stream_field_not}
+pub use Rattle.recorded.specs.Events.{stream_inline, unless_bad, wanted, wanted_of}
 unfoldable pub use Rattle.recorded.specs.Events.{event_replayed}
-pub use Rattle.recorded.specs.NextLines.{CountsLine, CountsMore, IsFaultOfLoad, IsLineFault, IsNextLine, LeavesLine}
-pub use Rattle.recorded.specs.NextLines.{TakesOf, value_replayed}
+pub use Rattle.recorded.specs.NextLines.{CountsMore, IsFaultOfLoad, IsNextLine, IsUnloaded, LoadsCall, TakesOf}
 pub use Rattle.recorded.specs.Outputs.{HasSum, IsCounted, IsLoaded, bytes_at, counted}
 unfoldable pub use Rattle.recorded.specs.Outputs.{stream_at}
 pub use Rattle.recorded.specs.ReadAt.{HasRead}

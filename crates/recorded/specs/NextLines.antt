@@ -1,11 +1,11 @@
--- The next line of a recorded run, and what is left where it is wrong.
-use Rattle.std.specs.Prelude.{◌≡◌, ◌⊎◌, ℕ, ◌+◌, Bool, true, false, List, [], ◌∷◌, ◌++◌, Option, Some, Result, Ok}
-use Rattle.scenes.specs.Names.{decider_for, fault_of_read, IsUnread, Options, Fault, LinesRead}
-use Rattle.recorded.specs.{declared.outputs.LoadFault.LoadFault, declared.lines.Taken.Taken, Events.event_replayed}
-use Rattle.recorded.specs.{Outputs.counted, Runs.needed_for, Runs.ended_lines}
-use Rattle.scene_reader.specs.Names.{Lacks, LineFault, ReadFault, IsFaultOfNext, LeavesLines, ReadsLines, RunLine}
-use Rattle.scene_reader.specs.Names.{before_next, recorded_line, with_made}
-use Rattle.scene_reader.specs.declared.reader.ParsedLine.{ParsedLine}
+-- The next line of a recorded run, and what a replay loads of its outputs.
+use Rattle.std.specs.Prelude.{◌≡◌, ◌⊎◌, ℕ, ◌+◌, Bool, true, false, List, [], ◌∷◌, ◌++◌, Option, Some, Result, Ok, Err}
+use Rattle.std.specs.{Prelude.OnOk, Result.IsErrAnd}
+use Rattle.scenes.specs.Names.{decider_for, IsUnread, Options, Fault}
+use Rattle.recorded.specs.{declared.outputs.LoadFault.LoadFault, declared.lines.Taken.Taken, Outputs.counted}
+use Rattle.recorded.specs.{Events.event_replayed, Events.needed_of, Runs.ended_lines}
+use Rattle.scene_reader.specs.Names.{call_by_names, Lacks, LineFault, PlacedOutput, ReportCall, SceneConfig}
+use Rattle.scene_reader.specs.Names.{SceneEvent, Takes}
 use Rattle.command_line.specs.declared.fault.Fault.TheVariants as program
 use Rattle.recorded.specs.declared.outputs.LoadFault.TheVariants as load
 use Rattle.recorded.specs.declared.lines.Taken.TheVariants as taken
@@ -26,29 +26,32 @@ TakesOf taken.Part at_hand text old new rest = (part : List ℕ) × (more : List
     × (new ≡ old ++ part) × (text ≡ part ++ more) × Lacks 10 part
 TakesOf taken.Nothing at_hand text old new rest = (at_hand ≡ []) × (rest ≡ Some text) × (new ≡ old)
 
--- what the line behind these says, once it is read: with what a replay makes of its stored outputs and its event
-abbrev pub value_replayed : Options → List ℕ → LinesRead → ParsedLine → Result ParsedLine LineFault
-value_replayed options all read value = with_made
-    (λ stored e. event_replayed all (decider_for options read.run.config) stored e) (Ok (value, read.stored.items))
-
--- why the line behind these is not read, where this was read of it
-abbrev pub IsLineFault : List ℕ → LinesRead → Result ParsedLine LineFault → Fault → Type 0
-IsLineFault file read said fault = IsUnread file fault
-    ⊎ ((f : ReadFault) × (fault ≡ fault_of_read f) × IsFaultOfNext read said f)
-
--- it is not read for that, nor is anything else
-abbrev pub LeavesLine : List ℕ → LinesRead → LinesRead → RunLine → Fault → Type 0
-LeavesLine file old new line fault = (IsUnread file fault × ReadsLines old new [])
-    ⊎ ((f : ReadFault) × (fault ≡ fault_of_read f) × LeavesLines old new (line ∷ []) f)
-
 -- this many bytes were read, and no others: the count goes on from the old one with as many more
 abbrev pub CountsMore : ℕ → ℕ → ℕ → Type 0
 CountsMore needed old new = (more : ℕ) → counted new more ≡ counted old (needed + more)
 
--- those that a line behind those that were read needs
-abbrev pub CountsLine : Options → LinesRead → List ℕ → ℕ → ℕ → Type 0
-CountsLine options read line old new = CountsMore
-    (needed_for options (before_next read) (recorded_line (before_next read) line)) old new
+-- why the outputs of the event of this line were not put into it, of which a replay makes this: they cannot be read, or
+-- memory was refused; or it has a fault
+abbrev pub IsUnloaded : List ℕ → ℕ → Result SceneEvent LineFault → Fault → Type 0
+IsUnloaded file n made fault = IsUnread file fault ⊎ ((f : LineFault) × (made ≡ Err f) × (fault ≡ program.Line n f))
+
+-- It put into a call what a replay with these options loads of its stored outputs, from these, and the sink behind it
+-- took that; or a fault stopped it before. The outputs stay what they are, and what was read of them is counted.
+pub record LoadsCall {O K : Type 0} (recorded : O → Option (List ℕ)) (count : O → ℕ) (takes : Takes K)
+    (options : Options) (config : SceneConfig) (outputs : O) (sink : K) (file : List ℕ) (n : ℕ)
+    (stored : List PlacedOutput) (call : ReportCall) (result : Result (Unit {0}) Fault) (outputs_after : O)
+    (sink_after : K) : Type 0 where
+  pub kept : recorded outputs_after ≡ recorded outputs
+  pub loaded : (all : List ℕ) → recorded outputs ≡ Some all →
+      ((loaded : ReportCall)
+      × (event_replayed all (decider_for options config) stored (call_by_names call) ≡ Ok (call_by_names loaded))
+      × takes sink file n stored loaded result sink_after)
+      ⊎ ((sink_after ≡ sink)
+      × IsErrAnd result
+      (IsUnloaded file n (event_replayed all (decider_for options config) stored (call_by_names call))))
+  pub counts : OnOk result
+      (CountsMore (needed_of (decider_for options config) (call_by_names call) stored) (count outputs)
+      (count outputs_after))
 
 -- the fault of the line of this number whose output in this field was not loaded
 abbrev pub IsFaultOfLoad : List ℕ → ℕ → ℕ → LoadFault → Fault → Type 0

@@ -2,10 +2,9 @@
 use Rattle.std.specs.Prelude.{ℕ, ◌+◌, List, [], ◌∷◌, map, true, Result, Ok, Err}
 use Rattle.recorded.specs.Events.{event_inline, event_replayed, needed_of}
 use Rattle.{scenes.specs.Names.Options, scenes.specs.Names.decider_for}
-use Rattle.{scene_reader.specs.declared.reader.ParsedLine.ParsedLine}
-use Rattle.scene_reader.specs.Names.{split_on, LineFault, PlacedOutput, LinesBefore, RecordedLine, RunLine}
-use Rattle.scene_reader.specs.Names.{lines_before, no_lines, recorded_line}
-use Rattle.scene_reader.specs.declared.reader.ParsedLine.TheVariants.{ConfigLine, EventLine, NoEvent}
+use Rattle.scene_reader.specs.Names.{split_on, LineFault, ParsedLine, PlacedOutput, before_behind, LinesBefore}
+use Rattle.scene_reader.specs.Names.{RecordedLine, RunLine, lines_before, no_lines, recorded_line}
+use Rattle.scene_reader.specs.SceneTexts.{ConfigLine, EventLine, NoEvent}
 
 -- options that show a recorded run
 abbrev pub replayed : Options → Options
@@ -35,12 +34,7 @@ line_inline all t = RecordedLine t (λ before stored e. Ok (event_inline all sto
 abbrev pub lines_inline : List ℕ → List ℕ → List RunLine
 lines_inline all text = map (line_inline all) (ended_lines text)
 
--- what is before the line after one of this value
-abbrev pub before_behind : LinesBefore → ParsedLine → LinesBefore
-before_behind before NoEvent = before
-before_behind before (ConfigLine config) = record before { config = config }
-before_behind before (EventLine e) = record before { is_begun = true }
-
+-- what is before the line after one that says this
 abbrev pub before_rest : LinesBefore → Result (ParsedLine × List PlacedOutput) LineFault → LinesBefore
 before_rest before (Ok x) = before_behind before x.0
 before_rest before (Err f) = before

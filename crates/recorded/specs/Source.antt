@@ -1,15 +1,16 @@
 -- What is left of a recorded run.
-use Rattle.std.specs.Prelude.{◌≡◌, ℕ, List, Option, Some}
-use Rattle.recorded.specs.Runs.{lines_replayed, needed, ended_lines}
+use Rattle.std.specs.Prelude.{◌≡◌, ◌++◌, ℕ, List, map, Option, Some}
+use Rattle.recorded.specs.Runs.{line_replayed, needed, ended_lines}
 use Rattle.{command_line.specs.declared.args.Options.Options, recorded.specs.Outputs.counted}
 use Rattle.scene_reader.specs.SceneTexts.{ParsedLines, RunLine, lines_before}
 
--- These lines are left after those before. `total` bytes of outputs are read once these lines are read.
+-- These lines are left after those before, of which these texts are read next. `total` bytes of outputs are read once
+-- they are.
 pub record IsLeft (total : ℕ) (options : Options) (recorded remaining : Option (List ℕ)) (bytes_read : ℕ)
-    (before : ParsedLines) (lines : List RunLine) : Type 0 where
+    (texts : List (List ℕ)) (before : ParsedLines) (lines : List RunLine) : Type 0 where
   pub all : List ℕ
   pub text : List ℕ
   pub outputs : recorded ≡ Some all
   pub rest : remaining ≡ Some text
-  pub is : lines ≡ lines_replayed options all text
-  pub counts : total ≡ counted bytes_read (needed options (lines_before before) (ended_lines text))
+  pub is : lines ≡ map (line_replayed options all) (texts ++ ended_lines text)
+  pub counts : total ≡ counted bytes_read (needed options (lines_before before) (texts ++ ended_lines text))

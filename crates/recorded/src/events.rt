@@ -5,14 +5,15 @@ ghost use Rattle.recorded.specs.Names.{is_there, is_undamaged, is_wanted, needed
 ghost use Rattle.recorded.specs.Names.{output_len};
 ghost use Rattle.std.specs.Prelude.{◌≡◌, ◌≤◌, ◌-◌, ◌^◌, IfOk, IfSome, OnOk};
 ghost use Rattle.recorded.specs.Names.{outputs_len, stream_field_not, wanted, skips};
-ghost use Rattle.scene_events.specs.Loads.{event_with};
+ghost use Rattle.{recorded.specs.Names.event_with, scene_reader.specs.Names.call_by_names};
 
 use super::outputs::{LoadFault, RecordedOutputs, StreamFault};
 use super::read_at::ReadAt;
 use reporter_state::decider::{OutputLoadDecider, OutputMetadata};
-use run_model::memory::OutOfMemory;
+use run_model::call::ReportCall;
+use run_model::event::TestEventKind;
 use run_model::output_event::LoadOutput;
-use scene_events::scene::event::SceneEvent;
+use run_model::status::ExecutionDescription;
 use scene_fields::stored::{PlacedOutput, StoredStream, StreamField};
 use std::alloc::Global;
 use std::io;
@@ -34,8 +35,13 @@ pub struct LoadEventFault {
 /// Every output must be there, even one that is not loaded.
 ///
 /// ```
-/// use scene_events::scene::event::SceneEvent;
-/// let mut event = SceneEvent::InfoFinished(0);
+/// use run_model::call::ReportCall;
+/// use run_model::event::{TestEvent, TestEventKind};
+/// use run_model::time::Nanos;
+/// let mut event = ReportCall::Event(TestEvent {
+///     elapsed: Nanos(0),
+///     kind: TestEventKind::InfoFinished { missing: 0 },
+/// });
 /// let mut outputs = RecordedOutputs::new(Metered::new(b"passed\nfailed\n".as_slice()))?;
 /// assert!(load_outputs(alloc, &decider, &[], &mut outputs, &mut event).is_ok());
 /// assert_eq!(outputs.bytes_read(), 0); // the event has no output
@@ -51,16 +57,16 @@ pub fn load_outputs<O: ReadAt + Drop>(
     decider: &OutputLoadDecider,
     stored: &[PlacedOutput],
     outputs: &mut RecordedOutputs<O>,
-    event: &mut SceneEvent,
+    event: &mut ReportCall<'_>,
 ) -> Result<(), LoadEventFault>
     ensures loaded { IfSome (O.recorded outputs.old.source)
-        (λ all. IsReplayed all decider.now stored.now event.old result event.new) }
+        (λ all. IsReplayed all decider.now stored.now (call_by_names event.old) result (call_by_names event.new)) }
     ensures kept { O.recorded outputs.new.source ≡ O.recorded outputs.old.source }
     ensures count { OnOk result
         (O.count outputs.new.source
-        ≡ counted (O.count outputs.old.source) (needed_of decider.now event.old stored.now)) }
+        ≡ counted (O.count outputs.old.source) (needed_of decider.now (call_by_names event.old) stored.now)) }
     ensures most { O.count outputs.new.source
-        ≤ counted (O.count outputs.old.source) (needed_of decider.now event.old stored.now) }
+        ≤ counted (O.count outputs.old.source) (needed_of decider.now (call_by_names event.old) stored.now) }
 {
     let _count = outputs.bytes_read(); // it is a `u64`, which a proof learns by reading it
     check_all_there(stored, outputs)?;
@@ -73,38 +79,52 @@ pub fn load_outputs<O: ReadAt + Drop>(
 
 // The place whose output alone is loaded: of a test that has finished that of its last attempt. Of another event all
 // are loaded.
-fn only_place(event: &SceneEvent) -> Option<usize>
-    ensures { result ≡ only_place event.now }
+fn only_place(event: &ReportCall<'_>) -> Option<usize>
+    ensures { result ≡ only_place (call_by_names event.now) }
 {
-    match event {
-        SceneEvent::TestFinished(finish) => Some(finish.get().attempts.last_place()),
-        _ => None,
+    let ReportCall::Event(event) = event else {
+        return None;
+    };
+    let TestEventKind::TestFinished { run_statuses, .. } = &event.kind else {
+        return None;
+    };
+    match run_statuses.describe() {
+        ExecutionDescription::Success { .. } => Some(0),
+        ExecutionDescription::Flaky { prior_statuses, .. }
+        | ExecutionDescription::Failure { prior_statuses, .. } => Some(prior_statuses.len()),
     }
 }
 
 // Whether the decider skips the outputs of an event, from its metadata. It is not asked about others, such as the
 // response of a unit.
-#[tactic(auto, using(crate::proofs::lemmas::Skips::loads_by_last))]
-fn skips(decider: &OutputLoadDecider, event: &SceneEvent) -> bool
-    ensures { result ≡ skips decider.now event.now }
+#[tactic(auto, using(crate::proofs::lemmas::Skips::loads_by_last, crate::proofs::lemmas::Named::named_skips))]
+fn skips(decider: &OutputLoadDecider, event: &ReportCall<'_>) -> bool
+    ensures { result ≡ skips decider.now (call_by_names event.now) }
 {
-    let metadata = match event {
-        SceneEvent::SetupScriptFinished(finish) => {
-            let result = finish.get().attempt.result();
-            OutputMetadata::SetupScriptFinished { result }
-        }
-        SceneEvent::TestAttemptFailedWillRetry(failed) => {
-            let failure_output = failed.get().failure_output;
-            OutputMetadata::TestAttemptFailedWillRetry { failure_output }
-        }
-        SceneEvent::TestFinished(finish) => {
-            let finish = finish.get();
-            OutputMetadata::TestFinished {
-                success_output: finish.success_output,
-                failure_output: finish.failure_output,
-                last_result: finish.attempts.last_result(),
+    let ReportCall::Event(event) = event else {
+        return false;
+    };
+    let metadata = match &event.kind {
+        TestEventKind::SetupScriptFinished { run_status, .. } => {
+            OutputMetadata::SetupScriptFinished {
+                result: &run_status.result,
             }
         }
+        TestEventKind::TestAttemptFailedWillRetry { failure_output, .. } => {
+            OutputMetadata::TestAttemptFailedWillRetry {
+                failure_output: *failure_output,
+            }
+        }
+        TestEventKind::TestFinished {
+            success_output,
+            failure_output,
+            run_statuses,
+            ..
+        } => OutputMetadata::TestFinished {
+            success_output: *success_output,
+            failure_output: *failure_output,
+            last_result: &run_statuses.last_status().result,
+        },
         _ => return false,
     };
     decider.should_load(metadata) == LoadOutput::Skip
@@ -181,13 +201,14 @@ fn load_wanted<O: ReadAt + Drop>(
     stored: &[PlacedOutput],
     only: Option<usize>,
     outputs: &mut RecordedOutputs<O>,
-    event: &mut SceneEvent,
+    event: &mut ReportCall<'_>,
 ) -> Result<(), LoadEventFault>
     requires { O.count outputs.old.source ≤ 2 ^ 64 - 1 }
     ensures undamaged { IfSome (O.recorded outputs.old.source)
         (λ all. IsFirstBad (first_field_not (is_undamaged all) (wanted only stored.now)) result) }
     ensures loaded { IfSome (O.recorded outputs.old.source)
-        (λ all. OnOk result (event.new ≡ event_inline all (wanted only stored.now) event.old)) }
+        (λ all. OnOk result
+        (call_by_names event.new ≡ event_inline all (wanted only stored.now) (call_by_names event.old))) }
     ensures kept { O.recorded outputs.new.source ≡ O.recorded outputs.old.source }
     ensures count { OnOk result
         (O.count outputs.new.source ≡ counted (O.count outputs.old.source) (outputs_len (wanted only stored.now))) }
@@ -217,26 +238,25 @@ fn load_placed<O: ReadAt + Drop>(
     alloc: Global,
     placed: &PlacedOutput,
     outputs: &mut RecordedOutputs<O>,
-    event: &mut SceneEvent,
+    event: &mut ReportCall<'_>,
 ) -> Result<(), LoadEventFault>
     requires { O.count outputs.old.source ≤ 2 ^ 64 - 1 }
     ensures undamaged { IfSome (O.recorded outputs.old.source)
         (λ all. IsFirstBad (field_not (is_undamaged all) placed.now) result) }
     ensures loaded { IfSome (O.recorded outputs.old.source)
-        (λ all. OnOk result (event.new ≡ event_with placed.now.place (output_inline all placed.now.output) event.old)) }
+        (λ all. OnOk result
+        (call_by_names event.new
+        ≡ event_with placed.now.place (output_inline all placed.now.output) (call_by_names event.old))) }
     ensures kept { O.recorded outputs.new.source ≡ O.recorded outputs.old.source }
     ensures count { OnOk result
         (O.count outputs.new.source ≡ counted (O.count outputs.old.source) (output_len placed.now.output)) }
     ensures most { O.count outputs.new.source ≤ counted (O.count outputs.old.source) (output_len placed.now.output) }
 {
     match outputs.load_output(alloc, &placed.output) {
-        Ok(captured) => match event.load(alloc, placed.place, captured) {
-            Ok(()) => Ok(()),
-            Err(OutOfMemory) => Err(LoadEventFault {
-                field: placed.field,
-                fault: LoadFault::OutOfMemory,
-            }),
-        },
+        Ok(captured) => {
+            event.load(placed.place, captured);
+            Ok(())
+        }
         Err(StreamFault { stream, fault }) => Err(LoadEventFault {
             field: placed.field_of(stream),
             fault,

@@ -1,18 +1,21 @@
 //! The lines of a recorded run. One is read at a time, with the outputs that its report shows.
 
-ghost use Rattle.std.specs.Prelude.{◌≡◌, ℕ, List, [], ◌∷◌, Some, IfErr, IfOk, Ok, OnOk};
+ghost use Rattle.std.specs.Prelude.{◌≡◌, ℕ, List, Some, IfErr, IfOk, Ok, OnOk};
 ghost use Rattle.{std.specs.Io.Buffered.reader_buffer, std.specs.Io.Buffered.reader_remaining};
-ghost use Rattle.{scenes.specs.Names.IsJudgeFault, scenes.specs.Names.IsUnread};
-ghost use Rattle.recorded.specs.Names.{CountsLine, CountsMore, IsFaultOfLoad, IsLineFault, IsNextLine, LeavesLine};
-ghost use Rattle.recorded.specs.Names.{TakesOf, line_replayed, needed_by, value_replayed};
-ghost use Rattle.scene_reader.specs.Names.{ReadsLines, before_next};
+ghost use Rattle.scenes.specs.Names.{IsUnread, decider_for};
+ghost use Rattle.recorded.specs.Names.{CountsMore, IsFaultOfLoad, IsNextLine, IsUnloaded, LoadsCall, TakesOf};
+ghost use Rattle.recorded.specs.Names.{event_replayed, needed_of};
+ghost use Rattle.{scene_reader.specs.Names.call_by_names};
 
 use super::events::{LoadEventFault, load_outputs};
 use super::outputs::{LoadFault, RecordedOutputs};
 use super::read_at::ReadAt;
 use memchr::memchr;
+use run_model::call::ReportCall;
 use run_model::memory::OutOfMemory;
-use scene_reader::reader::{LinesRead, ParsedLine};
+use scene_fields::stored::PlacedOutput;
+use scene_reader::reader::CallSink;
+use scene_run_lines::config::SceneConfig;
 use scenes::args::Options;
 use scenes::fault::{Fault, LineFault};
 use scenes::reporter::decider_of;
@@ -86,64 +89,72 @@ fn take_at_hand<R: Read>(
     }
 }
 
-/// Reads a line behind those that were read, with the outputs that its report shows. Nothing of a line that is wrong is
-/// added, so its event is not reported.
-pub(crate) fn read_line<'a, O: ReadAt + Drop>(
-    alloc: Global,
-    file: &'a str,
-    options: &Options<'_>,
-    line: &[u8],
-    outputs: &mut RecordedOutputs<O>,
-    read: &mut LinesRead,
-) -> Result<(), Fault<'a>>
-    ensures read { OnOk result
-        ((all : List ℕ) → O.recorded outputs.old.source ≡ Some all
-        → ReadsLines read.old read.new (line_replayed options.now all line.now ∷ [])) }
-    ensures left { IfErr result
-        (λ fault. (all : List ℕ) → O.recorded outputs.old.source ≡ Some all
-        → LeavesLine file.now read.old read.new (line_replayed options.now all line.now) fault) }
-    ensures fault { IfErr result (IsJudgeFault file.now) }
-    ensures kept { O.recorded outputs.new.source ≡ O.recorded outputs.old.source }
-    ensures count { OnOk result
-        (CountsLine options.now read.old line.now (O.count outputs.old.source) (O.count outputs.new.source)) }
-{
-    let mut value = read.read_recorded(alloc, line)?;
-    load_shown(alloc, file, options, read, outputs, &mut value)?;
-    read.push(value)?;
-    Ok(())
+/// A sink that loads the outputs that the report shows of a call, before another sink takes it.
+#[derive(Drop)]
+pub(crate) struct Loading<'r, 's, 'o, O: ReadAt, K> {
+    pub(crate) options: &'r Options<'o>,
+    pub(crate) config: SceneConfig,
+    pub(crate) outputs: &'r mut RecordedOutputs<O>,
+    pub(crate) sink: &'s mut K,
 }
 
-// Loads the outputs that the report of the line's event shows, which were just read.
-fn load_shown<'a, O: ReadAt + Drop>(
-    alloc: Global,
-    file: &'a str,
-    options: &Options<'_>,
-    read: &LinesRead,
-    outputs: &mut RecordedOutputs<O>,
-    value: &mut ParsedLine,
-) -> Result<(), Fault<'a>>
-    ensures loaded { OnOk result
-        ((all : List ℕ) → O.recorded outputs.old.source ≡ Some all
-        → value_replayed options.now all read.now value.old ≡ Ok value.new) }
-    ensures left { IfErr result
-        (λ fault. (all : List ℕ) → O.recorded outputs.old.source ≡ Some all
-        → IsLineFault file.now read.now (value_replayed options.now all read.now value.old) fault) }
-    ensures fault { IfErr result (IsJudgeFault file.now) }
-    ensures kept { O.recorded outputs.new.source ≡ O.recorded outputs.old.source }
-    ensures count { OnOk result
-        (CountsMore (needed_by options.now (before_next read.now) read.now.stored.items value.old)
-        (O.count outputs.old.source) (O.count outputs.new.source)) }
-{
-    let ParsedLine::EventLine(event) = value else {
-        return Ok(());
-    };
-    if read.stored.is_empty() {
-        return Ok(());
+impl<'r, 's, 'o, O: ReadAt + Drop, K> Loading<'r, 's, 'o, O, K> {
+    // Puts the outputs that the report shows of a call into it.
+    fn load<'a>(
+        &mut self,
+        alloc: Global,
+        file: &'a str,
+        number: u64,
+        stored: &[PlacedOutput],
+        call: &mut ReportCall<'_>,
+    ) -> Result<(), Fault<'a>>
+        ensures same { self.new.sink.now ≡ self.old.sink.now }
+        ensures same_references { (self.new.outputs.ghost_name ≡ self.old.outputs.ghost_name)
+            × (self.new.sink.ghost_name ≡ self.old.sink.ghost_name) }
+        ensures kept { O.recorded self.new.outputs.now.source ≡ O.recorded self.old.outputs.now.source }
+        ensures loaded { OnOk result
+            ((all : List ℕ) → O.recorded self.old.outputs.now.source ≡ Some all
+            → event_replayed all (decider_for self.old.options.now self.old.config) stored.now
+            (call_by_names call.old)
+            ≡ Ok (call_by_names call.new)) }
+        ensures left { IfErr result
+            (λ fault. (all : List ℕ) → O.recorded self.old.outputs.now.source ≡ Some all
+            → IsUnloaded file.now number
+            (event_replayed all (decider_for self.old.options.now self.old.config) stored.now
+            (call_by_names call.old))
+            fault) }
+        ensures count { OnOk result
+            (CountsMore
+            (needed_of (decider_for self.old.options.now self.old.config) (call_by_names call.old) stored.now)
+            (O.count self.old.outputs.now.source) (O.count self.new.outputs.now.source)) }
+    {
+        if stored.is_empty() {
+            return Ok(());
+        }
+        let decider = decider_of(alloc, self.options, &self.config)?;
+        match load_outputs(alloc, &decider, stored, self.outputs, call) {
+            Ok(()) => Ok(()),
+            Err(fault) => Err(fault_of_load(file, number, fault)),
+        }
     }
-    let decider = decider_of(alloc, options, &read.run.config)?;
-    match load_outputs(alloc, &decider, read.stored.as_slice(), outputs, event) {
-        Ok(()) => Ok(()),
-        Err(fault) => Err(fault_of_load(file, read.next, fault)),
+}
+
+impl<'r, 's, 'o, O: ReadAt + Drop, K: CallSink> CallSink for Loading<'r, 's, 'o, O, K> {
+    ghost takes = { λ old file number stored call result new. LoadsCall O.recorded O.count K.takes old.options.now
+        old.config old.outputs.now.source old.sink.now file number stored call result new.outputs.now.source
+        new.sink.now
+        × ((new.outputs.ghost_name ≡ old.outputs.ghost_name) × (new.sink.ghost_name ≡ old.sink.ghost_name)) };
+
+    fn take<'a>(
+        &mut self,
+        alloc: Global,
+        file: &'a str,
+        number: u64,
+        stored: &[PlacedOutput],
+        call: &mut ReportCall<'_>,
+    ) -> Result<(), Fault<'a>> {
+        self.load(alloc, file, number, stored, call)?;
+        self.sink.take(alloc, file, number, stored, call)
     }
 }
 

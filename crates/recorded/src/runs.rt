@@ -1,17 +1,16 @@
 //! A recorded run as a source of lines.
 
-ghost use Rattle.std.specs.Prelude.{◌≡◌, ℕ, List, None, Some, IfErr, IfOk};
+ghost use Rattle.std.specs.Prelude.{◌≡◌, ◌++◌, ℕ, List, map, None, Some, IfErr, IfOk, refl};
 ghost use Rattle.std.specs.Io.Buffered.{reader_remaining};
 ghost use Rattle.recorded.specs.Names.{counted, lines_inline, lines_replayed, needed_bytes, replayed, IsLeft, AreBytes};
-ghost use Rattle.recorded.specs.Names.{scene_spelled};
+ghost use Rattle.recorded.specs.Names.{ended_lines, line_replayed, scene_spelled};
 ghost use Rattle.scenes.specs.Names.{StopsBy, OfLines, OfText, Begins, Prints, PrintsFollowed, device};
 
-use super::lines::{next_line, read_line};
+use super::lines::{Loading, next_line};
 use super::outputs::RecordedOutputs;
 use super::read_at::ReadAt;
-use memchr::memchr;
 use run_model::memory::OutOfMemory;
-use scene_reader::reader::LinesRead;
+use scene_reader::reader::{CallSink, LinesRead};
 use scenes::args::Options;
 use scenes::fault::Fault;
 use scenes::follow::{RunOutcome, follow_source};
@@ -42,10 +41,7 @@ const BYTES_AT_ONCE: usize = 16_384;
 pub struct RecordedRun<'a, R, O: ReadAt> {
     options: Options<'a>,
     reader: BufReader<R>,
-    line: Vec<u8>,
     outputs: RecordedOutputs<O>,
-    // Whether the last line has an output that was read.
-    has_loaded: bool,
 }
 
 impl<'a, R: Read + Drop, O: ReadAt + Drop> RecordedRun<'a, R, O> {
@@ -74,9 +70,7 @@ impl<'a, R: Read + Drop, O: ReadAt + Drop> RecordedRun<'a, R, O> {
                 ..options
             },
             reader,
-            line: Vec::new(alloc),
             outputs,
-            has_loaded: false,
         })
     }
 
@@ -139,31 +133,51 @@ impl<'o, R: Read, O: ReadAt + Drop> RunSource for RecordedRun<'o, R, O> {
     ghost left = { λ total run. IsLeft total run.options (O.recorded run.outputs.source)
         (reader_remaining R.remaining run.reader) (O.count run.outputs.source) };
 
-    fn read_next<'a>(
+    ghost texts = { λ total run text others before lines h. (
+      line_replayed run.options h.all text,
+      map (line_replayed run.options h.all) (others ++ ended_lines h.text),
+      h.is,
+      refl,
+    ) };
+
+    fn next_piece<'a>(&mut self, file: &'a str, piece: &mut Vec<u8>) -> Result<bool, Fault<'a>> {
+        next_line(file, &mut self.reader, piece)
+    }
+
+    fn pass_line<'a, 't, K: CallSink>(
         &mut self,
         alloc: Global,
         file: &'a str,
         read: &mut LinesRead,
-    ) -> Result<bool, Fault<'a>> {
-        match next_line(file, &mut self.reader, &mut self.line) {
-            Ok(true) => {}
-            Ok(false) => return Ok(false),
-            Err(fault) => return Err(fault),
-        }
-        let bytes_read = self.outputs.bytes_read();
-        let (options, line) = (&self.options, self.line.as_slice());
-        match read_line(alloc, file, options, line, &mut self.outputs, read) {
-            Ok(()) => {
-                self.has_loaded = self.outputs.bytes_read() != bytes_read;
-                Ok(true)
-            }
-            Err(fault) => Err(fault),
-        }
+        line: &'t [u8],
+        texts: &mut Vec<&'t str>,
+        sink: &mut K,
+    ) -> Result<(), Fault<'a>> {
+        let outputs = &mut self.outputs;
+        let mut loading = Loading {
+            options: &self.options,
+            config: read.config,
+            outputs,
+            sink,
+        };
+        read.pass_recorded_line(alloc, file, line, texts, &mut loading)
     }
 
-    // Where the next line is buffered already. It stops after a line with outputs, so that those of one line at most
-    // are held.
-    fn reads_on(&self) -> bool {
-        !self.has_loaded && memchr(b'\n', self.reader.buffer()).is_some()
+    fn pass_large_line<'a, K: CallSink>(
+        &mut self,
+        alloc: Global,
+        file: &'a str,
+        read: &mut LinesRead,
+        line: Vec<u8>,
+        sink: &mut K,
+    ) -> Result<(), Fault<'a>> {
+        self.pass_line(
+            alloc,
+            file,
+            read,
+            line.as_slice(),
+            &mut Vec::new(alloc),
+            sink,
+        )
     }
 }

@@ -1,10 +1,15 @@
 //! Lines of a recorded run, their stored outputs, and how these are loaded.
 
+ghost use Rattle.std.specs.Prelude.{⊤};
+
 use crate::testing::{expect_bytes, expect_count, expect_row, expect_text};
+use command_line::fault::{Fault, LineFault};
 use recorded::{LoadFault, Metered, RecordedOutputs, StreamFault};
+use run_model::call::ReportCall;
 use run_model::output::{ChildOutputDescription, ChildSingleOutput};
 use scene_fields::stored::{PlacedOutput, StoredOutput, StreamField};
-use scene_reader::reader::LinesRead;
+use scene_reader::reader::{CallSink, LinesRead};
+use std::alloc::Global;
 use std::process::Abort;
 use std::test::Fail;
 
@@ -67,6 +72,58 @@ const KEPT: [&str; 13] = [
     "retry\t-\ta\tt\t1\t2\t5\tfinal\tfail:1\t5\t0\tsplit\tPASSED\t-\t-\t-\tx",
 ];
 
+// What was passed to a sink: how many calls, and the place and the field of each stored output of theirs.
+#[derive(Drop)]
+struct Passed {
+    calls: u64,
+    stored: Vec<(usize, usize)>,
+}
+
+impl CallSink for Passed {
+    ghost takes = { λ old file number stored call result new. ⊤ };
+
+    fn take<'a>(
+        &mut self,
+        _alloc: Global,
+        _file: &'a str,
+        _number: u64,
+        stored: &[PlacedOutput],
+        _call: &mut ReportCall<'_>,
+    ) -> Result<(), Fault<'a>> {
+        self.calls = self.calls.saturating_add(1);
+        for output in stored {
+            self.stored
+                .push((output.place, output.field))
+                .map_err(|_| Fault::OutOfMemory)?;
+        }
+        Ok(())
+    }
+}
+
+// Reads a line where outputs are stored, or where none is. It returns what was passed on, and the fault of the line.
+fn pass(
+    alloc: Global,
+    line: &[u8],
+    is_recorded: bool,
+) -> Result<(Passed, Option<(u64, LineFault)>), Fail> {
+    let mut read = LinesRead::new(alloc);
+    let mut texts = Vec::new(alloc);
+    let mut passed = Passed {
+        calls: 0,
+        stored: Vec::new(alloc),
+    };
+    let outcome = if is_recorded {
+        read.pass_recorded_line(alloc, "", line, &mut texts, &mut passed)
+    } else {
+        read.pass_line(alloc, "", line, &mut texts, &mut passed)
+    };
+    match outcome {
+        Ok(()) => Ok((passed, None)),
+        Err(Fault::Line { line, fault }) => Ok((passed, Some((line, fault)))),
+        Err(_) => Err(Fail::from("memory")),
+    }
+}
+
 #[test]
 fn notes_references_of_lines(rt: HostRuntime) -> Result<(), Fail> {
     let alloc = rt.alloc();
@@ -74,15 +131,9 @@ fn notes_references_of_lines(rt: HostRuntime) -> Result<(), Fail> {
         let line = short
             .replace(alloc, "PASSED", PASSED)?
             .replace(alloc, "FAILED", FAILED)?;
-        let mut read = LinesRead::new(alloc);
-        let value = read.read_recorded(alloc, line.as_str().as_bytes())?;
-        read.push(value)?;
-        let outputs = &read.stored;
-        let is_pushed = read.run.events.len() == 1 && read.next == 2;
-        expect_row(&rt, is_pushed && outputs.len() == places.len(), short);
-        for (output, (place, field)) in outputs.iter().zip(places.iter()) {
-            expect_row(&rt, output.place == *place && output.field == *field, short);
-        }
+        let (passed, fault) = pass(alloc, line.as_str().as_bytes(), true)?;
+        let is_passed = fault.is_none() && passed.calls == 1;
+        expect_row(&rt, is_passed && passed.stored.as_slice() == places, short);
     }
     Ok(())
 }
@@ -94,18 +145,10 @@ fn reads_other_lines_as_those_of_a_scene(rt: HostRuntime) -> Result<(), Fail> {
         let line = short
             .replace(alloc, "PASSED", PASSED)?
             .replace(alloc, "FAILED", FAILED)?;
-        let line = line.as_str().as_bytes();
-        let (mut recorded, mut plain) = (LinesRead::new(alloc), LinesRead::new(alloc));
-        let outcome = match recorded.read_recorded(alloc, line) {
-            Ok(value) => {
-                recorded.push(value)?;
-                Ok(())
-            }
-            Err(fault) => Err(fault),
-        };
-        expect_row(&rt, outcome == plain.read_more(alloc, line), short);
-        let is_same = recorded.run.events.len() == plain.run.events.len();
-        expect_row(&rt, recorded.stored.is_empty() && is_same, short);
+        let (recorded, fault) = pass(alloc, line.as_str().as_bytes(), true)?;
+        let (plain, plain_fault) = pass(alloc, line.as_str().as_bytes(), false)?;
+        let is_same = fault == plain_fault && recorded.calls == plain.calls;
+        expect_row(&rt, is_same && recorded.stored.is_empty(), short);
     }
     Ok(())
 }

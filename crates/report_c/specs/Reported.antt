@@ -1,13 +1,13 @@
 -- The outcomes of `norigully_report`.
 use Rattle.std.specs.Prelude.{◌≡◌, ◌==◌, ℕ, ◌<◌, ◌≤◌, if◌then◌else◌, List, [], ◌++◌, length, drop, Option, None, Some}
-use Rattle.std.specs.Prelude.{Err, false, ⊤}
+use Rattle.std.specs.Prelude.{false, ⊤}
 use Rattle.run_names.specs.declared.level.StatusLevel.{StatusLevel}
 use Rattle.run_names.specs.declared.level.StatusLevel.TheVariants as level
 use Rattle.{scene_fields.specs.declared.fault.LineFault.LineFault}
 use Rattle.{scene_fields.specs.declared.fault.ReadFault.ReadFault}
 use Rattle.{report_c.specs.declared.NorigullyOptions.NorigullyOptions}
 use Rattle.scene_fields.specs.declared.fault.ReadFault.TheVariants as read
-use Rattle.scenes.specs.Names.{IsJudged, OfText, Prints, device, Fault, Options}
+use Rattle.scenes.specs.Names.{IsFaultOfText, OfText, Prints, device, Fault, Options}
 use Rattle.command_line.specs.declared.fault.Fault.TheVariants as fault
 
 -- The status level of a number, from none at 0 to all at 7.
@@ -58,7 +58,7 @@ pub record IsFaultOfLine (options : NorigullyOptions) (text : List ℕ) (line : 
   pub program : Options
   pub asked : AsksFor options program
   pub wrong : LineFault
-  pub judged : IsJudged program (Err (fault.Line line wrong)) text
+  pub judged : IsFaultOfText program text (fault.Line line wrong)
 
 -- The fault of a report to memory: a wrong line, or refused memory.
 abbrev pub read_fault_of : Fault → ReadFault
@@ -67,5 +67,5 @@ read_fault_of _ = read.OutOfMemory
 
 -- There is no report: the program reports a fault of this line, or memory was refused.
 abbrev pub IsUnreported : Options → List ℕ → ReadFault → Type 0
-IsUnreported options text (read.Line n f) = IsJudged options (Err (fault.Line n f)) text
+IsUnreported options text (read.Line n f) = IsFaultOfText options text (fault.Line n f)
 IsUnreported options text read.OutOfMemory = ⊤

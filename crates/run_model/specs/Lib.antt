@@ -3,6 +3,7 @@ pub mod Captured
 pub mod Decoded
 pub mod Events
 pub mod Infos
+pub mod Loads
 pub mod Names
 pub mod Outputs
 pub mod Recorded

@@ -7,6 +7,7 @@
 pub mod call;
 pub mod event;
 pub mod info;
+mod load;
 pub mod output;
 pub mod output_event;
 pub mod replay;

@@ -1,9 +1,9 @@
 //! What a test or a setup script wrote, as it was captured, and what went wrong with it.
 
-ghost use Rattle.std.specs.Prelude.{◌≡◌, [], length, ◌==◌, is_ok, true, IfOk, IsOk, IsTrue};
-ghost use Rattle.{std.specs.Option.unwrap_or, std.specs.Cow.cow_str_bytes, std.specs.Cow.IsOwnedStr};
+ghost use Rattle.std.specs.Prelude.{◌≡◌, [], length, ◌==◌, is_ok, true, IfOk, IsOk};
+ghost use Rattle.{std.specs.Cow.cow_str_bytes, std.specs.Cow.IsOwnedStr};
 ghost use Rattle.{std.specs.Str.encode_utf8_all, bstr.specs.Utf8.lossy_chars};
-ghost use Rattle.run_model.specs.Names.{execution_with_output, silent_execution, silent_output, decoded_text};
+ghost use Rattle.run_model.specs.Names.{execution_with_output, silent_execution, decoded_text};
 ghost use Rattle.run_model.specs.Names.{subslice_value, stdout_part, stderr_part, combined_part, has_errors};
 ghost use Rattle.run_model.specs.Names.{has_loaded_output};
 ghost use Rattle.run_model.specs.Names.{is_loaded, recorded_execution, recorded_member, recorded_output};
@@ -192,14 +192,6 @@ impl ChildSingleOutput {
         }
     }
 
-    // Whether it owns no memory. It has no bytes then.
-    #[inline(always)]
-    fn owns_nothing(&self) -> bool
-        ensures { IsTrue result → self.now ≡ [] }
-    {
-        matches!(self.captured, Captured::Nothing)
-    }
-
     /// The bytes.
     pub fn as_bytes(&self) -> &[u8]
         ensures { result.now ≡ self.now }
@@ -286,33 +278,6 @@ pub enum ChildOutputDescription {
 }
 
 impl ChildOutputDescription {
-    // Whether both streams were captured, are empty and own no memory.
-    #[inline(always)]
-    fn is_silent(&self) -> bool
-        ensures { IsTrue result → self.now ≡ silent_output }
-    {
-        match self {
-            ChildOutputDescription::Split {
-                stdout: Some(stdout),
-                stderr: Some(stderr),
-            } => stdout.owns_nothing() && stderr.owns_nothing(),
-            _ => false,
-        }
-    }
-
-    // Sets it to two captured streams that are empty. Most are that already and are not written again.
-    #[inline(always)]
-    fn replace_with_silent(&mut self)
-        ensures { self.new ≡ silent_output }
-    {
-        if !self.is_silent() {
-            *self = ChildOutputDescription::Split {
-                stdout: Some(ChildSingleOutput::empty()),
-                stderr: Some(ChildSingleOutput::empty()),
-            };
-        }
-    }
-
     /// The output of two streams that were captured separately. It allocates unless both are empty.
     ///
     /// ```
@@ -504,40 +469,6 @@ impl ChildExecutionOutputDescription<LiveSpec> {
             },
             errors: None,
             highlight: None,
-        }
-    }
-
-    /// Turns it into a process that ended with `outcome` and wrote `captured` or nothing, and returns true.
-    ///
-    /// It allocates nothing, so it works only on a process without errors, and if `outcome` is a pass or an exit code.
-    /// Otherwise it returns false, and the value is unspecified. Only the programs that read scenes need it.
-    #[doc(hidden)]
-    #[inline(always)]
-    pub fn replace(
-        &mut self,
-        outcome: &ExecutionResultDescription,
-        captured: Option<ChildOutputDescription>,
-    ) -> bool
-        ensures { IsTrue result
-            → self.new ≡ execution_with_output (silent_execution outcome.now) (unwrap_or captured silent_output) }
-    {
-        match self {
-            ChildExecutionOutputDescription::Output {
-                result,
-                output,
-                errors: None,
-                highlight: None,
-            } => {
-                match captured {
-                    Some(captured) => *output = captured,
-                    None => output.replace_with_silent(),
-                }
-                match result {
-                    Some(result) => result.replace(outcome),
-                    None => false,
-                }
-            }
-            _ => false,
         }
     }
 

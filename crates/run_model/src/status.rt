@@ -1,16 +1,15 @@
 //! How the attempts of a test ended.
 
-ghost use Rattle.std.specs.Prelude.{◌≡◌, ◌≤◌, IfSome, IfNone, IfOk, IsOk, false, [], ◌∷◌, ◌++◌, map, IsTrue, ◌↔◌};
+ghost use Rattle.std.specs.Prelude.{◌≡◌, ◌≤◌, IfSome, IfNone, IfOk, IsOk, false, [], ◌∷◌, ◌++◌, IsTrue, ◌↔◌};
 ghost use Rattle.run_model.specs.Names.{attempt_with_output, attempt_with_retry_data, code_failure, only_attempt};
 ghost use Rattle.run_model.specs.Names.{silent_attempt, is_aborted, is_abort, is_success, is_leaky_success};
 ghost use Rattle.run_model.specs.Names.{is_success_case};
 ghost use Rattle.run_model.specs.Names.{case_of, summary_of, described_case, described_last, described_prior};
 ghost use Rattle.run_model.specs.Names.{described_summary, final_level_of, final_level_by, status_level_of};
 ghost use Rattle.run_model.specs.Names.{status_level_by};
-ghost use Rattle.run_model.specs.Names.{recorded_attempt, recorded_attempts, recorded_script, unloaded_attempt};
-ghost use Rattle.run_model.specs.Names.{unloaded_attempts, unloaded_script};
 
-mod in_place;
+mod load;
+mod recorded;
 
 use crate::output::{
     ChildExecutionOutputDescription, ChildOutputDescription, LiveSpec, OutputSpec, RecordingSpec,
@@ -364,30 +363,6 @@ impl ExecuteStatus<LiveSpec> {
             is_slow: self.is_slow,
         })
     }
-
-    /// Replaces the captured output by `NotLoaded`.
-    pub fn unload(&mut self)
-        ensures { self.new ≡ unloaded_attempt self.old }
-    {
-        self.output.unload();
-    }
-
-    /// The status in the form of a recorded run, with empty names of the archive's members. It copies the texts.
-    ///
-    /// # Errors
-    ///
-    /// Memory was refused.
-    pub fn recorded(&self, alloc: Global) -> Result<ExecuteStatus<RecordingSpec>, OutOfMemory>
-        ensures { IfOk result (λ status. status ≡ recorded_attempt self.now) }
-    {
-        Ok(ExecuteStatus {
-            retry_data: self.retry_data,
-            output: self.output.recorded(alloc)?,
-            result: self.result.try_clone(alloc)?,
-            time_taken: self.time_taken,
-            is_slow: self.is_slow,
-        })
-    }
 }
 
 /// The execution of a setup script.
@@ -409,34 +384,6 @@ pub struct SetupScriptExecuteStatus<S: OutputSpec> {
     pub output: ChildExecutionOutputDescription<S>,
     /// Whether it was marked as slow.
     pub is_slow: bool,
-}
-
-impl SetupScriptExecuteStatus<LiveSpec> {
-    /// Replaces the captured output by `NotLoaded`.
-    pub fn unload(&mut self)
-        ensures { self.new ≡ unloaded_script self.old }
-    {
-        self.output.unload();
-    }
-
-    /// The status in the form of a recorded run, with empty names of the archive's members. It copies the texts.
-    ///
-    /// # Errors
-    ///
-    /// Memory was refused.
-    pub fn recorded(
-        &self,
-        alloc: Global,
-    ) -> Result<SetupScriptExecuteStatus<RecordingSpec>, OutOfMemory>
-        ensures { IfOk result (λ status. status ≡ recorded_script self.now) }
-    {
-        Ok(SetupScriptExecuteStatus {
-            output: self.output.recorded(alloc)?,
-            result: self.result.try_clone(alloc)?,
-            time_taken: self.time_taken,
-            is_slow: self.is_slow,
-        })
-    }
 }
 
 /// What a test that passed after earlier attempts counts as.
@@ -663,52 +610,6 @@ impl ExecutionStatuses<LiveSpec> {
             flaky_result: self.flaky_result,
         })
     }
-
-    /// Replaces the captured output of every attempt by `NotLoaded`.
-    pub fn unload(&mut self)
-        ensures { self.new ≡ unloaded_attempts self.old }
-    {
-        unload_attempts(self.earlier.as_mut_slice());
-        self.last.unload();
-    }
-
-    /// The attempts in the form of a recorded run, with empty names of the archive's members. It copies the texts.
-    ///
-    /// # Errors
-    ///
-    /// Memory was refused.
-    pub fn recorded(&self, alloc: Global) -> Result<ExecutionStatuses<RecordingSpec>, OutOfMemory>
-        ensures { IfOk result (λ statuses. statuses ≡ recorded_attempts self.now) }
-    {
-        Ok(ExecutionStatuses {
-            earlier: recorded_earlier(alloc, &self.earlier)?,
-            last: self.last.recorded(alloc)?,
-            flaky_result: self.flaky_result,
-        })
-    }
-}
-
-// Replaces the captured output of every attempt by `NotLoaded`.
-fn unload_attempts(attempts: &mut [ExecuteStatus<LiveSpec>])
-    ensures { attempts.new ≡ map unloaded_attempt attempts.old }
-{
-    for attempt in attempts.iter_mut() {
-        attempt.unload();
-    }
-}
-
-// Copies the attempts in the form of a recorded run, which allocates.
-fn recorded_earlier(
-    alloc: Global,
-    attempts: &[ExecuteStatus<LiveSpec>],
-) -> Result<Vec<ExecuteStatus<RecordingSpec>>, OutOfMemory>
-    ensures { IfOk result (λ recorded. recorded.items ≡ map recorded_attempt attempts.now) }
-{
-    let mut recorded = Vec::with_capacity(alloc, attempts.len())?;
-    for attempt in attempts {
-        recorded.push(attempt.recorded(alloc)?)?;
-    }
-    Ok(recorded)
 }
 
 // Copies the attempts. Without attempts it allocates nothing.

@@ -1,17 +1,21 @@
 -- The kinds of line that a scene has: the word that each begins with, how many fields follow it, and what they spell.
-use Rattle.std.specs.Prelude.{ℕ, List, [], ◌∷◌, Err, codes}
-use Rattle.{scene_run_lines.specs.Parts.progress_in, scene_fields.specs.Numbers.number_in}
+use Rattle.std.specs.Prelude.{◌≡◌, ℕ, List, [], ◌∷◌, Err, codes}
+use Rattle.{run_model.specs.declared.call.ReportCall.ReportCall}
 use Rattle.{scene_fields.specs.declared.fault.LineFault.TheVariants.UnknownEvent}
-use Rattle.scene_run_lines.specs.Lines.{cancel_line_fields, end_line_fields, end_stress_line_fields, header_line_fields}
-use Rattle.scene_run_lines.specs.Lines.{info_line_fields, input_line_fields, made, pause_line_fields}
-use Rattle.scene_run_lines.specs.Lines.{prefix_line_fields, run_line_fields, sub_end_line_fields}
-use Rattle.scene_fields.specs.Fields.{Line, exactly, field, with_attempts}
+use Rattle.scene_run_lines.specs.Lines.{cancel_line_fields, continue_line_fields, end_line_fields}
+use Rattle.scene_run_lines.specs.Lines.{end_stress_line_fields, header_line_fields, info_end_line_fields}
+use Rattle.scene_run_lines.specs.Lines.{info_line_fields, input_line_fields}
+use Rattle.scene_run_lines.specs.Lines.{kill_line_fields, pause_line_fields, prefix_line_fields, run_line_fields}
+use Rattle.scene_run_lines.specs.Lines.{sub_end_line_fields, sub_start_line_fields}
+use Rattle.scene_fields.specs.{Calls.call_by_names, Calls.SceneEvent, Fields.Line, Fields.exactly, Fields.with_attempts}
 use Rattle.scene_unit_lines.specs.Lines.{answer_script_line_fields, answer_test_line_fields, by_row, done_line_fields}
 use Rattle.scene_unit_lines.specs.Lines.{retry_line_fields, retry_start_line_fields, setup_done_line_fields}
-use Rattle.scene_unit_lines.specs.Lines.{setup_line_fields, setup_slow_line_fields, slow_line_fields, start_line_fields}
-use Rattle.scene_unit_lines.specs.Lines.{test_fields}
-use Rattle.scene_events.specs.declared.scene.event.SceneEvent.{SceneEvent}
-use Rattle.scene_events.specs.declared.scene.event.SceneEvent.TheVariants as event
+use Rattle.scene_unit_lines.specs.Lines.{setup_line_fields, setup_slow_line_fields, skip_line_fields, slow_line_fields}
+use Rattle.scene_unit_lines.specs.Lines.{start_line_fields}
+
+-- a call that is this event, wherever the names of its test are
+abbrev pub IsCallOf : SceneEvent → ReportCall → Type 0
+IsCallOf event call = call_by_names call ≡ event
 
 -- no line has this word
 abbrev pub unknown : Line SceneEvent
@@ -20,13 +24,13 @@ unknown p = Err UnknownEvent
 -- each kind of line that is an event of the run as it goes on: its word, and what follows it
 unfoldable pub run_event_rows : List (List ℕ × Line SceneEvent)
 run_event_rows =
-    (codes "substart", exactly 1 (made event.StressSubRunStarted (field progress_in)))
-    ∷ (codes "cancel", exactly 3 (made event.RunBeginCancel cancel_line_fields))
-    ∷ (codes "kill", exactly 3 (made event.RunBeginKill cancel_line_fields))
-    ∷ (codes "pause", exactly 2 (made event.RunPaused pause_line_fields))
-    ∷ (codes "continue", exactly 2 (made event.RunContinued pause_line_fields))
+    (codes "substart", exactly 1 sub_start_line_fields)
+    ∷ (codes "cancel", exactly 3 cancel_line_fields)
+    ∷ (codes "kill", exactly 3 kill_line_fields)
+    ∷ (codes "pause", exactly 2 pause_line_fields)
+    ∷ (codes "continue", exactly 2 continue_line_fields)
     ∷ (codes "info", exactly 3 info_line_fields)
-    ∷ (codes "infoend", exactly 1 (made event.InfoFinished (field (number_in 64))))
+    ∷ (codes "infoend", exactly 1 info_end_line_fields)
     ∷ (codes "input", exactly 3 input_line_fields)
     ∷ (codes "subend", exactly 3 sub_end_line_fields)
     ∷ []
@@ -54,7 +58,7 @@ event_rows =
     ∷ (codes "retrystart", exactly 6 retry_start_line_fields)
     ∷ (codes "slow", exactly 7 slow_line_fields)
     ∷ (codes "retry", exactly 15 retry_line_fields)
-    ∷ (codes "skip", exactly 3 (made event.TestSkipped test_fields))
+    ∷ (codes "skip", exactly 3 skip_line_fields)
     ∷ other_event_rows
 
 -- the event of a line with this word, from the fields after it

@@ -1,26 +1,30 @@
 -- The scene that a text spells, or its first fault.
 use Rattle.std.specs.Prelude.{◌≡◌, ℕ, ◌+◌, List, [], ◌∷◌, ◌++◌, Bool, true, false, ◌==◌, ◌||◌, map, nat_lt, bytes_eq}
-use Rattle.std.specs.Prelude.{codes, if◌then◌else◌, Option, None, Some, Result, Ok, Err, length, ⊤}
+use Rattle.std.specs.Prelude.{codes, if◌then◌else◌, Option, None, Some, Result, Ok, Err, length, take, IfErr, OnOk, ⊤}
+use Rattle.std.specs.Prelude.{◌⊎◌}
 use Rattle.{scene_run_lines.specs.Lines.config_line_fields, scene_run_lines.specs.Lines.made}
-use Rattle.{std.specs.Result.result_map_both, std.specs.Str.is_utf8, scene_events.specs.Configs.unconfigured}
-use Rattle.scene_fields.specs.{Split.split_on, declared.stored.PlacedOutput.PlacedOutput}
-use Rattle.scene_fields.specs.Fields.{◌>>=◌, Fails, Line, Noted, Place, exactly, next, none_noted, says, noted_outputs}
-use Rattle.scene_reader.specs.{EventLines.event_line_fields, declared.reader.LinesRead.LinesRead}
-use Rattle.scene_reader.specs.{declared.reader.ParsedLine.ParsedLine}
-use Rattle.scene_fields.specs.declared.fault.{LineError.LineError, LineFault.LineFault, ReadFault.ReadFault}
-use Rattle.scene_fields.specs.declared.fault.{LineFault.TheVariants.NotUtf8, LineFault.TheVariants.ConfigAfterEvent}
-use Rattle.scene_reader.specs.declared.reader.ParsedLine.TheVariants.{NoEvent, ConfigLine, EventLine}
-use Rattle.scene_events.specs.declared.scene.{ParsedRun.ParsedRun, SceneConfig.SceneConfig, event.SceneEvent.SceneEvent}
+use Rattle.{std.specs.Result.result_map_both, std.specs.Str.is_utf8, scene_run_lines.specs.Configs.unconfigured}
+use Rattle.scene_fields.specs.{Calls.call_by_names, Split.split_on, declared.stored.PlacedOutput.PlacedOutput}
+use Rattle.scene_fields.specs.Fields.{◌>>=◌, Line, Noted, Place, exactly, next, none_noted, says, noted_outputs}
+use Rattle.{scene_fields.specs.Calls.SceneEvent, scene_reader.specs.EventLines.event_line_fields}
+use Rattle.{scene_reader.specs.declared.reader.LinesRead.LinesRead}
+use Rattle.scene_fields.specs.declared.fault.{LineError.LineError, LineFault.LineFault, LineFault.TheVariants.NotUtf8}
+use Rattle.scene_fields.specs.declared.fault.{LineFault.TheVariants.ConfigAfterEvent}
+use Rattle.{scene_run_lines.specs.declared.config.SceneConfig.SceneConfig}
+use Rattle.{run_model.specs.declared.call.ReportCall.ReportCall, command_line.specs.declared.fault.Fault.Fault}
 use Rattle.scene_fields.specs.declared.fault.LineError.TheVariants as error
-use Rattle.scene_fields.specs.declared.fault.ReadFault.TheVariants as fault
+use Rattle.command_line.specs.declared.fault.Fault.TheVariants as fault
+
+-- the value of a line: none, how the run is reported by this line and those before it, or an event
+pub data ParsedLine : Type 0 where
+  NoEvent : ParsedLine
+  ConfigLine : SceneConfig → ParsedLine
+  EventLine : SceneEvent → ParsedLine
 
 -- lines that were read: the last value of each key, and the events in order
 pub record ParsedLines : Type 0 where
   pub config : SceneConfig
   pub events : List SceneEvent
-
-abbrev pub parsed_lines : ParsedRun → ParsedLines
-parsed_lines scene = record { config = scene.config; events = scene.events.items }
 
 abbrev pub no_lines : ParsedLines
 no_lines = record { config = unconfigured; events = [] }
@@ -50,10 +54,13 @@ abbrev pub config_words : LinesBefore → Line ParsedLine
 config_words before p = if before.is_begun then Err ConfigAfterEvent else made ConfigLine
     (exactly 2 (config_line_fields before.config)) p
 
--- the fields after the first one
+-- an event
+abbrev pub event_word : List ℕ → Line ParsedLine
+event_word word = made EventLine (event_line_fields word)
+
+-- the fields behind the first one
 abbrev pub words_behind : LinesBefore → List ℕ → Line ParsedLine
-words_behind before word p = if bytes_eq word (codes "config") then config_words before p else made EventLine
-    (event_line_fields word) p
+words_behind before word p = if bytes_eq word (codes "config") then config_words before p else event_word word p
 
 -- all fields of a line
 abbrev pub line_words : LinesBefore → Line ParsedLine
@@ -66,24 +73,31 @@ abbrev pub is_passed_over : List ℕ → Bool
 is_passed_over [] = true
 is_passed_over (c ∷ t) = c == 35
 
--- a line's fields, before any is taken
+-- a line that says how the run is reported, or nothing
+abbrev pub is_configuration : List ℕ → Bool
+is_configuration t = is_passed_over t || (bytes_eq t (codes "config") || bytes_eq (take 7 t) (codes "config\t"))
+
+-- a line's fields, of which none is taken
 abbrev pub line_place : Option Noted → List ℕ → Place
 line_place noted t = record { number = 0; left = split_on 9 t; noted = noted }
 
--- the value of a line that follows others, and where its fields were left; or its fault
+-- what a line says behind others, and where its fields were left; or its fault
 unfoldable pub line_from : Option Noted → LinesBefore → List ℕ → Result (ParsedLine × Place) LineFault
 line_from noted before t =
     if is_passed_over t then says NoEvent (line_place noted t)
     else (if is_utf8 t then line_words before (line_place noted t) else Err NotUtf8)
 
--- the value of a line that follows others, or its fault
+-- the value of a line behind others, or its fault
 abbrev pub parsed_line : LinesBefore → List ℕ → Result ParsedLine LineFault
 parsed_line before t = value_of (line_from None before t)
 
+-- a value with the outputs that are stored
+abbrev pub with_stored : {X : Type 0} → Result (X × Place) LineFault → Result (X × List PlacedOutput) LineFault
+with_stored read = result_map_both (λ x. (x.0, noted_outputs x.1.noted)) (λ f. f) read
+
 -- the value of a line of a recorded run and its stored outputs, which its event leaves unread
 abbrev pub recorded_line : LinesBefore → List ℕ → Result (ParsedLine × List PlacedOutput) LineFault
-recorded_line before t = result_map_both (λ x. (x.0, noted_outputs x.1.noted)) (λ f. f)
-    (line_from (Some none_noted) before t)
+recorded_line before t = with_stored (line_from (Some none_noted) before t)
 
 -- the lines with one more, of this value
 abbrev pub with_line : ParsedLines → ParsedLine → ParsedLines
@@ -115,7 +129,7 @@ with_made make (Ok (ConfigLine config, stored)) = Ok (ConfigLine config)
 with_made make (Ok (EventLine e, stored)) = event_line (make stored e)
 with_made make (Err f) = Err f
 
--- the value of a run's line that follows others, or its fault
+-- the value of a run's line behind others, or its fault
 abbrev pub line_value : LinesBefore → RunLine → Result ParsedLine LineFault
 line_value before (PlainLine t) = parsed_line before t
 line_value before (RecordedLine t make) = with_made (make before) (recorded_line before t)
@@ -124,24 +138,13 @@ line_value before (RecordedLine t make) = with_made (make before) (recorded_line
 unfoldable pub line_read : ParsedLines → RunLine → Result ParsedLines LineFault
 line_read before line = lines_with before (line_value (lines_before before) line)
 
--- if an event may precede all these lines
-abbrev pub is_begun_behind : Bool → List SceneEvent → Bool
-is_begun_behind begun es = begun || is_begun es
-
--- what the reading of the next line needs
-abbrev pub before_next : LinesRead → LinesBefore
-before_next read = record { config = read.run.config; is_begun = is_begun_behind read.is_begun read.run.events.items }
-
--- the lines after these events
-abbrev pub lines_after : List SceneEvent → ParsedLines → ParsedLines
-lines_after base before = record { config = before.config; events = base ++ before.events }
-
 abbrev pub lines_read_after : (ParsedLines → Result ParsedLines (ℕ × LineFault)) → ℕ → Result ParsedLines LineFault
     → Result ParsedLines (ℕ × LineFault)
 lines_read_after others n (Ok after) = others after
 lines_read_after others n (Err f) = Err (n, f)
 
--- the lines with more after them, numbered from `number`; or the number and the fault of the first wrong one
+-- the lines with these behind them, of which the first has this number; or the number and the fault of the first that
+-- has one
 unfoldable pub lines_read : ℕ → ParsedLines → List RunLine → Result ParsedLines (ℕ × LineFault)
 lines_read n before [] = Ok before
 lines_read n before (t ∷ ts) = lines_read_after (λ after. lines_read (n + 1) after ts) n (line_read before t)
@@ -163,69 +166,65 @@ unfoldable pub event_lines : ℕ → ParsedLines → List RunLine → List ℕ
 event_lines n before [] = []
 event_lines n before (t ∷ ts) = lines_from n before (λ after. event_lines (n + 1) after ts) (line_read before t)
 
-abbrev pub fault_at : ℕ → LineError → ReadFault
-fault_at n error.OutOfMemory = fault.OutOfMemory
-fault_at n (error.Fault f) = fault.Line n f
-
 -- each line can be read, one after the other
 abbrev pub AllRead : ParsedLines → List RunLine → ParsedLines → Type 0
 AllRead before [] after = before ≡ after
 AllRead before (t ∷ ts) after = (mid : ParsedLines) × (line_read before t ≡ Ok mid) × AllRead mid ts after
 
--- the number of the next line is noted, where that is an event
-abbrev pub NotesLine : LinesRead → LinesRead → Type 0
-NotesLine old new = new.run.lines.items
-    ≡ old.run.lines.items ++ line_here old.next (parsed_lines old.run) (parsed_lines new.run)
+-- the fault of the line of this number
+abbrev pub fault_at : ℕ → LineError → Fault
+fault_at n error.OutOfMemory = fault.OutOfMemory
+fault_at n (error.Fault f) = fault.Line n f
 
--- the lines are as they were
-abbrev pub KeepsLines : LinesRead → LinesRead → Type 0
-KeepsLines old new = (parsed_lines new.run ≡ parsed_lines old.run) × (new.run.lines.items ≡ old.run.lines.items)
-    × (new.is_begun ≡ old.is_begun) × (new.next ≡ old.next)
+-- what the reading of the next line needs
+abbrev pub before_next : LinesRead → LinesBefore
+before_next read = record { config = read.config; is_begun = read.is_begun }
 
--- the next line was read, whose value this is; or it is wrong, and nothing has changed
-abbrev pub TakesLine : {X : Type 0} → LinesRead → Result X LineError → LinesRead → Result ParsedLine LineFault → Type 0
-TakesLine old (Ok x) new value = (lines_with (parsed_lines old.run) value ≡ Ok (parsed_lines new.run))
-    × (new.is_begun ≡ old.is_begun) × (new.next ≡ old.next)
-TakesLine old (Err e) new value = Fails e value × KeepsLines old new
+-- the same behind a line of this value
+abbrev pub before_behind : LinesBefore → ParsedLine → LinesBefore
+before_behind before NoEvent = before
+before_behind before (ConfigLine config) = record before { config = config }
+before_behind before (EventLine e) = record before { is_begun = true }
 
--- the next line has this fault, where this was read of it, unless memory was refused
-abbrev pub IsFaultOfNext : {X : Type 0} → LinesRead → Result X LineFault → ReadFault → Type 0
-IsFaultOfNext read said (fault.Line n f) = (n ≡ read.next) × (said ≡ Err f)
-IsFaultOfNext read said fault.OutOfMemory = ⊤
+-- how a sink takes the call of the line of a number in a file, which has these stored outputs
+abbrev pub Takes : Type 0 → Type 1
+Takes K = K → List ℕ → ℕ → List PlacedOutput → ReportCall → Result (Unit {0}) Fault → K → Type 0
 
--- These lines were read, behind whatever events were forgotten: one after the other, and the numbers of their events
--- are noted.
-pub record ReadsLines (old new : LinesRead) (lines : List RunLine) : Type 0 where
-  pub tells : (base : List SceneEvent) → is_begun base ≡ old.is_begun
-      → AllRead (lines_after base (parsed_lines old.run)) lines (lines_after base (parsed_lines new.run))
-  pub noted : (base : List SceneEvent) → is_begun base ≡ old.is_begun
-      → new.run.lines.items ≡ old.run.lines.items ++ event_lines old.next (lines_after base (parsed_lines old.run))
-      lines
-  pub begun : new.is_begun ≡ old.is_begun
-  pub place : new.next ≡ old.next + length lines
+-- a sink took the call of a line of this value, or there is none
+abbrev pub IsTaken : {K : Type 0} → Takes K → List ℕ → ℕ → List PlacedOutput → ParsedLine → K → Result (Unit {0}) Fault
+    → K → Type 0
+IsTaken takes file n stored NoEvent old result new = (new ≡ old) × (result ≡ Ok tt)
+IsTaken takes file n stored (ConfigLine config) old result new = (new ≡ old) × (result ≡ Ok tt)
+IsTaken takes file n stored (EventLine e) old result new = (call : ReportCall) × (call_by_names call ≡ e)
+    × takes old file n stored call result new
 
--- the first of these lines has the fault, and this number, unless memory was refused
-abbrev pub IsNextFault : ℕ → ParsedLines → List RunLine → ReadFault → Type 0
-IsNextFault n before lines (fault.Line m f) = (m ≡ n)
-    × ((t : RunLine) × (more : List RunLine) × (lines ≡ t ∷ more) × (line_read before t ≡ Err f))
-IsNextFault n before lines fault.OutOfMemory = ⊤
+-- what stopped a line before its call was taken: its own fault, or that memory was refused
+abbrev pub IsLineFault : {X : Type 0} → ℕ → Result X LineFault → Fault → Type 0
+IsLineFault n value fault.OutOfMemory = ⊤
+IsLineFault n value (fault.Line m f) = (m ≡ n) × (value ≡ Err f)
+IsLineFault n value other = ⊥
 
--- the first of these lines were read, and the next has the fault, unless memory was refused
-pub record LeavesLines (old new : LinesRead) (lines : List RunLine) (f : ReadFault) : Type 0 where
-  pub front : List RunLine
-  pub rest : List RunLine
-  pub whole : lines ≡ front ++ rest
-  pub reads : ReadsLines old new front
-  pub wrong : (base : List SceneEvent) → is_begun base ≡ old.is_begun
-      → IsNextFault new.next (lines_after base (parsed_lines new.run)) rest f
+-- The next line, of this value, was read, and the sink took its call; or a fault stopped it, which is the line's, or
+-- the sink's.
+pub record PassesValue {K : Type 0} (takes : Takes K) (file : List ℕ)
+    (value : Result (ParsedLine × List PlacedOutput) LineFault) (old : LinesRead) (given : K)
+    (result : Result (Unit {0}) Fault) (new : LinesRead) (after : K) : Type 0 where
+  pub ok : OnOk result
+      ((line : ParsedLine) × (stored : List PlacedOutput) × (value
+      ≡ Ok (line, stored)) × IsTaken takes file old.next stored line given (Ok tt) after
+      × (before_next new ≡ before_behind (before_next old) line) × (new.next ≡ old.next + 1))
+  pub err : IfErr result (λ fault. ((after ≡ given) × IsLineFault old.next value fault)
+      ⊎ ((line : ParsedLine) × (stored : List PlacedOutput) × (value ≡ Ok (line, stored))
+      × IsTaken takes file old.next stored line given (Err fault) after))
 
--- the lines before the one of this number can be read, and that one has the fault
-pub record IsFirstFault (lines : List RunLine) (number : ℕ) (f : LineFault) : Type 0 where
-  pub front : List RunLine
-  pub line : RunLine
-  pub rest : List RunLine
-  pub whole : lines ≡ front ++ line ∷ rest
-  pub place : number ≡ length front + 1
-  pub before : ParsedLines
-  pub read_so_far : AllRead no_lines front before
-  pub wrong : line_read before line ≡ Err f
+-- a configuration that was read
+abbrev pub with_config : {X : Type 0} → SceneConfig → Result X LineFault → Result ParsedLine LineFault
+with_config config (Ok x) = Ok (ConfigLine config)
+with_config config (Err f) = Err f
+
+-- the call of a line of this value that was read again, or none if it says no event; or the line's fault
+abbrev pub IsReadAgain : Result ParsedLine LineFault → Result (Option ReportCall) LineError → Type 0
+IsReadAgain value (Ok (Some call)) = value ≡ Ok (EventLine (call_by_names call))
+IsReadAgain value (Ok None) = (e : SceneEvent) → value ≡ Ok (EventLine e) → ⊥
+IsReadAgain value (Err error.OutOfMemory) = ⊤
+IsReadAgain value (Err (error.Fault f)) = value ≡ Err f

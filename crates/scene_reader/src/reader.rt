@@ -4,357 +4,339 @@
 //! kind of the event. `lines` knows which kinds there are; what fields each has is in the crates `scene_unit_lines` and
 //! `scene_run_lines`.
 
-ghost use Rattle.std.specs.Prelude.{◌≡◌, [], ◌∷◌, false, IfErr, IfOk, OnErr, OnOk, Ok};
-ghost use Rattle.scene_fields.specs.Fields.{Fails, Gives};
-ghost use Rattle.scene_reader.specs.SceneTexts.{IsFaultOfNext, KeepsLines, LeavesLines, NotesLine, ReadsLines, RunLine};
-ghost use Rattle.scene_reader.specs.SceneTexts.{TakesLine, before_next, fault_at, is_begun_behind, is_passed_over};
-ghost use Rattle.scene_reader.specs.SceneTexts.{line_value, line_words, no_lines, parsed_line, parsed_lines};
-ghost use Rattle.scene_reader.specs.SceneTexts.{recorded_line, text_lines, value_of, with_line};
+ghost use Rattle.std.specs.Prelude.{◌≡◌, ◌+◌, ℕ, List, false, IfErr, Result, None, Ok, OnOk, Some, codes};
+ghost use Rattle.{scene_fields.specs.Fields.none_noted, scene_fields.specs.Fields.answered};
+ghost use Rattle.{scene_run_lines.specs.Configs.unconfigured};
+ghost use Rattle.{run_model.specs.declared.call.ReportCall.ReportCall};
+ghost use Rattle.{scene_fields.specs.declared.stored.PlacedOutput.PlacedOutput};
+ghost use Rattle.{command_line.specs.declared.fault.Fault.Fault};
+ghost use Rattle.scene_reader.specs.SceneTexts.{PassesValue, before_next, event_word, config_words, with_config};
+ghost use Rattle.scene_reader.specs.SceneTexts.{fault_at, is_configuration, is_passed_over, line_from, line_words};
+ghost use Rattle.scene_reader.specs.SceneTexts.{IsReadAgain, LinesBefore, parsed_line, value_of, with_stored};
 
-mod lines;
+pub mod lines;
 
+use command_line::fault::Fault;
 use lines::read_event;
-use memchr::memchr;
+use run_model::call::ReportCall;
 use run_model::memory::OutOfMemory;
-use scene_events::scene::event::SceneEvent;
-use scene_events::scene::{ParsedRun, SceneConfig};
-use scene_fields::fault::{LineError, LineFault, ReadFault};
+use run_model::name::OwnedTestInstanceId;
+use scene_fields::fault::{LineError, LineFault};
 pub use scene_fields::fields::LARGE;
 use scene_fields::fields::{Fields, split_fields};
 use scene_fields::owned_text::OwnedText;
-use scene_fields::split::first_line;
 use scene_fields::stored::PlacedOutput;
+use scene_run_lines::config::SceneConfig;
 use scene_run_lines::lines::read_config;
-use scene_unit_lines::binary_ids::BinaryIds;
+use scene_unit_lines::lines::no_names;
 use std::alloc::Global;
-use std::mem;
 
-// Room for the fields of most recorded lines: those of a finished test with one attempt, and of a second one.
-const FIELDS: usize = 32;
+/// What takes the calls of lines, one at a time.
+pub trait CallSink {
+    // how it takes the call of the line of this number in a file, which has these stored outputs
+    ghost takes: { Self → List ℕ → ℕ → List PlacedOutput → ReportCall → Result (Unit {0}) Fault → Self → Type 0 };
 
-/// The value of a line.
-#[derive(Drop)]
-pub enum ParsedLine {
-    /// No value, since the line is empty or a comment.
-    NoEvent,
-    /// How the run is reported, by this line and those before it.
-    ConfigLine(SceneConfig),
-    /// An event.
-    EventLine(SceneEvent),
+    /// Takes the call of the line of this number, of a run in this file. The outputs of the line that are stored are
+    /// not loaded in the call.
+    fn take<'a>(
+        &mut self,
+        alloc: Global,
+        file: &'a str,
+        number: u64,
+        stored: &[PlacedOutput],
+        call: &mut ReportCall<'_>,
+    ) -> Result<(), Fault<'a>>
+        ensures { takes self.old file.now number stored.now call.old result self.new };
 }
 
-/// The lines of a scene that were read so far. A scene that comes in pieces is read with no more than one of them in
-/// memory.
-///
-/// ```
-/// let mut read = LinesRead::new(alloc);
-/// read.read_more(alloc, b"config\tfinal\tall\n# a comment")?;
-/// assert_eq!(read.next, 3);
-/// assert_eq!(read.run.config.final_status_level, FinalStatusLevel::All);
-/// ```
+/// What is known of the lines of a scene that were read so far. Their calls are not kept.
 #[derive(Drop)]
 pub struct LinesRead {
-    /// Their values, but for the events that were forgotten.
-    pub run: ParsedRun,
-    /// Whether an event was forgotten. After an event no line can configure the run.
+    /// How the run is reported.
+    pub config: SceneConfig,
+    /// Whether one of them is an event. Behind an event no line configures the run.
     pub is_begun: bool,
     /// The number of the line that follows.
     pub next: u64,
-    /// The stored outputs of the recorded line that was read last, in order. Other lines leave them as they are.
-    pub stored: Vec<PlacedOutput>,
-    // The binaries of their tests.
-    binaries: BinaryIds,
+    // Those of the last test. The next one's take their memory.
+    names: OwnedTestInstanceId,
 }
 
 impl LinesRead {
     /// No line.
     pub fn new(alloc: Global) -> LinesRead
-        ensures read { parsed_lines result.run ≡ no_lines }
-        ensures lines { result.run.lines.items ≡ [] }
+        ensures config { result.config ≡ unconfigured }
         ensures begun { result.is_begun ≡ false }
         ensures next { result.next ≡ 1 }
-        ensures stored { result.stored.items ≡ [] }
     {
         LinesRead {
-            run: ParsedRun {
-                config: SceneConfig::new(),
-                events: Vec::new(alloc),
-                lines: Vec::new(alloc),
-            },
+            config: SceneConfig::new(),
             is_begun: false,
             next: 1,
-            stored: Vec::new(alloc),
-            binaries: BinaryIds::new(alloc),
+            names: no_names(alloc),
         }
     }
 
-    /// Forgets the events that were read. The next lines are still after them.
-    pub fn forget_events(&mut self)
-        ensures config { self.new.run.config ≡ self.old.run.config }
-        ensures events { self.new.run.events.items ≡ [] }
-        ensures lines { self.new.run.lines.items ≡ [] }
-        ensures begun { self.new.is_begun ≡ is_begun_behind self.old.is_begun self.old.run.events.items }
-        ensures next { self.new.next ≡ self.old.next }
-        ensures stored { self.new.stored ≡ self.old.stored }
-    {
-        self.is_begun = is_begun_behind(self.is_begun, self.run.events.as_slice());
-        self.run.events.clear();
-        self.run.lines.clear();
-    }
-
-    /// Reads further lines from a text. A text that ends in a line feed ends in an empty line: what follows it is
-    /// another line.
-    ///
-    /// # Errors
-    ///
-    /// The first line that is wrong, or refused memory. The lines before that one are then read, and `next` is its
-    /// number.
-    pub fn read_more(&mut self, alloc: Global, text: &[u8]) -> Result<(), ReadFault>
-        ensures read { OnOk result (ReadsLines self.old self.new (text_lines text.now)) }
-        ensures left { IfErr result (LeavesLines self.old self.new (text_lines text.now)) }
-        ensures stored { self.new.stored ≡ self.old.stored }
-    {
-        let mut fields = Vec::new(alloc);
-        let mut rest = Some(text);
-        for number in self.next..u64::MAX {
-            let left = match rest {
-                Some(left) => left,
-                None => return Ok(()),
-            };
-            let (line, after) = first_line(left);
-            match self.read_line(alloc, line, &mut fields) {
-                Ok(()) => rest = after,
-                Err(error) => return Err(fault_at(number, error)),
-            }
-            self.next = number + 1;
-        }
-        // No text has that many lines.
-        Err(ReadFault::OutOfMemory)
-    }
-
-    /// Reads further lines like `read_more`. If the text is a single line, a large output in it keeps its memory and is
-    /// decoded in place.
-    ///
-    /// ```
-    /// let mut read = LinesRead::new(alloc);
-    /// read.read_owned(alloc, Vec::from_slice(alloc, b"config\tfinal\tall")?)?;
-    /// assert_eq!(read.run.config.final_status_level, FinalStatusLevel::All);
-    /// ```
-    ///
-    /// # Errors
-    ///
-    /// The errors of [`LinesRead::read_more`].
-    pub fn read_owned(&mut self, alloc: Global, text: Vec<u8>) -> Result<(), ReadFault>
-        ensures read { OnOk result (ReadsLines self.old self.new (text_lines text.items)) }
-        ensures left { IfErr result (LeavesLines self.old self.new (text_lines text.items)) }
-        ensures stored { self.new.stored ≡ self.old.stored }
-    {
-        let bytes = text.as_slice();
-        if memchr(b'\n', bytes).is_some() || self.next == u64::MAX || !has_large_field(bytes) {
-            return self.read_more(alloc, bytes);
-        }
-        let number = self.next;
-        match self.read_owned_line(alloc, text) {
-            Ok(()) => {
-                self.next = number + 1;
-                Ok(())
-            }
-            Err(error) => Err(fault_at(number, error)),
-        }
-    }
-
-    /// Reads the next line of a recorded run. Its stored outputs are then in `stored`, and are not loaded in the
-    /// event. The value is not among the lines until `push` adds it.
-    ///
-    /// A field that begins like a reference is a bad field if it is not one, or if none is allowed there.
-    ///
-    /// ```
-    /// let line = "setupdone\t-\tdb\tinit\t\tpass\t5\t0\tcomb\t\\@7:7:ee2a98c236301c76\t-\t-\t-";
-    /// let mut read = LinesRead::new(alloc);
-    /// let value = read.read_recorded(alloc, line.as_bytes())?;
-    /// assert_eq!(read.stored.as_slice()[0].field, 10);
-    /// read.push(value)?;
-    /// assert_eq!(read.run.events.len(), 1);
-    /// ```
-    ///
-    /// # Errors
-    ///
-    /// The fault of this line, or refused memory. `stored` is then empty, and the lines read before are unchanged.
-    pub fn read_recorded(&mut self, alloc: Global, line: &[u8]) -> Result<ParsedLine, ReadFault>
-        ensures value { IfOk result
-            (λ value. recorded_line (before_next self.old) line.now ≡ Ok (value, self.new.stored.items)) }
-        ensures fault { IfErr result (IsFaultOfNext self.old (recorded_line (before_next self.old) line.now)) }
-        ensures none_stored { IfErr result (λ fault. self.new.stored.items ≡ []) }
-        ensures kept { KeepsLines self.old self.new }
-    {
-        self.stored.clear();
-        match self.read_recorded_line(alloc, line) {
-            Ok(value) => Ok(value),
-            Err(error) => Err(fault_at(self.next, error)),
-        }
-    }
-
-    /// Adds the value of the next line.
-    ///
-    /// # Errors
-    ///
-    /// Memory was refused. Nothing is added.
-    pub fn push(&mut self, value: ParsedLine) -> Result<(), OutOfMemory>
-        ensures pushed { OnOk result
-            ((line : RunLine) → line_value (before_next self.old) line ≡ Ok value
-            → ReadsLines self.old self.new (line ∷ [])) }
-        ensures left { OnErr result (KeepsLines self.old self.new) }
-        ensures stored { self.new.stored ≡ self.old.stored }
-    {
-        if self.next == u64::MAX {
-            return Err(OutOfMemory);
-        }
-        self.add(value)?;
-        self.next += 1;
-        Ok(())
-    }
-
-    // Reads the line that follows, and notes its number where it is an event. The list is for its fields.
+    /// Reads the line that follows, and has the sink take its call, if it has one. What is wrong with the line leaves
+    /// the sink as it was. The list is for its fields.
     #[inline(always)]
-    #[tactic(auto, unfolding(crate::specs::SceneTexts::line_from), using(scene_fields::proofs::lemmas::Utf8::utf8_passes, scene_fields::proofs::lemmas::Utf8::utf8_fails))]
-    fn read_line<'a>(
+    pub fn pass_line<'a, 't, K: CallSink>(
         &mut self,
         alloc: Global,
-        line: &'a [u8],
-        fields: &mut Vec<&'a str>,
-    ) -> Result<(), LineError>
-        ensures read { TakesLine self.old result self.new (parsed_line (before_next self.old) line.now) }
-        ensures noted { OnOk result (NotesLine self.old self.new) }
-        ensures stored { self.new.stored ≡ self.old.stored }
+        file: &'a str,
+        line: &'t [u8],
+        texts: &mut Vec<&'t str>,
+        sink: &mut K,
+    ) -> Result<(), Fault<'a>>
+        ensures { PassesValue K.takes file.now (with_stored (line_from None (before_next self.old) line.now)) self.old
+            sink.old result self.new sink.new }
     {
         if is_passed_over(line) {
-            return Ok(());
+            return self.pass_over();
         }
         let Ok(line) = str::from_utf8(line) else {
-            return Err(LineError::Fault(LineFault::NotUtf8));
+            return Err(self.fault(LineFault::NotUtf8));
         };
-        split_fields(line, fields)?;
-        self.read_fields(alloc, &mut Fields::new(fields.as_slice()))
+        split_fields(line, texts)?;
+        self.pass_fields(alloc, file, Fields::new(texts.as_slice()), sink)
     }
 
-    // Reads the line that follows, which has its own memory, as `read_line` does.
-    #[tactic(auto, unfolding(crate::specs::SceneTexts::line_from))]
-    fn read_owned_line(&mut self, alloc: Global, line: Vec<u8>) -> Result<(), LineError>
-        ensures read { TakesLine self.old result self.new (parsed_line (before_next self.old) line.items) }
-        ensures noted { OnOk result (NotesLine self.old self.new) }
-        ensures stored { self.new.stored ≡ self.old.stored }
+    /// Reads the line that follows as `pass_line` does. It has its own memory, which a large output in it takes. Each
+    /// of its fields costs more than in `pass_line`.
+    pub fn pass_owned_line<'a, K: CallSink>(
+        &mut self,
+        alloc: Global,
+        file: &'a str,
+        line: Vec<u8>,
+        sink: &mut K,
+    ) -> Result<(), Fault<'a>>
+        ensures { PassesValue K.takes file.now (with_stored (line_from None (before_next self.old) line.items))
+            self.old sink.old result self.new sink.new }
     {
         if is_passed_over(line.as_slice()) {
-            return Ok(());
+            return self.pass_over();
         }
         let Some(line) = OwnedText::new(line) else {
-            return Err(LineError::Fault(LineFault::NotUtf8));
+            return Err(self.fault(LineFault::NotUtf8));
         };
         let mut fields = line.split_fields(alloc)?;
-        self.read_fields(alloc, &mut Fields::of_large_line(fields.as_mut_slice()))
+        self.pass_fields(
+            alloc,
+            file,
+            Fields::of_large_line(fields.as_mut_slice()),
+            sink,
+        )
     }
 
-    // Reads the recorded line that follows. The list of stored outputs is used again, which saves an allocation a line.
-    #[tactic(auto, unfolding(crate::specs::SceneTexts::line_from), using(scene_fields::proofs::lemmas::Utf8::utf8_passes, scene_fields::proofs::lemmas::Utf8::utf8_fails))]
-    fn read_recorded_line(&mut self, alloc: Global, line: &[u8]) -> Result<ParsedLine, LineError>
-        requires none_stored { self.old.stored.items ≡ [] }
-        ensures value { IfOk result
-            (λ value. recorded_line (before_next self.old) line.now ≡ Ok (value, self.new.stored.items)) }
-        ensures fault { IfErr result (λ error. Fails error (recorded_line (before_next self.old) line.now)) }
-        ensures none_stored { IfErr result (λ error. self.new.stored.items ≡ []) }
-        ensures kept { KeepsLines self.old self.new }
+    /// Reads the line that follows as `pass_line` does, where outputs may be stored: the sink gets those that are.
+    pub fn pass_recorded_line<'a, 't, K: CallSink>(
+        &mut self,
+        alloc: Global,
+        file: &'a str,
+        line: &'t [u8],
+        texts: &mut Vec<&'t str>,
+        sink: &mut K,
+    ) -> Result<(), Fault<'a>>
+        ensures { PassesValue K.takes file.now
+            (with_stored (line_from (Some none_noted) (before_next self.old) line.now)) self.old sink.old result
+            self.new sink.new }
     {
         if is_passed_over(line) {
-            return Ok(ParsedLine::NoEvent);
+            return self.pass_over();
         }
         let Ok(line) = str::from_utf8(line) else {
-            return Err(LineError::Fault(LineFault::NotUtf8));
+            return Err(self.fault(LineFault::NotUtf8));
         };
-        let Ok(mut texts) = Vec::with_capacity(alloc, FIELDS) else {
-            return Err(LineError::OutOfMemory);
-        };
-        split_fields(line, &mut texts)?;
-        let stored = mem::replace(&mut self.stored, Vec::new(alloc));
-        let mut fields = Fields::recorded(texts.as_slice(), stored);
-        let value = self.read_value(alloc, &mut fields)?;
-        self.stored = fields.into_stored(alloc);
-        Ok(value)
+        split_fields(line, texts)?;
+        let fields = Fields::recorded(texts.as_slice(), Vec::new(alloc));
+        self.pass_fields(alloc, file, fields, sink)
     }
 
-    // Reads the fields of the line that follows. What is wrong leaves the lines as they were.
+    // Reads the fields of the line that follows.
     #[inline(always)]
-    fn read_fields(&mut self, alloc: Global, fields: &mut Fields<'_>) -> Result<(), LineError>
-        ensures read { TakesLine self.old result self.new (value_of (line_words (before_next self.old) fields.old)) }
-        ensures noted { OnOk result (NotesLine self.old self.new) }
-        ensures stored { self.new.stored ≡ self.old.stored }
+    fn pass_fields<'a, K: CallSink>(
+        &mut self,
+        alloc: Global,
+        file: &'a str,
+        fields: Fields<'_>,
+        sink: &mut K,
+    ) -> Result<(), Fault<'a>>
+        ensures { PassesValue K.takes file.now (with_stored (line_words (before_next self.old) fields.entry)) self.old
+            sink.old result self.new sink.new }
     {
-        let value = self.read_value(alloc, fields)?;
-        self.add(value)?;
+        let mut fields = fields;
+        let word = match fields.take() {
+            Ok(word) => word,
+            Err(fault) => return Err(self.fault(fault)),
+        };
+        match word {
+            "done" => self.pass_done(alloc, file, fields, sink),
+            "config" => match self.read_config_line(&mut fields) {
+                Ok(()) => self.pass_over(),
+                Err(fault) => Err(self.fault(fault)),
+            },
+            word => self.pass_other(alloc, file, word, fields, sink),
+        }
+    }
+
+    // Reads how the run is reported, which no event may precede.
+    fn read_config_line(&mut self, fields: &mut Fields<'_>) -> Result<(), LineFault>
+        ensures config { config_words (before_next self.old) fields.old
+            ≡ answered (with_config self.new.config result) fields.new }
+        ensures begun { self.new.is_begun ≡ self.old.is_begun }
+        ensures next { self.new.next ≡ self.old.next }
+    {
+        if self.is_begun {
+            return Err(LineFault::ConfigAfterEvent);
+        }
+        fields.exactly(2)?;
+        self.config = read_config(fields, self.config)?;
         Ok(())
     }
 
-    // The value of the line that follows, which has these fields.
-    #[inline(always)]
-    fn read_value(
+    // Reads a `done` line. Not inlined, like the next one: the compiler zeroes all locals of a function at its entry,
+    // used or not.
+    #[inline(never)]
+    fn pass_done<'a, K: CallSink>(
         &mut self,
         alloc: Global,
-        fields: &mut Fields<'_>,
-    ) -> Result<ParsedLine, LineError>
-        ensures value { Gives (λ value. value) fields.old result fields.new (line_words (before_next self.old)) }
-        ensures kept { KeepsLines self.old self.new }
-        ensures stored { self.new.stored ≡ self.old.stored }
+        file: &'a str,
+        fields: Fields<'_>,
+        sink: &mut K,
+    ) -> Result<(), Fault<'a>>
+        ensures { PassesValue K.takes file.now (with_stored (event_word (codes "done") fields.entry)) self.old
+            sink.old result self.new sink.new }
     {
-        match fields.take()? {
-            "config" if is_begun_behind(self.is_begun, self.run.events.as_slice()) => Err(
-                LineError::Fault(LineFault::ConfigAfterEvent),
-            ),
-            "config" => {
-                fields.exactly(2)?;
-                Ok(ParsedLine::ConfigLine(read_config(fields, self.run.config)?))
-            }
-            word => {
-                let event = read_event(alloc, &mut self.binaries, word, fields)?;
-                Ok(ParsedLine::EventLine(event))
-            }
-        }
+        self.pass_call(alloc, file, "done", fields, sink)
     }
 
-    // Adds the value of the line that follows, and notes the number of that line where it is an event.
-    #[inline(always)]
-    #[tactic(auto, using(std::proofs::lemmas::Bool::Decides::nat_tests))]
-    fn add(&mut self, value: ParsedLine) -> Result<(), OutOfMemory>
-        ensures added { OnOk result (parsed_lines self.new.run ≡ with_line (parsed_lines self.old.run) value) }
-        ensures noted { OnOk result (NotesLine self.old self.new) }
-        ensures left { OnErr result (KeepsLines self.old self.new) }
-        ensures begun { self.new.is_begun ≡ self.old.is_begun }
-        ensures next { self.new.next ≡ self.old.next }
-        ensures stored { self.new.stored ≡ self.old.stored }
+    // Reads the line of another event.
+    #[inline(never)]
+    fn pass_other<'a, K: CallSink>(
+        &mut self,
+        alloc: Global,
+        file: &'a str,
+        word: &str,
+        fields: Fields<'_>,
+        sink: &mut K,
+    ) -> Result<(), Fault<'a>>
+        ensures { PassesValue K.takes file.now (with_stored (event_word word.now fields.entry)) self.old sink.old
+            result self.new sink.new }
     {
-        match value {
-            ParsedLine::NoEvent => Ok(()),
-            ParsedLine::ConfigLine(config) => {
-                self.run.config = config;
-                Ok(())
+        self.pass_call(alloc, file, word, fields, sink)
+    }
+
+    // Reads the fields behind the word of an event. Its call is large: it is made here, and lent.
+    #[inline(always)]
+    fn pass_call<'a, K: CallSink>(
+        &mut self,
+        alloc: Global,
+        file: &'a str,
+        word: &str,
+        fields: Fields<'_>,
+        sink: &mut K,
+    ) -> Result<(), Fault<'a>>
+        ensures { PassesValue K.takes file.now (with_stored (event_word word.now fields.entry)) self.old sink.old
+            result self.new sink.new }
+    {
+        let mut fields = fields;
+        let number = self.next;
+        // No text has that many lines.
+        let next = number.checked_add(1).ok_or(Fault::OutOfMemory)?;
+        match read_event(alloc, &mut self.names, word, &mut fields) {
+            Ok(call) => {
+                let stored = fields.into_stored(alloc);
+                lend(alloc, file, number, stored.as_slice(), call, sink)?;
             }
-            ParsedLine::EventLine(event) => self.run.push(event, self.next),
+            Err(error) => return Err(fault_at(number, error)),
+        }
+        self.is_begun = true;
+        self.next = next;
+        Ok(())
+    }
+
+    // A line more was read. No text has more than the number can hold.
+    #[inline(always)]
+    fn pass_over(&mut self) -> Result<(), Fault<'static>>
+        ensures before { before_next self.new ≡ before_next self.old }
+        ensures next { OnOk result (self.new.next ≡ self.old.next + 1) }
+        ensures err { IfErr result (λ fault. fault ≡ Fault.OutOfMemory) }
+    {
+        self.next = self.next.checked_add(1).ok_or(Fault::OutOfMemory)?;
+        Ok(())
+    }
+
+    // The fault of the line that follows.
+    fn fault(&self, fault: LineFault) -> Fault<'static>
+        ensures { result ≡ Fault.Line self.now.next fault }
+    {
+        Fault::Line {
+            line: self.next,
+            fault,
         }
     }
 }
 
-// Whether an event was forgotten, or is among these.
-fn is_begun_behind(is_begun: bool, events: &[SceneEvent]) -> bool
-    ensures { result ≡ is_begun_behind is_begun events.now }
+/// The call of a line that was read before, if it has one. These were the names of its test.
+///
+/// # Errors
+///
+/// What is wrong with the line, or refused memory.
+pub fn read_call<'n>(
+    alloc: Global,
+    names: Option<&'n OwnedTestInstanceId>,
+    line: &[u8],
+) -> Result<Option<ReportCall<'n>>, LineError>
+    ensures { (before : LinesBefore) → IsReadAgain (parsed_line before line.now) result }
 {
-    is_begun || !events.is_empty()
+    if is_passed_over(line) {
+        return Ok(None);
+    }
+    let Ok(line) = str::from_utf8(line) else {
+        return Err(LineError::Fault(LineFault::NotUtf8));
+    };
+    let mut texts = Vec::new(alloc);
+    split_fields(line, &mut texts)?;
+    read_words(alloc, names, Fields::new(texts.as_slice()))
+}
+
+// The call that all fields of a line say, if they say one.
+fn read_words<'n>(
+    alloc: Global,
+    names: Option<&'n OwnedTestInstanceId>,
+    fields: Fields<'_>,
+) -> Result<Option<ReportCall<'n>>, LineError>
+    ensures { (before : LinesBefore) → IsReadAgain (value_of (line_words before fields.entry)) result }
+{
+    let mut fields = fields;
+    match fields.take()? {
+        "config" => Ok(None),
+        word => Ok(Some(read_event(alloc, names, word, &mut fields)?)),
+    }
+}
+
+// Lends a call to the sink. It is let go here: each of its kinds is a branch of the function that drops it.
+#[inline(always)]
+fn lend<'a, K: CallSink>(
+    alloc: Global,
+    file: &'a str,
+    number: u64,
+    stored: &[PlacedOutput],
+    mut call: ReportCall<'_>,
+    sink: &mut K,
+) -> Result<(), Fault<'a>>
+    ensures { K.takes sink.old file.now number stored.now call.entry result sink.new }
+{
+    sink.take(alloc, file, number, stored, &mut call)
 }
 
 // The fault of a scene whose line of this number cannot be read.
-fn fault_at(line: u64, error: LineError) -> ReadFault
+fn fault_at(line: u64, error: LineError) -> Fault<'static>
     ensures { result ≡ fault_at line error }
 {
     match error {
-        LineError::Fault(fault) => ReadFault::Line { line, fault },
-        LineError::OutOfMemory => ReadFault::OutOfMemory,
+        LineError::Fault(fault) => Fault::Line { line, fault },
+        LineError::OutOfMemory => Fault::OutOfMemory,
     }
 }
 
@@ -365,8 +347,9 @@ fn is_passed_over(line: &[u8]) -> bool
     matches!(line, [] | [b'#', ..])
 }
 
-// Whether a block of half that size has no tab, as each field of that size has one.
-fn has_large_field(line: &[u8]) -> bool {
-    line.chunks_exact(LARGE / 2)
-        .any(|block| memchr(b'\t', block).is_none())
+/// Whether a line says how the run is reported, or nothing.
+pub fn is_configuration(line: &[u8]) -> bool
+    ensures { result ≡ is_configuration line.now }
+{
+    is_passed_over(line) || line == b"config".as_slice() || line.starts_with(b"config\t")
 }

@@ -4,15 +4,16 @@ use Rattle.std.specs.Prelude.{ℕ, List, length, if◌then◌else◌, Some, ◌=
 use Rattle.{std.specs.Option.option_flatten, uuid.specs.Text.parsed, scene_run_lines.specs.Parts.progress_in}
 use Rattle.{scene_run_lines.specs.Parts.moment_in, scene_fields.specs.Lists.instances_in}
 use Rattle.{scene_fields.specs.declared.values.ConfigKey.ConfigKey}
-use Rattle.run_model.specs.Names.{final_stats_of, UniquePrefix, NotSeen}
+use Rattle.run_model.specs.Names.{final_stats_of, planned_stats, CancelReason, UniquePrefix, NotSeen}
+use Rattle.run_model.specs.declared.{event.TestEventKind.TestEventKind, stats.RunStats.RunStats}
 use Rattle.run_model.specs.declared.stats.RunFinishedStats.TheVariants.{Single, Stress}
-use Rattle.scene_events.specs.declared.scene.{SceneConfig.SceneConfig, event.SceneEvent.SceneEvent}
-use Rattle.scene_events.specs.declared.scene.{run_events.RunCancel.RunCancel, run_events.RunPause.RunPause}
+use Rattle.{scene_run_lines.specs.declared.config.SceneConfig.SceneConfig}
+use Rattle.scene_fields.specs.Calls.{event_at, HeaderCall, PrefixCall, SceneEvent}
 use Rattle.scene_fields.specs.{Counts.stats_in, Counts.skips_in, Texts.text_in, Numbers.nanos_in, Numbers.number_in}
 use Rattle.scene_fields.specs.Fields.{◌>>=◌, Line, field, next, says, valued}
 use Rattle.scene_fields.specs.Values.{absent_in, config_key_in, display_in, final_level_in, flag_in, mode_in}
 use Rattle.scene_fields.specs.Values.{reason_or_none_in, stress_in}
-use Rattle.scene_events.specs.declared.scene.event.SceneEvent.TheVariants as event
+use Rattle.run_model.specs.declared.event.TestEventKind.TheVariants as event
 use Rattle.scene_fields.specs.declared.values.ConfigKey.TheVariants as key
 
 -- what is made of the value of fields
@@ -27,7 +28,7 @@ info_line_fields = do
   elapsed ← field nanos_in
   total ← field (number_in 64)
   stats ← field stats_in
-  says (event.InfoStarted (record { elapsed = elapsed; current_stats = stats; running = total }))
+  says (event_at elapsed.0 (event.InfoStarted total stats))
 
 -- `run`: run id, profile, how many tests and binaries, and what is skipped
 abbrev pub run_line_fields : Line SceneEvent
@@ -37,26 +38,54 @@ run_line_fields = do
   tests ← field (number_in 64)
   binaries ← field (number_in 64)
   skips ← field skips_in
-  says (event.RunStarted (record {
-    run_id = run_id;
-    profile_name = profile;
-    test_list = record { run_count = tests; listed_binary_count = binaries; skip_counts = skips };
-  }))
+  says (event_at 0 (event.RunStarted (record {
+    run_count = tests;
+    listed_binary_count = binaries;
+    skip_counts = skips;
+  }) run_id profile))
+
+-- `substart`: how far the stress run has come
+abbrev pub sub_start_line_fields : Line SceneEvent
+sub_start_line_fields = do
+  progress ← field progress_in
+  says (event_at 0 (event.StressSubRunStarted progress))
+
+-- statistics that count nothing, with this reason
+abbrev pub nothing_counted : Option CancelReason → RunStats
+nothing_counted reason = record (planned_stats 0) { cancel_reason = reason }
 
 -- `cancel` and `kill`: how many setup scripts and tests run, and the reason
-abbrev pub cancel_line_fields : Line RunCancel
-cancel_line_fields = do
+abbrev pub stop_line_fields : (ℕ → RunStats → ℕ → TestEventKind) → Line SceneEvent
+stop_line_fields kind = do
   scripts ← field (number_in 64)
   tests ← field (number_in 64)
   reason ← field reason_or_none_in
-  says (record { setup_scripts_running = scripts; running = tests; reason = reason })
+  says (event_at 0 (kind scripts (nothing_counted reason) tests))
+
+abbrev pub cancel_line_fields : Line SceneEvent
+cancel_line_fields = stop_line_fields event.RunBeginCancel
+
+abbrev pub kill_line_fields : Line SceneEvent
+kill_line_fields = stop_line_fields event.RunBeginKill
 
 -- `pause` and `continue`: how many setup scripts and tests run
-abbrev pub pause_line_fields : Line RunPause
-pause_line_fields = do
+abbrev pub running_line_fields : (ℕ → ℕ → TestEventKind) → Line SceneEvent
+running_line_fields kind = do
   scripts ← field (number_in 64)
   tests ← field (number_in 64)
-  says (record { setup_scripts_running = scripts; running = tests })
+  says (event_at 0 (kind scripts tests))
+
+abbrev pub pause_line_fields : Line SceneEvent
+pause_line_fields = running_line_fields event.RunPaused
+
+abbrev pub continue_line_fields : Line SceneEvent
+continue_line_fields = running_line_fields event.RunContinued
+
+-- `infoend`: how many units have not responded
+abbrev pub info_end_line_fields : Line SceneEvent
+info_end_line_fields = do
+  missing ← field (number_in 64)
+  says (event_at 0 (event.InfoFinished missing))
 
 -- `input`: how long the run has taken, statistics, and how many units run
 abbrev pub input_line_fields : Line SceneEvent
@@ -64,7 +93,7 @@ input_line_fields = do
   elapsed ← field nanos_in
   stats ← field stats_in
   running ← field (number_in 64)
-  says (event.InputEnter (record { elapsed = elapsed; current_stats = stats; running = running }))
+  says (event_at elapsed.0 (event.InputEnter stats running))
 
 -- how many tests were not seen, and those of them that are listed; where some were, or some are listed
 abbrev pub not_seen_fields : Line (Option NotSeen)
@@ -82,7 +111,7 @@ end_line_fields = do
   elapsed ← field nanos_in
   stats ← field stats_in
   not_seen ← not_seen_fields
-  says (event.RunFinished (record { elapsed = elapsed; run_stats = Single stats; outstanding_not_seen = not_seen }))
+  says (event_at 0 (event.RunFinished elapsed (Single stats) not_seen))
 
 -- `subend`: how far the stress run has come, how long the iteration took, and its statistics
 abbrev pub sub_end_line_fields : Line SceneEvent
@@ -90,7 +119,7 @@ sub_end_line_fields = do
   progress ← field progress_in
   elapsed ← field nanos_in
   stats ← field stats_in
-  says (event.StressSubRunFinished (record { progress = progress; sub_elapsed = elapsed; sub_stats = stats }))
+  says (event_at 0 (event.StressSubRunFinished progress elapsed stats))
 
 -- `endstress`: how long the run took, how many iterations have finished, succeeded and failed, the statistics of the
 -- last one, and the tests that were not seen
@@ -102,23 +131,19 @@ end_stress_line_fields = do
   failed ← field (number_in 32)
   stats ← field stats_in
   outstanding ← not_seen_fields
-  says (event.RunFinished (record {
-    elapsed = elapsed;
-    run_stats = Stress (record {
-      completed = completed;
-      success_count = succeeded;
-      failed_count = failed;
-      last_final_stats = final_stats_of stats;
-    });
-    outstanding_not_seen = outstanding;
-  }))
+  says (event_at 0 (event.RunFinished elapsed (Stress (record {
+    completed = completed;
+    success_count = succeeded;
+    failed_count = failed;
+    last_final_stats = final_stats_of stats;
+  })) outstanding))
 
 -- `prefix`: the part of the run's id that no other run has, and the rest
 abbrev pub prefix_line_fields : Line SceneEvent
 prefix_line_fields = do
   prefix ← field text_in
   rest ← field text_in
-  says (event.Prefix (record { prefix = prefix; rest = rest }))
+  says (PrefixCall (record { prefix = prefix; rest = rest }))
 
 -- a text, where `-` is a bad field
 abbrev pub some_text_in : List ℕ → Option (List ℕ)
@@ -141,7 +166,7 @@ header_line_fields = do
   unique_prefix ← unique_prefix_fields
   started_at ← field moment_in
   status ← field text_in
-  says (event.Header (record {
+  says (HeaderCall (record {
     run_id = run_id;
     unique_prefix = unique_prefix;
     started_at = started_at;

@@ -4,7 +4,8 @@ use Rattle.std.specs.Prelude.{codes, bytes_eq}
 use Rattle.{std.specs.Int.is_in_range, std.specs.Option.option_and_then, std.specs.Option.option_map}
 use Rattle.{jiff_core.specs.Calendar.days_in_month}
 use Rattle.run_model.specs.Names.{StressCount, StressProgress, Nanos}
-use Rattle.{scene_events.specs.Moments.Clock, scene_events.specs.Moments.Day, scene_events.specs.Moments.Moment}
+use Rattle.jiff_core.specs.declared.civil.{date.Date.Date, time.Time.Time}
+use Rattle.scene_fields.specs.Calls.{Clock, Day, Moment}
 use Rattle.{scene_fields.specs.Split.cut, scene_fields.specs.Values.total_in}
 use Rattle.scene_fields.specs.Numbers.{code_in, nanos_in, number_in}
 use Rattle.run_names.specs.declared.stress.StressCount.TheVariants as count
@@ -38,6 +39,13 @@ progress_in t = do
   elapsed ← nanos_in cut_3.0
   completed ← number_in 32 cut_3.1
   progress_of cut_1.0 cut_2.0 elapsed completed
+
+-- the numbers of a date and of a time, whose part of a second is left out
+abbrev pub day_of : Date → Day
+day_of d = record { year = d.year; month = d.month; day = d.day }
+
+abbrev pub clock_of : Time → Clock
+clock_of t = record { hour = t.hour; minute = t.minute; second = t.second }
 
 -- the calendar has this day, in a year from -9999 to 9999
 abbrev pub is_day : Day → Bool

@@ -4,5 +4,6 @@
 //! scripts, nothing is known here.
 #![tactic(auto)]
 
+pub mod config;
 pub mod lines;
 pub mod parts;

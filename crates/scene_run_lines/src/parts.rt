@@ -1,13 +1,13 @@
 //! Values in one field with parts, separated by colons or commas: the progress of a stress run, and a date with a time
 //! of day.
 
-ghost use Rattle.scene_run_lines.specs.Parts.{checked_clock, checked_day, moment_in, progress_in, stress_count_in};
+ghost use Rattle.scene_run_lines.specs.Parts.{checked_clock, checked_day, clock_of, day_of, moment_in, progress_in};
+ghost use Rattle.scene_run_lines.specs.Parts.{stress_count_in};
 ghost use Rattle.std.specs.Prelude.{◌≡◌};
-ghost use Rattle.{std.specs.Option.option_map, scene_events.specs.Moments.clock_of, scene_events.specs.Moments.day_of};
+ghost use Rattle.{std.specs.Option.option_map, scene_fields.specs.Calls.moment_of};
 
-use jiff::civil::{Date, Time};
+use jiff::civil::{Date, DateTime, Time};
 use run_model::stress::{StressCount, StressProgress};
-use scene_events::scene::run_events::SceneMoment;
 use scene_fields::numbers::{read_code, read_nanos, read_small_count};
 use scene_fields::split::split_at_byte;
 use scene_fields::values::read_total;
@@ -56,8 +56,8 @@ fn read_stress_count(text: &str) -> Option<StressCount>
 /// assert!(read_moment("-5,2,28,7,5,9").is_some());
 /// assert!(read_moment("2023,2,29,7,5,9").is_none()); // there is no such day
 /// ```
-pub fn read_moment(field: &str) -> Option<SceneMoment>
-    ensures { result ≡ moment_in field.now }
+pub fn read_moment(field: &str) -> Option<DateTime>
+    ensures { option_map moment_of result ≡ moment_in field.now }
 {
     let (year, rest) = split_at_byte(field, b',')?;
     let (month, rest) = split_at_byte(rest, b',')?;
@@ -74,7 +74,7 @@ pub fn read_moment(field: &str) -> Option<SceneMoment>
         read_small_count(minute)?,
         read_small_count(second)?,
     )?;
-    Some(SceneMoment::new(date, time))
+    Some(DateTime::from_parts(date, time))
 }
 
 // The day that has these numbers.

@@ -2,27 +2,30 @@
 use Rattle.std.specs.Prelude.{ℕ, zero, suc, ◌+◌, ◌/◌, ◌^◌, List, [], ◌∷◌, ◌++◌, length, if◌then◌else◌, nat_lt, Some}
 use Rattle.std.specs.Prelude.{Err, Option, None, codes, bytes_eq, ◌≡◌, Bool, true, false, Ok}
 use Rattle.{std.specs.Option.option_map, run_model.specs.Names.Attempt, run_model.specs.Names.Attempts}
-use Rattle.{scene_events.specs.SceneOutputs.written, scene_events.specs.SceneOutputs.no_output}
+use Rattle.{run_model.specs.Names.Written, run_model.specs.Names.silent_output}
 use Rattle.run_model.specs.declared.{info.UnitState.UnitState, output.ChildOutputDescription.ChildOutputDescription}
 use Rattle.run_model.specs.declared.{output.LiveSpec.LiveSpec}
-use Rattle.run_model.specs.declared.{status.ExecutionResultDescription.ExecutionResultDescription}
-use Rattle.run_model.specs.declared.{status.FlakyResult.FlakyResult, status.RetryData.RetryData}
-use Rattle.scene_events.specs.declared.scene.{event.SceneEvent.SceneEvent, unit_events.SceneScript.SceneScript}
-use Rattle.scene_events.specs.declared.scene.{unit_events.SceneTest.SceneTest, unit_events.UnitAnswer.UnitAnswer}
-use Rattle.scene_events.specs.declared.scene.outputs.SceneOutput.{SceneOutput, TheVariants.Output}
-use Rattle.scene_events.specs.declared.scene.outputs.SceneOutput.{TheVariants.StartError}
-use Rattle.scene_fields.specs.{Counts.stats_in, Results.result_in, Texts.text_in, Texts.bytes_in, Numbers.nanos_in}
-use Rattle.scene_fields.specs.{Numbers.number_in, declared.stored.StoredOutput.StoredOutput}
+use Rattle.run_model.specs.declared.status.{ExecutionResultDescription.ExecutionResultDescription}
+use Rattle.run_model.specs.declared.status.{FlakyResult.FlakyResult, RetryData.RetryData}
+use Rattle.run_model.specs.declared.status.{SetupScriptExecuteStatus.SetupScriptExecuteStatus}
+use Rattle.run_names.specs.declared.name.TestInstanceId.{TestInstanceId}
+use Rattle.scene_fields.specs.{Calls.event_at, Calls.test_named, Calls.SceneEvent, Counts.stats_in, Results.result_in}
+use Rattle.scene_fields.specs.{Texts.text_in}
+use Rattle.scene_fields.specs.{Texts.bytes_in, Numbers.nanos_in, Numbers.number_in}
+use Rattle.scene_fields.specs.{declared.stored.StoredOutput.StoredOutput}
 use Rattle.scene_fields.specs.Fields.{◌>>=◌, Line, says, field, Place, next, next_stored, noting, valued}
 use Rattle.scene_fields.specs.{Lists.words_of, Lists.chain_in, Lists.errors_in, Values.absent_in, Values.display_in}
 use Rattle.scene_fields.specs.{Values.flag_in, Values.flaky_in, Values.stress_in}
 use Rattle.{scene_fields.specs.declared.fault.LineFault.TheVariants.WrongNumberOfFields}
 use Rattle.{scene_unit_lines.specs.Parts.state_in, scene_unit_lines.specs.Parts.state_with}
 use Rattle.{scene_unit_lines.specs.Parts.result_or_none_in, scene_unit_lines.specs.Parts.highlight_in}
+use Rattle.scene_unit_lines.specs.declared.lines.{Answer.Answer, Script.Script}
+use Rattle.run_model.specs.declared.output.ChildExecutionOutputDescription.TheVariants as wrote
 use Rattle.run_model.specs.declared.output.ChildOutputDescription.TheVariants as streams
-use Rattle.scene_events.specs.declared.scene.event.SceneEvent.TheVariants as event
+use Rattle.run_model.specs.declared.event.TestEventKind.TheVariants as event
+use Rattle.run_model.specs.declared.info.InfoResponse.TheVariants as response
 
--- the value of the fields after a word, by the first row with this word, or by `otherwise` if there is none
+-- the value of the fields behind a word, by the first of these rows that has it, or else so
 abbrev pub by_row : {X : Type 0} → Line X → List (List ℕ × Line X) → List ℕ → Line X
 by_row otherwise [] word = otherwise
 by_row otherwise (row ∷ rows) word = if bytes_eq word row.0 then row.1 else by_row otherwise rows word
@@ -32,71 +35,73 @@ abbrev pub stream_in : List ℕ → Option (Option (List ℕ))
 stream_in t = if bytes_eq t (codes "-") then Some None else option_map (λ bytes. Some bytes) (bytes_in t)
 
 -- errors and a highlight, after the streams
-unfoldable pub after_streams : ChildOutputDescription → Line SceneOutput
-after_streams output = do
+unfoldable pub after_streams : Option ExecutionResultDescription → ChildOutputDescription → Line Written
+after_streams result output = do
   errors ← field errors_in
   highlight ← field highlight_in
-  says (Output output errors highlight)
+  says (wrote.Output result output errors highlight)
 
 -- each stream by itself
-abbrev pub split_fields : Line SceneOutput
-split_fields = do
+abbrev pub split_fields : Option ExecutionResultDescription → Line Written
+split_fields result = do
   stdout ← field stream_in
   stderr ← field stream_in
-  after_streams (streams.Split stdout stderr)
+  after_streams result (streams.Split stdout stderr)
 
 -- both streams together
-abbrev pub combined_fields : Line SceneOutput
-combined_fields = do
+abbrev pub combined_fields : Option ExecutionResultDescription → Line Written
+combined_fields result = do
   output ← field bytes_in
   none ← field absent_in
-  after_streams (streams.Combined output)
+  after_streams result (streams.Combined output)
 
 -- what was captured was left unread
-abbrev pub unloaded_fields : Line SceneOutput
-unloaded_fields = do
+abbrev pub unloaded_fields : Option ExecutionResultDescription → Line Written
+unloaded_fields result = do
   first ← field absent_in
   second ← field absent_in
-  after_streams streams.NotLoaded
+  after_streams result streams.NotLoaded
 
 -- the process could not be started
-abbrev pub start_error_fields : Line SceneOutput
+abbrev pub start_error_fields : Line Written
 start_error_fields = do
   error ← field chain_in
   second ← field absent_in
   errors ← field absent_in
   highlight ← field absent_in
-  says (StartError error)
+  says (wrote.StartError error)
 
 -- an output as its fields spell it: its form, what that takes first and second, errors, and a highlight
-unfoldable pub spelled_output_fields : Line SceneOutput
-spelled_output_fields = do
+unfoldable pub spelled_output_fields : Option ExecutionResultDescription → Line Written
+spelled_output_fields result = do
   form ← next
   by_row (valued None)
-      ((codes "split", split_fields) ∷ (codes "comb", combined_fields) ∷ (codes "unloaded", unloaded_fields)
-      ∷ (codes "start", start_error_fields) ∷ [])
-      form
+      ((codes "split", split_fields result) ∷ (codes "comb", combined_fields result)
+      ∷ (codes "unloaded", unloaded_fields result)
+      ∷ (codes "start", start_error_fields) ∷ []) form
 
 -- an output that is stored and left unread: its form, its streams, errors, and a highlight
-unfoldable pub stored_output_fields : Line SceneOutput
-stored_output_fields = do
+unfoldable pub stored_output_fields : Option ExecutionResultDescription → Line Written
+stored_output_fields result = do
   form ← next
   first ← next
   second ← next
-  after_streams streams.NotLoaded
+  after_streams result streams.NotLoaded
 
-abbrev pub output_fields_of : Option StoredOutput → Line SceneOutput
-output_fields_of None = spelled_output_fields
-output_fields_of (Some output) = stored_output_fields
+abbrev pub output_fields_of : Option ExecutionResultDescription → Option StoredOutput → Line Written
+output_fields_of result None = spelled_output_fields result
+output_fields_of result (Some output) = stored_output_fields result
 
--- an output, which is noted: one that is stored, or what its fields spell
-unfoldable pub output_fields : Line SceneOutput
-output_fields p = output_fields_of (next_stored p) (noting (next_stored p) p)
+-- what a unit wrote that ended so, which is noted: an output that is stored, or what its fields spell
+unfoldable pub output_fields : Option ExecutionResultDescription → Line Written
+output_fields result p = output_fields_of result (next_stored p) (noting (next_stored p) p)
 
 -- the form and the streams of a stored output were taken, or none was; it is noted, and what is left of it follows
 abbrev pub TakesStoredOutput : Bool → Place → Place → Type 0
-TakesStoredOutput true old new = output_fields old ≡ after_streams streams.NotLoaded new
-TakesStoredOutput false old new = output_fields old ≡ spelled_output_fields new
+TakesStoredOutput true old new = (result : Option ExecutionResultDescription)
+    → output_fields result old ≡ after_streams result streams.NotLoaded new
+TakesStoredOutput false old new = (result : Option ExecutionResultDescription)
+    → output_fields result old ≡ spelled_output_fields result new
 
 -- both streams were captured and hold nothing, and there is nothing else
 abbrev pub empty_output_fields : List (List ℕ)
@@ -104,16 +109,16 @@ empty_output_fields = codes "split" ∷ [] ∷ [] ∷ codes "-" ∷ codes "-" �
 
 -- the fields of such an output were taken, or none was
 abbrev pub TakesEmptyOutput : Bool → Place → Place → Type 0
-TakesEmptyOutput true old new = output_fields old ≡ Ok (no_output, new)
+TakesEmptyOutput true old new = (result : Option ExecutionResultDescription)
+    → output_fields result old ≡ Ok (wrote.Output result silent_output None None, new)
 TakesEmptyOutput false old new = new ≡ old
 
--- which test it is: iteration, binary and name
-unfoldable pub test_fields : Line SceneTest
-test_fields = do
-  stress_index ← field stress_in
+-- which test it is: binary and name
+unfoldable pub instance_fields : Line TestInstanceId
+instance_fields = do
   binary_id ← field text_in
   test_name ← field text_in
-  says (record { stress_index = stress_index; binary_id = binary_id; test_name = test_name })
+  says (test_named binary_id test_name)
 
 -- which attempt it is, and how many there can be
 unfoldable pub retry_fields : Line RetryData
@@ -128,10 +133,10 @@ attempt_fields retry_data = do
   result ← field result_in
   time_taken ← field nanos_in
   is_slow ← field flag_in
-  output ← output_fields
+  output ← output_fields (Some result)
   says (record {
     retry_data = retry_data;
-    output = written (Some result) output;
+    output = output;
     result = result;
     time_taken = time_taken;
     is_slow = is_slow;
@@ -145,7 +150,7 @@ retry_numbered total number = record { attempt = number; total_attempts = total 
 abbrev pub attempt_number : ℕ → Line ℕ
 attempt_number n = λ p. if nat_lt n (2 ^ 32) then says n p else Err WrongNumberOfFields
 
--- n more attempts, after `earlier` and `last`; the first of them has this number
+-- n more attempts after these, the first of which has this number
 unfoldable pub attempts_from : FlakyResult → ℕ → ℕ → ℕ → List Attempt → Attempt
     → Line (Attempts LiveSpec ChildOutputDescription)
 attempts_from flaky total number zero earlier last = says (record {
@@ -158,7 +163,7 @@ attempts_from flaky total number (suc more) earlier last = do
   next ← attempt_fields (retry_numbered total attempt)
   attempts_from flaky total (number + 1) more (earlier ++ last ∷ []) next
 
--- the attempts after the first one, up to the end of the line, eight fields each
+-- attempts behind the first one, up to the end of the line, eight fields each
 abbrev pub attempts_behind : FlakyResult → ℕ → Attempt → Line (Attempts LiveSpec ChildOutputDescription)
 attempts_behind flaky total first p = attempts_from flaky total 2 (length p.left / 8) [] first p
 
@@ -171,69 +176,65 @@ all_attempts flaky total = do
 -- `start`: the test, statistics, and the command
 abbrev pub start_line_fields : Line SceneEvent
 start_line_fields = do
-  test ← test_fields
+  stress_index ← field stress_in
+  test ← instance_fields
   stats ← field stats_in
   command ← field words_of
-  says (event.TestStarted (record { test = test; current_stats = stats; command_line = command }))
+  says (event_at 0 (event.TestStarted stress_index test stats command))
 
 -- `retrystart`: the test, the attempt, and the command
 abbrev pub retry_start_line_fields : Line SceneEvent
 retry_start_line_fields = do
-  test ← test_fields
+  stress_index ← field stress_in
+  test ← instance_fields
   retry_data ← retry_fields
   command ← field words_of
-  says (event.TestRetryStarted (record { test = test; retry_data = retry_data; command_line = command }))
+  says (event_at 0 (event.TestRetryStarted stress_index test retry_data command))
 
 -- `slow`: the test, the attempt, how long it has taken, and whether it is ended
 abbrev pub slow_line_fields : Line SceneEvent
 slow_line_fields = do
-  test ← test_fields
+  stress_index ← field stress_in
+  test ← instance_fields
   retry_data ← retry_fields
   elapsed ← field nanos_in
   will_terminate ← field flag_in
-  says (event.TestSlow (record {
-    elapsed = elapsed;
-    test = test;
-    retry_data = retry_data;
-    will_terminate = will_terminate;
-  }))
+  says (event_at 0 (event.TestSlow stress_index test retry_data elapsed will_terminate))
 
 -- `retry`: the test, which attempt failed, how long the next one waits, when the output is shown, and the attempt
 abbrev pub retry_line_fields : Line SceneEvent
 retry_line_fields = do
-  test ← test_fields
+  stress_index ← field stress_in
+  test ← instance_fields
   retry_data ← retry_fields
   delay ← field nanos_in
   on_failure ← field display_in
   attempt ← attempt_fields retry_data
-  says (event.TestAttemptFailedWillRetry (record {
-    attempt = attempt;
-    delay_before_next_attempt = delay;
-    test = test;
-    failure_output = on_failure;
-  }))
+  says (event_at 0 (event.TestAttemptFailedWillRetry stress_index test attempt delay on_failure))
 
 -- `done`: the test, when its output is shown, what a flaky test counts as, statistics, how many attempts
 -- there can be, and the attempts
 abbrev pub done_line_fields : Line SceneEvent
 done_line_fields = do
-  test ← test_fields
+  stress_index ← field stress_in
+  test ← instance_fields
   on_success ← field display_in
   on_failure ← field display_in
   flaky ← field flaky_in
   stats ← field stats_in
   total ← field (number_in 32)
   attempts ← all_attempts flaky total
-  says (event.TestFinished (record {
-    attempts = attempts;
-    current_stats = stats;
-    test = test;
-    success_output = on_success;
-    failure_output = on_failure;
-  }))
+  says (event_at 0 (event.TestFinished stress_index test on_success on_failure attempts stats))
+
+-- `skip`: the test
+abbrev pub skip_line_fields : Line SceneEvent
+skip_line_fields = do
+  stress_index ← field stress_in
+  test ← instance_fields
+  says (event_at 0 (event.TestSkipped stress_index test))
 
 -- which script it is: its id, the program, and the program's arguments
-unfoldable pub script_fields : Line SceneScript
+unfoldable pub script_fields : Line Script
 script_fields = do
   script_id ← field text_in
   program ← field text_in
@@ -247,12 +248,7 @@ setup_line_fields = do
   index ← field (number_in 64)
   total ← field (number_in 64)
   script ← script_fields
-  says (event.SetupScriptStarted (record {
-    stress_index = stress_index;
-    index = index;
-    total = total;
-    script = script;
-  }))
+  says (event_at 0 (event.SetupScriptStarted stress_index index total script.script_id script.program script.args))
 
 -- `setupslow`: the iteration, the script, how long it has taken, and whether it is ended
 abbrev pub setup_slow_line_fields : Line SceneEvent
@@ -261,12 +257,18 @@ setup_slow_line_fields = do
   script ← script_fields
   elapsed ← field nanos_in
   will_terminate ← field flag_in
-  says (event.SetupScriptSlow (record {
-    elapsed = elapsed;
-    stress_index = stress_index;
-    script = script;
-    will_terminate = will_terminate;
-  }))
+  says
+      (event_at 0
+      (event.SetupScriptSlow stress_index script.script_id script.program script.args elapsed will_terminate))
+
+-- an attempt as that of a setup script, which has no other
+abbrev pub script_status : Attempt → SetupScriptExecuteStatus LiveSpec ChildOutputDescription
+script_status attempt = record {
+  time_taken = attempt.time_taken;
+  result = attempt.result;
+  output = attempt.output;
+  is_slow = attempt.is_slow;
+}
 
 -- `setupdone`: the iteration, the script, and its only attempt
 abbrev pub setup_done_line_fields : Line SceneEvent
@@ -274,7 +276,9 @@ setup_done_line_fields = do
   stress_index ← field stress_in
   script ← script_fields
   attempt ← attempt_fields (retry_numbered 1 1)
-  says (event.SetupScriptFinished (record { attempt = attempt; stress_index = stress_index; script = script }))
+  says
+      (event_at 0
+      (event.SetupScriptFinished stress_index script.script_id script.program script.args (script_status attempt)))
 
 -- what a unit is doing, and how the attempt ended
 unfoldable pub state_fields : Line (UnitState × Option ExecutionResultDescription)
@@ -284,12 +288,12 @@ state_fields = do
   state ← valued (state_with result begun)
   says (state, result)
 
--- the state of a unit, and what it has written
-unfoldable pub answer_fields : Line UnitAnswer
+-- the same, and what it has written
+unfoldable pub answer_fields : Line Answer
 answer_fields = do
   read ← state_fields
-  output ← output_fields
-  says (record { state = read.0; output = written read.1 output })
+  output ← output_fields read.1
+  says (record { state = read.0; output = output })
 
 -- `answer-script`: which response of how many, the iteration, the script, and its response
 abbrev pub answer_script_line_fields : Line SceneEvent
@@ -299,26 +303,28 @@ answer_script_line_fields = do
   stress_index ← field stress_in
   script ← script_fields
   answer ← answer_fields
-  says (event.ScriptAnswered (record {
-    index = index;
-    total = total;
+  says (event_at 0 (event.InfoResponse index total (response.SetupScript (record {
     stress_index = stress_index;
-    script = script;
-    answer = answer;
-  }))
+    script_id = script.script_id;
+    program = script.program;
+    args = script.args;
+    state = answer.state;
+    output = answer.output;
+  }))))
 
 -- `answer-test`: which response of how many, the test, the attempt, and its response
 abbrev pub answer_test_line_fields : Line SceneEvent
 answer_test_line_fields = do
   index ← field (number_in 64)
   total ← field (number_in 64)
-  test ← test_fields
+  stress_index ← field stress_in
+  test ← instance_fields
   retry_data ← retry_fields
   answer ← answer_fields
-  says (event.TestAnswered (record {
-    index = index;
-    total = total;
-    test = test;
+  says (event_at 0 (event.InfoResponse index total (response.Test (record {
+    stress_index = stress_index;
+    test_instance = test;
     retry_data = retry_data;
-    answer = answer;
-  }))
+    state = answer.state;
+    output = answer.output;
+  }))))

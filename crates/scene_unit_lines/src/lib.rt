@@ -1,10 +1,9 @@
 //! The lines of a scene that are of its units: tests and setup scripts.
 //!
-//! `lines` reads the fields of each kind, `parts` values that are in one field in parts, and `binary_ids` ids that
-//! lines share. Which word a kind of line begins with is not known here.
+//! `lines` reads the fields of each kind, and `parts` values that are in one field in parts. Which word a kind of line
+//! begins with is not known here.
 #![tactic(auto)]
 
-pub mod binary_ids;
 pub mod lines;
 pub mod parts;
 

@@ -1,42 +1,47 @@
 //! The lines of tests and of setup scripts, their output, and the responses of both when they are asked for their
 //! state.
 
+ghost use Rattle.scene_fields.specs.Calls.{by_names, call_by_names, event_call};
 ghost use Rattle.scene_fields.specs.Fields.{Gives, answered, field};
-ghost use Rattle.{scene_fields.specs.Counts.stats_in, scene_fields.specs.Lists.errors_in};
-ghost use Rattle.{scene_fields.specs.Split.field_texts, scene_fields.specs.Texts.bytes_in};
+ghost use Rattle.{scene_fields.specs.Lists.errors_in, scene_fields.specs.Split.field_texts};
+ghost use Rattle.scene_fields.specs.Texts.{bytes_in, text_in};
 ghost use Rattle.scene_unit_lines.specs.Lines.{TakesEmptyOutput, TakesStoredOutput, after_streams, all_attempts};
 ghost use Rattle.scene_unit_lines.specs.Lines.{answer_fields, answer_script_line_fields, answer_test_line_fields};
 ghost use Rattle.scene_unit_lines.specs.Lines.{attempt_fields};
-ghost use Rattle.scene_unit_lines.specs.Lines.{attempts_behind, done_line_fields, empty_output_fields, output_fields};
-ghost use Rattle.scene_unit_lines.specs.Lines.{retry_fields, retry_line_fields, retry_start_line_fields, script_fields};
-ghost use Rattle.scene_unit_lines.specs.Lines.{setup_done_line_fields};
-ghost use Rattle.scene_unit_lines.specs.Lines.{setup_line_fields, setup_slow_line_fields, slow_line_fields};
-ghost use Rattle.scene_unit_lines.specs.Lines.{spelled_output_fields, start_line_fields, state_fields, stream_in};
-ghost use Rattle.scene_unit_lines.specs.Lines.{test_fields};
+ghost use Rattle.scene_unit_lines.specs.Lines.{attempts_behind, done_line_fields, empty_output_fields, instance_fields};
+ghost use Rattle.scene_unit_lines.specs.Lines.{output_fields, retry_fields, retry_line_fields, retry_start_line_fields};
+ghost use Rattle.scene_unit_lines.specs.Lines.{script_fields, setup_done_line_fields};
+ghost use Rattle.scene_unit_lines.specs.Lines.{setup_line_fields, setup_slow_line_fields, skip_line_fields};
+ghost use Rattle.scene_unit_lines.specs.Lines.{slow_line_fields, spelled_output_fields, start_line_fields};
+ghost use Rattle.scene_unit_lines.specs.Lines.{state_fields, stream_in};
 ghost use Rattle.std.specs.Prelude.{drop, IfOk, IsTrue, ◌++◌, ◌≡◌};
 
 use super::Field;
-use super::binary_ids::BinaryIds;
 use super::parts::{copy_outcome, read_highlight, read_result_or_none, read_state, state_with};
 use bytes::BytesMut;
 use run_model::boxed::{Boxed, Shared};
-use run_model::info::UnitState;
+use run_model::call::ReportCall;
+use run_model::command::CommandLine;
+use run_model::event::{TestEvent, TestEventKind};
+use run_model::info::{InfoResponse, SetupScriptInfoResponse, TestInfoResponse, UnitState};
 use run_model::memory::OutOfMemory;
-use run_model::output::{ChildOutputDescription, ChildSingleOutput, ErrorChain};
-use run_model::status::{ExecutionResultDescription, FlakyResult, RetryData};
-use scene_events::scene::attempts::{SceneAttempt, SceneAttempts};
-use scene_events::scene::event::SceneEvent;
-use scene_events::scene::outputs::{AttemptOutput, SceneOutput};
-use scene_events::scene::packed_stats::PackedStats;
-use scene_events::scene::unit_events::{
-    FailedAttempt, SceneScript, SceneTest, ScriptAnswer, SetupFinish, SetupStart, SlowSetup,
-    SlowTest, TestAnswer, TestFinish, TestRetryStart, TestStart, UnitAnswer,
+use run_model::name::{
+    Name, OwnedTestInstanceId, ProgramName, RustBinaryId, ScriptId, TestCaseName, TestInstanceId,
 };
+use run_model::output::{
+    ChildExecutionOutputDescription, ChildOutputDescription, ChildSingleOutput, ErrorChain,
+    LiveSpec,
+};
+use run_model::status::{
+    ExecuteStatus, ExecutionResultDescription, ExecutionStatuses, FlakyResult, RetryData,
+    SetupScriptExecuteStatus,
+};
+use run_model::time::Nanos;
 use scene_fields::counts::read_stats;
 use scene_fields::fault::{LineError, LineFault};
 use scene_fields::fields::Fields;
 use scene_fields::lists::{read_chain, read_command_line};
-use scene_fields::names::{read_program_name, read_script_id, read_test_name};
+use scene_fields::names::{read_name, replace_name};
 use scene_fields::numbers::{read_count, read_nanos, read_small_count};
 use scene_fields::results::read_result;
 use scene_fields::texts::read_bytes;
@@ -50,134 +55,197 @@ use std::mem;
 // What fields spell, or what is wrong with their line.
 type Line<T> = Result<T, LineError>;
 
-// The event of a line.
-type EventResult = Line<SceneEvent>;
+// The call of a line, whose test has names in a buffer.
+type CallResult<'n> = Line<ReportCall<'n>>;
+
+/// Names of no test, for the names of lines to take their memory.
+pub fn no_names(alloc: Global) -> OwnedTestInstanceId {
+    OwnedTestInstanceId {
+        binary_id: RustBinaryId::empty(alloc),
+        test_name: TestCaseName::empty(alloc),
+    }
+}
+
+// An event whose time a scene does not have.
+#[inline(always)]
+fn event(kind: TestEventKind<'_>) -> ReportCall<'_>
+    ensures { result ≡ event_call 0 kind.entry }
+{
+    let elapsed = Nanos(0);
+    ReportCall::Event(TestEvent { elapsed, kind })
+}
+
+/// Where a line's test has its names.
+pub trait TestNames<'n>: Drop {
+    /// Reads which test it is: binary id and name.
+    ///
+    /// # Errors
+    ///
+    /// Those of the two fields, or refused memory.
+    fn read(self, alloc: Global, fields: &mut Fields<'_>) -> Line<TestInstanceId<'n>>
+        ensures { Gives by_names fields.old result fields.new instance_fields };
+}
+
+/// Names of another test. The line's take their place.
+impl<'n> TestNames<'n> for &'n mut OwnedTestInstanceId {
+    #[inline(always)]
+    #[tactic(auto, unfolding(crate::specs::Lines::instance_fields))]
+    fn read(self, alloc: Global, fields: &mut Fields<'_>) -> Line<TestInstanceId<'n>> {
+        let OwnedTestInstanceId {
+            binary_id,
+            test_name,
+        } = self;
+        read_name_over(alloc, fields, binary_id)?;
+        read_name_over(alloc, fields, test_name)?;
+        Ok(TestInstanceId {
+            binary_id,
+            test_name,
+        })
+    }
+}
+
+/// Names that were read of the same line before. Those of another line, or none, count as refused memory.
+impl<'n> TestNames<'n> for Option<&'n OwnedTestInstanceId> {
+    fn read(self, alloc: Global, fields: &mut Fields<'_>) -> Line<TestInstanceId<'n>> {
+        let mut spelled = no_names(alloc);
+        let test = (&mut spelled).read(alloc, fields)?;
+        match self {
+            Some(names)
+                if *test.binary_id == names.binary_id && *test.test_name == names.test_name => {
+                Ok(TestInstanceId {
+                    binary_id: &names.binary_id,
+                    test_name: &names.test_name,
+                })
+            }
+            _ => Err(LineError::OutOfMemory),
+        }
+    }
+}
+
+// Reads a name in place of another one.
+#[inline(always)]
+fn read_name_over<K>(alloc: Global, fields: &mut Fields<'_>, name: &mut Name<K>) -> Line<()>
+    ensures { Gives (λ _. name.new) fields.old result fields.new (field text_in) }
+{
+    let field = fields.take()?;
+    match replace_name(alloc, field, name)? {
+        Some(()) => Ok(()),
+        None => Err(LineError::Fault(fields.bad_field())),
+    }
+}
 
 /// Reads a `start` line: the test, the statistics, and the command.
-///
-/// # Errors
-///
-/// The first fault of the line, or refused memory.
-pub fn read_start(alloc: Global, ids: &mut BinaryIds, fields: &mut Fields<'_>) -> EventResult
-    ensures { Gives (λ e. e) fields.old result fields.new start_line_fields }
+pub fn read_start<'n, N: TestNames<'n>>(
+    alloc: Global,
+    names: N,
+    fields: &mut Fields<'_>,
+) -> CallResult<'n>
+    ensures { Gives call_by_names fields.old result fields.new start_line_fields }
 {
-    let start = TestStart {
-        test: read_test(alloc, ids, fields)?,
-        current_stats: fields.try_read(|field| read_packed_stats(alloc, field))?,
+    Ok(event(TestEventKind::TestStarted {
+        stress_index: fields.read(read_stress_index)?,
+        test_instance: names.read(alloc, fields)?,
+        current_stats: fields.read(read_stats)?,
         command_line: fields.try_read(|field| read_command_line(alloc, field))?,
-    };
-    Ok(SceneEvent::TestStarted(Boxed::new(alloc, start)?))
+    }))
 }
 
 /// Reads a `retrystart` line: the test, the attempt, and the command.
-///
-/// # Errors
-///
-/// The first fault of the line, or refused memory.
-pub fn read_retry_start(alloc: Global, ids: &mut BinaryIds, fields: &mut Fields<'_>) -> EventResult
-    ensures { Gives (λ e. e) fields.old result fields.new retry_start_line_fields }
+pub fn read_retry_start<'n, N: TestNames<'n>>(
+    alloc: Global,
+    names: N,
+    fields: &mut Fields<'_>,
+) -> CallResult<'n>
+    ensures { Gives call_by_names fields.old result fields.new retry_start_line_fields }
 {
-    let start = TestRetryStart {
-        test: read_test(alloc, ids, fields)?,
+    Ok(event(TestEventKind::TestRetryStarted {
+        stress_index: fields.read(read_stress_index)?,
+        test_instance: names.read(alloc, fields)?,
         retry_data: read_retry_data(fields)?,
         command_line: fields.try_read(|field| read_command_line(alloc, field))?,
-    };
-    Ok(SceneEvent::TestRetryStarted(Boxed::new(alloc, start)?))
+    }))
 }
 
 /// Reads a `slow` line: the test, the attempt, how long it has taken, and whether it is ended.
-///
-/// # Errors
-///
-/// The first fault of the line, or refused memory.
-pub fn read_slow(alloc: Global, ids: &mut BinaryIds, fields: &mut Fields<'_>) -> EventResult
-    ensures { Gives (λ e. e) fields.old result fields.new slow_line_fields }
+pub fn read_slow<'n, N: TestNames<'n>>(
+    alloc: Global,
+    names: N,
+    fields: &mut Fields<'_>,
+) -> CallResult<'n>
+    ensures { Gives call_by_names fields.old result fields.new slow_line_fields }
 {
-    let slow = SlowTest {
-        test: read_test(alloc, ids, fields)?,
+    Ok(event(TestEventKind::TestSlow {
+        stress_index: fields.read(read_stress_index)?,
+        test_instance: names.read(alloc, fields)?,
         retry_data: read_retry_data(fields)?,
         elapsed: fields.read(read_nanos)?,
         will_terminate: fields.read(read_flag)?,
-    };
-    Ok(SceneEvent::TestSlow(Boxed::new(alloc, slow)?))
+    }))
 }
 
 /// Reads a `retry` line: the test, which attempt failed, how long the next one waits, when the output is shown, and the
 /// attempt.
-///
-/// # Errors
-///
-/// The first fault of the line, or refused memory.
-pub fn read_retry(alloc: Global, ids: &mut BinaryIds, fields: &mut Fields<'_>) -> EventResult
-    ensures { Gives (λ e. e) fields.old result fields.new retry_line_fields }
+pub fn read_retry<'n, N: TestNames<'n>>(
+    alloc: Global,
+    names: N,
+    fields: &mut Fields<'_>,
+) -> CallResult<'n>
+    ensures { Gives call_by_names fields.old result fields.new retry_line_fields }
 {
-    let test = read_test(alloc, ids, fields)?;
+    let stress_index = fields.read(read_stress_index)?;
+    let test_instance = names.read(alloc, fields)?;
     let retry_data = read_retry_data(fields)?;
-    let failed = FailedAttempt {
-        test,
-        delay_before_next_attempt: fields.read(read_nanos)?,
-        failure_output: fields.read(read_display)?,
-        attempt: read_attempt(alloc, fields, retry_data)?,
-    };
-    Ok(SceneEvent::TestAttemptFailedWillRetry(Boxed::new(alloc, failed)?))
+    let delay_before_next_attempt = fields.read(read_nanos)?;
+    let failure_output = fields.read(read_display)?;
+    let run_status = read_attempt(alloc, fields, retry_data)?;
+    Ok(event(TestEventKind::TestAttemptFailedWillRetry {
+        stress_index,
+        test_instance,
+        run_status,
+        delay_before_next_attempt,
+        failure_output,
+    }))
 }
 
-/// Reads a `done` line: the test, when the output of a success and of a failure is shown, what a
-/// flaky test counts as, the statistics, how many attempts there can be, and the attempts.
-///
-/// # Errors
-///
-/// The first fault of the line, or refused memory.
-pub fn read_done(alloc: Global, ids: &mut BinaryIds, fields: &mut Fields<'_>) -> EventResult
-    ensures { Gives (λ e. e) fields.old result fields.new done_line_fields }
+/// Reads a `skip` line: the test.
+pub fn read_skip<'n, N: TestNames<'n>>(
+    alloc: Global,
+    names: N,
+    fields: &mut Fields<'_>,
+) -> CallResult<'n>
+    ensures { Gives call_by_names fields.old result fields.new skip_line_fields }
 {
-    let test = read_test(alloc, ids, fields)?;
+    Ok(event(TestEventKind::TestSkipped {
+        stress_index: fields.read(read_stress_index)?,
+        test_instance: names.read(alloc, fields)?,
+    }))
+}
+
+/// Reads a `done` line: the test, when the output of a success and of a failure is shown, what a flaky test counts as,
+/// the statistics, how many attempts there can be, and the attempts. Inlined: its call is large, and need not be moved.
+#[inline(always)]
+pub fn read_done<'n, N: TestNames<'n>>(
+    alloc: Global,
+    names: N,
+    fields: &mut Fields<'_>,
+) -> CallResult<'n>
+    ensures { Gives call_by_names fields.old result fields.new done_line_fields }
+{
+    let stress_index = fields.read(read_stress_index)?;
+    let test_instance = names.read(alloc, fields)?;
     let success_output = fields.read(read_display)?;
     let failure_output = fields.read(read_display)?;
     let flaky_result = fields.read(read_flaky_result)?;
-    let field = fields.take()?;
-    let Some(current_stats) = read_packed_stats(alloc, field)? else {
-        return Err(LineError::Fault(fields.bad_field()));
-    };
+    let current_stats = fields.read(read_stats)?;
     let total_attempts = fields.read(read_small_count)?;
-    let attempts = read_attempts(alloc, fields, flaky_result, total_attempts)?;
-    let finish = TestFinish {
-        test,
+    Ok(event(TestEventKind::TestFinished {
+        stress_index,
+        test_instance,
         success_output,
         failure_output,
+        run_statuses: read_attempts(alloc, fields, flaky_result, total_attempts)?,
         current_stats,
-        attempts,
-    };
-    Ok(SceneEvent::TestFinished(Boxed::new(alloc, finish)?))
-}
-
-// Reads statistics in their short form.
-#[inline(always)]
-fn read_packed_stats(alloc: Global, field: &str) -> Field<PackedStats>
-    ensures { IfOk result (λ stats. stats ≡ stats_in field.now) }
-{
-    match read_stats(field) {
-        Some(stats) => Ok(Some(PackedStats::new(alloc, stats)?)),
-        None => Ok(None),
-    }
-}
-
-/// Reads which test it is: stress index, binary id and name.
-///
-/// # Errors
-///
-/// The first fault of the line, or refused memory.
-#[inline(always)]
-#[tactic(auto, unfolding(crate::specs::Lines::test_fields))]
-pub fn read_test(alloc: Global, ids: &mut BinaryIds, fields: &mut Fields<'_>) -> Line<SceneTest>
-    ensures { Gives (λ t. t) fields.old result fields.new test_fields }
-{
-    let stress_index = fields.read(read_stress_index)?;
-    Ok(SceneTest {
-        stress_index,
-        binary_id: ids.read(alloc, fields.take()?)?.ok_or(fields.bad_field())?,
-        test_name: fields.try_read(|field| read_test_name(alloc, field))?,
-    })
+    }))
 }
 
 // Reads which attempt it is, and how many there can be.
@@ -199,7 +267,7 @@ fn read_attempts(
     fields: &mut Fields<'_>,
     flaky_result: FlakyResult,
     total_attempts: u32,
-) -> Line<SceneAttempts>
+) -> Line<ExecutionStatuses<LiveSpec>>
     ensures { Gives (λ s. s) fields.old result fields.new (all_attempts flaky_result total_attempts) }
 {
     let first = RetryData {
@@ -208,7 +276,7 @@ fn read_attempts(
     };
     let first = read_attempt(alloc, fields, first)?;
     if fields.len() < 8 {
-        return Ok(SceneAttempts::with_last(alloc, Vec::new(alloc), first, flaky_result)?);
+        return Ok(ExecutionStatuses::with_last(Vec::new(alloc), first, flaky_result));
     }
     read_more_attempts(alloc, fields, flaky_result, total_attempts, first)
 }
@@ -221,8 +289,8 @@ fn read_more_attempts(
     fields: &mut Fields<'_>,
     flaky_result: FlakyResult,
     total_attempts: u32,
-    first: SceneAttempt,
-) -> Line<SceneAttempts>
+    first: ExecuteStatus<LiveSpec>,
+) -> Line<ExecutionStatuses<LiveSpec>>
     ensures { Gives (λ s. s) fields.old result fields.new (attempts_behind flaky_result total_attempts first) }
 {
     let mut last = first;
@@ -238,148 +306,189 @@ fn read_more_attempts(
         let next = read_attempt(alloc, fields, retry_data)?;
         earlier.push(mem::replace(&mut last, next))?;
     }
-    Ok(SceneAttempts::with_last(alloc, earlier, last, flaky_result)?)
+    Ok(ExecutionStatuses::with_last(earlier, last, flaky_result))
 }
 
 // Reads an attempt: result, duration, whether it was slow, and its output.
 #[inline(always)]
 #[tactic(auto, unfolding(crate::specs::Lines::attempt_fields))]
-fn read_attempt(alloc: Global, fields: &mut Fields<'_>, retry_data: RetryData) -> Line<SceneAttempt>
+fn read_attempt(
+    alloc: Global,
+    fields: &mut Fields<'_>,
+    retry_data: RetryData,
+) -> Line<ExecuteStatus<LiveSpec>>
     ensures { Gives (λ s. s) fields.old result fields.new (attempt_fields retry_data) }
 {
-    let outcome = fields.try_read(|field| read_result(alloc, field))?;
+    let result = fields.try_read(|field| read_result(alloc, field))?;
     let time_taken = fields.read(read_nanos)?;
     let is_slow = fields.read(read_flag)?;
-    let output = read_attempt_output(alloc, fields)?;
-    Ok(SceneAttempt::new(outcome, time_taken, retry_data, is_slow, output))
+    let outcome = result.try_clone(alloc)?;
+    Ok(ExecuteStatus {
+        time_taken,
+        retry_data,
+        result,
+        output: read_attempt_output(alloc, fields, outcome)?,
+        is_slow,
+    })
 }
 
-// Reads what an attempt wrote. Most wrote nothing, and then it allocates nothing.
+// Reads what an attempt wrote that ended so. Most wrote nothing, and then it allocates nothing.
 #[inline(always)]
-fn read_attempt_output(alloc: Global, fields: &mut Fields<'_>) -> Line<AttemptOutput>
-    ensures { Gives (λ o. o) fields.old result fields.new output_fields }
+fn read_attempt_output(
+    alloc: Global,
+    fields: &mut Fields<'_>,
+    outcome: ExecutionResultDescription,
+) -> OutputResult
+    ensures { Gives (λ o. o) fields.old result fields.new (output_fields (Some outcome)) }
 {
     if take_empty_output(fields)? {
-        return Ok(AttemptOutput::empty());
+        return Ok(ChildExecutionOutputDescription::silent(outcome));
     }
-    read_written_output(alloc, fields)
-}
-
-// Reads what an attempt wrote that wrote something. Not inlined, like `read_more_attempts`.
-#[inline(never)]
-fn read_written_output(alloc: Global, fields: &mut Fields<'_>) -> Line<AttemptOutput>
-    ensures { Gives (λ o. o) fields.old result fields.new output_fields }
-{
-    let output = read_output(alloc, fields)?;
-    Ok(AttemptOutput::new(alloc, output)?)
+    read_output(alloc, fields, Some(outcome))
 }
 
 /// Reads a `setup` line: the iteration, which script it is of how many, and the script.
-///
-/// # Errors
-///
-/// The first fault of the line, or refused memory.
-pub fn read_setup(alloc: Global, fields: &mut Fields<'_>) -> EventResult
-    ensures { Gives (λ e. e) fields.old result fields.new setup_line_fields }
+pub fn read_setup<'n>(alloc: Global, fields: &mut Fields<'_>) -> CallResult<'n>
+    ensures { Gives call_by_names fields.old result fields.new setup_line_fields }
 {
-    let start = SetupStart {
-        stress_index: fields.read(read_stress_index)?,
-        index: fields.read(read_count)?,
-        total: fields.read(read_count)?,
-        script: read_script(alloc, fields)?,
-    };
-    Ok(SceneEvent::SetupScriptStarted(Boxed::new(alloc, start)?))
+    let stress_index = fields.read(read_stress_index)?;
+    let index = fields.read(read_count)?;
+    let total = fields.read(read_count)?;
+    let script = read_script(alloc, fields)?;
+    Ok(event(TestEventKind::SetupScriptStarted {
+        stress_index,
+        index,
+        total,
+        script_id: script.script_id,
+        program: script.program,
+        args: script.args,
+    }))
 }
 
 /// Reads a `setupslow` line: the iteration, the script, how long it has taken, and whether it is ended.
-///
-/// # Errors
-///
-/// The first fault of the line, or refused memory.
-pub fn read_setup_slow(alloc: Global, fields: &mut Fields<'_>) -> EventResult
-    ensures { Gives (λ e. e) fields.old result fields.new setup_slow_line_fields }
+pub fn read_setup_slow<'n>(alloc: Global, fields: &mut Fields<'_>) -> CallResult<'n>
+    ensures { Gives call_by_names fields.old result fields.new setup_slow_line_fields }
 {
-    let slow = SlowSetup {
-        stress_index: fields.read(read_stress_index)?,
-        script: read_script(alloc, fields)?,
-        elapsed: fields.read(read_nanos)?,
-        will_terminate: fields.read(read_flag)?,
-    };
-    Ok(SceneEvent::SetupScriptSlow(Boxed::new(alloc, slow)?))
+    let stress_index = fields.read(read_stress_index)?;
+    let script = read_script(alloc, fields)?;
+    let elapsed = fields.read(read_nanos)?;
+    let will_terminate = fields.read(read_flag)?;
+    Ok(event(TestEventKind::SetupScriptSlow {
+        stress_index,
+        script_id: script.script_id,
+        program: script.program,
+        args: script.args,
+        elapsed,
+        will_terminate,
+    }))
 }
 
 /// Reads a `setupdone` line: the iteration, the script, and its only attempt.
-///
-/// # Errors
-///
-/// The first fault of the line, or refused memory.
-pub fn read_setup_done(alloc: Global, fields: &mut Fields<'_>) -> EventResult
-    ensures { Gives (λ e. e) fields.old result fields.new setup_done_line_fields }
+pub fn read_setup_done<'n>(alloc: Global, fields: &mut Fields<'_>) -> CallResult<'n>
+    ensures { Gives call_by_names fields.old result fields.new setup_done_line_fields }
 {
-    let finish = SetupFinish {
-        stress_index: fields.read(read_stress_index)?,
-        script: read_script(alloc, fields)?,
-        attempt: read_attempt(alloc, fields, RetryData::only())?,
-    };
-    Ok(SceneEvent::SetupScriptFinished(Boxed::new(alloc, finish)?))
+    let stress_index = fields.read(read_stress_index)?;
+    let script = read_script(alloc, fields)?;
+    let attempt = read_attempt(alloc, fields, RetryData::only())?;
+    Ok(event(TestEventKind::SetupScriptFinished {
+        stress_index,
+        script_id: script.script_id,
+        program: script.program,
+        args: script.args,
+        run_status: SetupScriptExecuteStatus {
+            time_taken: attempt.time_taken,
+            result: attempt.result,
+            output: attempt.output,
+            is_slow: attempt.is_slow,
+        },
+    }))
+}
+
+// Which script it is.
+#[derive(Drop)]
+struct Script {
+    script_id: ScriptId,
+    program: ProgramName,
+    args: CommandLine,
 }
 
 // Reads which script it is: its id, the program, and the program's arguments.
 #[tactic(auto, unfolding(crate::specs::Lines::script_fields))]
-fn read_script(alloc: Global, fields: &mut Fields<'_>) -> Line<SceneScript>
+fn read_script(alloc: Global, fields: &mut Fields<'_>) -> Line<Script>
     ensures { Gives (λ s. s) fields.old result fields.new script_fields }
 {
-    Ok(SceneScript {
-        script_id: fields.try_read(|field| read_script_id(alloc, field))?,
-        program: fields.try_read(|field| read_program_name(alloc, field))?,
+    Ok(Script {
+        script_id: fields.try_read(|field| read_name(alloc, field))?,
+        program: fields.try_read(|field| read_name(alloc, field))?,
         args: fields.try_read(|field| read_command_line(alloc, field))?,
     })
 }
 
 /// Reads an `answer-script` line: which response it is of how many, the iteration, the script, and its response.
-///
-/// # Errors
-///
-/// The first fault of the line, or refused memory.
-pub fn read_answer_script(alloc: Global, fields: &mut Fields<'_>) -> EventResult
-    ensures { Gives (λ e. e) fields.old result fields.new answer_script_line_fields }
+pub fn read_answer_script<'n>(alloc: Global, fields: &mut Fields<'_>) -> CallResult<'n>
+    ensures { Gives call_by_names fields.old result fields.new answer_script_line_fields }
 {
-    let answer = ScriptAnswer {
-        index: fields.read(read_count)?,
-        total: fields.read(read_count)?,
-        stress_index: fields.read(read_stress_index)?,
-        script: read_script(alloc, fields)?,
-        answer: read_answer(alloc, fields)?,
-    };
-    Ok(SceneEvent::ScriptAnswered(Boxed::new(alloc, answer)?))
+    let index = fields.read(read_count)?;
+    let total = fields.read(read_count)?;
+    let stress_index = fields.read(read_stress_index)?;
+    let script = read_script(alloc, fields)?;
+    let answer = read_answer(alloc, fields)?;
+    Ok(event(TestEventKind::InfoResponse {
+        index,
+        total,
+        response: InfoResponse::SetupScript(SetupScriptInfoResponse {
+            stress_index,
+            script_id: script.script_id,
+            program: script.program,
+            args: script.args,
+            state: answer.state,
+            output: answer.output,
+        }),
+    }))
 }
 
 /// Reads an `answer-test` line: which response it is of how many, the test, the attempt, and its response.
-///
-/// # Errors
-///
-/// The first fault of the line, or refused memory.
-pub fn read_answer_test(alloc: Global, ids: &mut BinaryIds, fields: &mut Fields<'_>) -> EventResult
-    ensures { Gives (λ e. e) fields.old result fields.new answer_test_line_fields }
+pub fn read_answer_test<'n, N: TestNames<'n>>(
+    alloc: Global,
+    names: N,
+    fields: &mut Fields<'_>,
+) -> CallResult<'n>
+    ensures { Gives call_by_names fields.old result fields.new answer_test_line_fields }
 {
-    let answer = TestAnswer {
-        index: fields.read(read_count)?,
-        total: fields.read(read_count)?,
-        test: read_test(alloc, ids, fields)?,
-        retry_data: read_retry_data(fields)?,
-        answer: read_answer(alloc, fields)?,
-    };
-    Ok(SceneEvent::TestAnswered(Boxed::new(alloc, answer)?))
+    let index = fields.read(read_count)?;
+    let total = fields.read(read_count)?;
+    let stress_index = fields.read(read_stress_index)?;
+    let test_instance = names.read(alloc, fields)?;
+    let retry_data = read_retry_data(fields)?;
+    let answer = read_answer(alloc, fields)?;
+    Ok(event(TestEventKind::InfoResponse {
+        index,
+        total,
+        response: InfoResponse::Test(TestInfoResponse {
+            stress_index,
+            test_instance,
+            retry_data,
+            state: answer.state,
+            output: answer.output,
+        }),
+    }))
+}
+
+// What a unit that is asked for its state is doing, and what it has written.
+#[derive(Drop)]
+struct Answer {
+    state: Shared<UnitState>,
+    output: Boxed<ChildExecutionOutputDescription<LiveSpec>>,
 }
 
 // Reads what a unit is doing, how the attempt ended, and what it has written so far.
 #[tactic(auto, unfolding(crate::specs::Lines::answer_fields))]
-fn read_answer(alloc: Global, fields: &mut Fields<'_>) -> Line<UnitAnswer>
+fn read_answer(alloc: Global, fields: &mut Fields<'_>) -> Line<Answer>
     ensures { Gives (λ a. a) fields.old result fields.new answer_fields }
 {
     let (state, outcome) = read_unit_state(alloc, fields)?;
-    let output = read_output(alloc, fields)?.description(alloc, outcome)?;
-    Ok(UnitAnswer {
+    let output = read_output(alloc, fields, outcome)?;
+    Ok(Answer {
         state: Shared::new(alloc, state)?,
         output: Boxed::new(alloc, output)?,
     })
@@ -400,25 +509,37 @@ fn read_unit_state(
     Ok((state, outcome))
 }
 
-// Reads what a unit wrote. A stored output is noted, and left unread.
-fn read_output(alloc: Global, fields: &mut Fields<'_>) -> Line<SceneOutput>
-    ensures { Gives (λ o. o) fields.old result fields.new output_fields }
+// What a unit wrote.
+type OutputResult = Line<ChildExecutionOutputDescription<LiveSpec>>;
+
+// Reads what a unit wrote, which ended so if that is known. A stored output is noted, and left unread. Not inlined,
+// like `read_more_attempts`.
+#[inline(never)]
+fn read_output(
+    alloc: Global,
+    fields: &mut Fields<'_>,
+    outcome: Option<ExecutionResultDescription>,
+) -> OutputResult
+    ensures { Gives (λ o. o) fields.old result fields.new (output_fields outcome) }
 {
     if fields.notes_outputs() {
-        return read_noted_output(alloc, fields);
+        return read_noted_output(alloc, fields, outcome);
     }
-    read_spelled_output(alloc, fields)
+    read_spelled_output(alloc, fields, outcome)
 }
 
-// Like `read_spelled_output`, for a line whose outputs may be stored. Not inlined, like `read_more_attempts`.
-#[inline(never)]
-fn read_noted_output(alloc: Global, fields: &mut Fields<'_>) -> Line<SceneOutput>
-    ensures { Gives (λ o. o) fields.old result fields.new output_fields }
+// The same where outputs may be stored.
+fn read_noted_output(
+    alloc: Global,
+    fields: &mut Fields<'_>,
+    outcome: Option<ExecutionResultDescription>,
+) -> OutputResult
+    ensures { Gives (λ o. o) fields.old result fields.new (output_fields outcome) }
 {
     if take_stored_output(fields)? {
-        return read_after_streams(alloc, fields, ChildOutputDescription::NotLoaded);
+        return read_after_streams(alloc, fields, outcome, ChildOutputDescription::NotLoaded);
     }
-    read_spelled_output(alloc, fields)
+    read_spelled_output(alloc, fields, outcome)
 }
 
 // Notes the output that comes next, and takes its form and its streams if it is stored.
@@ -438,33 +559,37 @@ fn take_stored_output(fields: &mut Fields<'_>) -> Result<bool, OutOfMemory>
 
 // Reads an output as its fields spell it.
 #[tactic(auto, unfolding(crate::specs::Lines::spelled_output_fields))]
-fn read_spelled_output(alloc: Global, fields: &mut Fields<'_>) -> Line<SceneOutput>
-    ensures { Gives (λ o. o) fields.old result fields.new spelled_output_fields }
+fn read_spelled_output(
+    alloc: Global,
+    fields: &mut Fields<'_>,
+    outcome: Option<ExecutionResultDescription>,
+) -> OutputResult
+    ensures { Gives (λ o. o) fields.old result fields.new (spelled_output_fields outcome) }
 {
     match fields.take()? {
         "split" => {
             let stdout = take_stream(alloc, fields)?;
             let stderr = take_stream(alloc, fields)?;
             let output = ChildOutputDescription::Split { stdout, stderr };
-            read_after_streams(alloc, fields, output)
+            read_after_streams(alloc, fields, outcome, output)
         }
         "comb" => {
             let output = take_single(alloc, fields)?;
             fields.read(read_absent)?;
             let output = ChildOutputDescription::Combined { output };
-            read_after_streams(alloc, fields, output)
+            read_after_streams(alloc, fields, outcome, output)
         }
         "unloaded" => {
             fields.read(read_absent)?;
             fields.read(read_absent)?;
-            read_after_streams(alloc, fields, ChildOutputDescription::NotLoaded)
+            read_after_streams(alloc, fields, outcome, ChildOutputDescription::NotLoaded)
         }
         "start" => {
             let error = fields.try_read(|field| read_chain(alloc, field))?;
             fields.read(read_absent)?;
             fields.read(read_absent)?;
             fields.read(read_absent)?;
-            Ok(SceneOutput::StartError(error))
+            Ok(ChildExecutionOutputDescription::StartError(error))
         }
         _ => Err(LineError::Fault(fields.bad_field())),
     }
@@ -502,11 +627,13 @@ fn is_empty_output(fields: &[&str]) -> bool
 fn read_after_streams(
     alloc: Global,
     fields: &mut Fields<'_>,
+    outcome: Option<ExecutionResultDescription>,
     output: ChildOutputDescription,
-) -> Line<SceneOutput>
-    ensures { Gives (λ o. o) fields.old result fields.new (after_streams output) }
+) -> OutputResult
+    ensures { Gives (λ o. o) fields.old result fields.new (after_streams outcome output) }
 {
-    Ok(SceneOutput::Output {
+    Ok(ChildExecutionOutputDescription::Output {
+        result: outcome,
         output,
         errors: fields.try_read(|field| read_errors(alloc, field))?,
         highlight: fields.try_read(|field| read_highlight(alloc, field))?,

@@ -28,31 +28,23 @@ pub use Rattle.reporter_state.specs.declared.faults.WriteEventError.TheVariants.
 pub use Rattle.run_model.specs.declared.call.ReportCall.{ReportCall}
 pub use Rattle.run_model.specs.declared.call.ReportCall.TheVariants.{Event, Header, Prefix}
 pub use Rattle.run_model.specs.declared.event.TestEventKind.{TestEventKind}
-pub use Rattle.scene_events.specs.Scenes.{IsCallOf}
-pub use Rattle.scene_events.specs.declared.scene.SceneConfig.{SceneConfig}
-pub use Rattle.scene_events.specs.declared.scene.event.SceneEvent.{SceneEvent}
 pub use Rattle.scene_fields.specs.declared.fault.LineFault.{LineFault}
-pub use Rattle.scene_fields.specs.declared.fault.ReadFault.{ReadFault}
-pub use Rattle.scene_reader.proofs.lemmas.Tellings.{all_append, begun_behind}
-pub use Rattle.scene_reader.specs.SceneTexts.{AllRead, IsNextFault, ParsedLines, RunLine, is_begun, is_begun_behind}
-pub use Rattle.scene_reader.specs.SceneTexts.{line_value, lines_after, lines_before, lines_with, no_lines, parsed_lines}
-pub use Rattle.scene_reader.specs.SceneTexts.{text_lines, text_read, with_line}
-pub use Rattle.scene_reader.specs.declared.reader.ParsedLine.{ParsedLine}
-pub use Rattle.scene_reader.specs.declared.reader.ParsedLine.TheVariants.{EventLine}
+pub use Rattle.scene_reader.proofs.lemmas.Tellings.{all_append}
+pub use Rattle.scene_reader.specs.Names.{IsCallOf, SceneConfig, SceneEvent}
+pub use Rattle.scene_reader.specs.SceneTexts.{AllRead, EventLine, ParsedLine, ParsedLines, RunLine, is_begun}
+pub use Rattle.scene_reader.specs.SceneTexts.{line_value}
+pub use Rattle.scene_reader.specs.SceneTexts.{lines_before, lines_with, no_lines, text_lines, text_read, with_line}
 pub use Rattle.scene_reader.specs.declared.reader.LinesRead.{LinesRead}
-pub use Rattle.scenes.specs.Deferred.{DeliversRest}
-pub use Rattle.scenes.specs.Follow.{Followed, KeepsUp, StopsBy}
-pub use Rattle.scenes.specs.Judged.{ChecksEvent, IsSceneRefused, Refuses}
+pub use Rattle.scenes.specs.Follow.{Followed, StopsBy}
+pub use Rattle.scenes.specs.Judged.{Refuses}
 pub use Rattle.scenes.specs.Outcomes.{outcome_after}
-pub use Rattle.scenes.specs.ParsedScenes.{scene_lines}
 pub use Rattle.scenes.specs.Prints.{AreWhole, Begins, HasAtLeast, HasAtMost, HasBeginning, HasFirstCalls, OfCalls}
 pub use Rattle.scenes.specs.Prints.{Prints, PrintsFollowed, Reported, StandAtOneCall, device}
-pub use Rattle.scenes.specs.Read.{AreLeft, AreLeftOf, AtLine, HasReadLines, IsMore}
-pub use Rattle.scenes.specs.Reports.{AreCallsOf, configuration_for, fault_at_call, report_of, store_for, stored_of}
-pub use Rattle.scenes.specs.Reports.{AreReadyCallsOf, decider_for, unloaded_for}
+pub use Rattle.scenes.specs.Read.{AreLeft, AreLeftOf, AtLine, StaysConfigured}
+pub use Rattle.scenes.specs.Reports.{configuration_for, decider_for, fault_at_call, report_of, store_for, stored_of}
+pub use Rattle.scenes.specs.Reports.{unloaded_for}
 pub use Rattle.scenes.specs.SceneReporter.{Follows, StopsAtEvent, writers}
 pub use Rattle.scenes.specs.declared.outcome.RunOutcome.{RunOutcome}
-pub use Rattle.scenes.specs.declared.scene.Scene.{Scene}
 pub use Rattle.scenes.specs.declared.scene_reporter.SceneReporter.{SceneReporter}
 pub use Rattle.std.proofs.KnownBytes.{Appends-nil}
 pub use Rattle.std.proofs.lemmas.Bool.{cases_Bool, false≢true}

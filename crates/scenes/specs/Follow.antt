@@ -1,13 +1,10 @@
 -- A report that is written line by line: what stops it, and the outcome of the run.
-use Rattle.std.specs.Prelude.{◌≡◌, ◌⊎◌, ℕ, List, ◌∷◌, ◌++◌, Bool, true, Result, Ok, Err, IfErr, IfOk, OnOk}
+use Rattle.std.specs.Prelude.{◌≡◌, ◌⊎◌, ℕ, List, ◌∷◌, Result, Ok, Err, IfErr, IfOk, OnOk}
 use Rattle.{styled_text.specs.Names.Bor, styled_text.specs.Names.Meaning}
-use Rattle.{console_reporter.specs.OptionalStore.store_meaning}
-use Rattle.scene_reader.specs.Names.{ParsedLines, RunLine, is_begun, line_value, lines_before, SceneEvent, LineFault}
-use Rattle.scene_reader.specs.declared.reader.{ParsedLine.TheVariants.EventLine, LinesRead.LinesRead}
-use Rattle.scenes.specs.{Judged.RefusesEvent, ParsedScenes.OfLines, Read.AtLine, Read.HasReadLines}
-use Rattle.scenes.specs.{declared.outcome.RunOutcome.RunOutcome, declared.scene_reporter.SceneReporter.SceneReporter}
+use Rattle.scene_reader.specs.Names.{ParsedLines, RunLine, line_value, lines_before, SceneEvent, LineFault}
+use Rattle.scene_reader.specs.SceneTexts.{EventLine}
+use Rattle.scenes.specs.{Judged.RefusesEvent, ParsedScenes.OfLines, Read.AtLine, declared.outcome.RunOutcome.RunOutcome}
 use Rattle.scenes.specs.Prints.{Begins, Prints, PrintsFollowed}
-use Rattle.scenes.specs.{SceneReporter.Follows, SceneReporter.writers}
 use Rattle.command_line.specs.declared.{fault.Fault.Fault, fault.Fault.TheVariants.CannotRead}
 use Rattle.command_line.specs.declared.{fault.Fault.TheVariants.Line, args.Options.Options}
 
@@ -46,14 +43,7 @@ Followed m k options all old new IsDone result =
     × OnOk result (OfLines all IsDone)
     × IfErr result (StopsBy options all (Prints m k options old new) (Begins m k options old new))
 
--- What was read is held, after what a reporter has reported of all lines so far; if more is read, an event is among
--- both.
-pub record KeepsUp {W S : Type 0} (m : Meaning W) (n : Meaning S) (options : Options) (all : List RunLine)
-    (start now : SceneReporter W S) (read : LinesRead) (more : Result Bool Fault)
-    (Has : ParsedLines → List RunLine → Type 0) : Type 0 where
-  pub front : List RunLine
-  pub before : ParsedLines
-  pub has : HasReadLines options.file.now all front before read more Has
-  pub printed : Prints m (store_meaning n) options (writers start) (writers now) before
-  pub follows : Follows m n options start now (record { config = read.run.config; events = before.events })
-  pub begun : more ≡ Ok true → is_begun (before.events ++ read.run.events.items) ≡ true
+-- what came of a run whose calls a reporter took
+abbrev pub with_outcome : RunOutcome → Result (Unit {0}) Fault → Result RunOutcome Fault
+with_outcome come_to (Ok done) = Ok come_to
+with_outcome come_to (Err f) = Err f

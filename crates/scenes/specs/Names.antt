@@ -4,18 +4,20 @@ pub use Rattle.command_line.specs.Pieces.{IsUnread}
 pub use Rattle.command_line.specs.declared.args.Options.{Options}
 pub use Rattle.command_line.specs.declared.fault.Fault.{Fault}
 pub use Rattle.scene_reader.specs.declared.reader.LinesRead.{LinesRead}
-pub use Rattle.scenes.specs.Deferred.{deferred_meaning}
 pub use Rattle.scenes.specs.Follow.{Followed, StopsBy}
-pub use Rattle.scenes.specs.Judged.{ChecksEvent, IsJudged, IsRefusedText, IsRejected, IsSceneAccepted, IsSceneRefused}
-pub use Rattle.scenes.specs.Judged.{RefusesEvent, fault_of_first}
+pub use Rattle.scenes.specs.Judged.{AreRefusedLines, IsFaultOfLines, IsRefusal, IsRefusedText, IsRejected}
+pub use Rattle.scenes.specs.Judged.{fault_of_first, IsFaultOfText, IsRunAccepted}
+pub use Rattle.scenes.specs.Judged.{IsRunRefused, JudgesCall, RefusesEvent}
 pub use Rattle.scenes.specs.Outcomes.{outcome_after_event}
 unfoldable pub use Rattle.scenes.specs.Outcomes.{run_outcome}
-pub use Rattle.scenes.specs.ParsedScenes.{IsFaultOf, IsReadFault, IsSceneRead, OfLines, OfText, scene_lines}
+pub use Rattle.scenes.specs.ParsedScenes.{IsFaultOf, IsOfText, lines_of, OfLines}
+pub use Rattle.scenes.specs.ParsedScenes.{OfText}
 pub use Rattle.scenes.specs.Prints.{AreBegun, AreWhole, Begins, IsStop, Prints, PrintsFollowed, Reported}
-pub use Rattle.scenes.specs.Prints.{StandAtOneCall, device}
-pub use Rattle.scenes.specs.Read.{AreLeftOf, HasReadLines, IsMore}
-pub use Rattle.scenes.specs.Reports.{IsReadyCall, builder_for, configuration_for, decider_for, fault_at_call, kind_for}
+pub use Rattle.scenes.specs.Prints.{StandAtOneCall, device, HasReport}
+pub use Rattle.scenes.specs.Read.{AllTaken, AreLeftBehind, AreLeftOf, HasNext, PassesNext}
+pub use Rattle.scenes.specs.Reports.{AreReadyCallsOf, IsReadyCall, builder_for, configuration_for, decider_for}
+pub use Rattle.scenes.specs.Reports.{fault_at_call, kind_for}
 pub use Rattle.scenes.specs.Reports.{progress_for, ready_if, report_of, store_for, stored_of, surroundings_of}
 pub use Rattle.scenes.specs.Reports.{unloaded_for}
-pub use Rattle.scenes.specs.SceneReporter.{Follows, StopsAtEvent, writers}
-pub use Rattle.scenes.specs.declared.deferred.Deferred.{Deferred}
+pub use Rattle.scenes.specs.SceneReporter.{GoesOn, HoldsFault}
+pub use Rattle.scenes.specs.SceneReporter.{Follows, GathersCall, IsSetFor, ReportsCall, StopsAtEvent, writers}

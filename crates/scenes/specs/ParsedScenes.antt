@@ -1,17 +1,9 @@
--- Scenes as lines that were read.
-use Rattle.std.specs.Prelude.{◌≡◌, ℕ, List, Result, Ok, Err, ⊤}
-use Rattle.scene_reader.specs.Names.{IsFirstFault, ParsedLines, RunLine, lines_read, no_lines, parsed_lines, text_lines}
-use Rattle.scene_reader.specs.Names.{LineFault, ParsedRun}
-use Rattle.{command_line.specs.declared.fault.Fault.Fault, scenes.specs.declared.scene.Scene.Scene}
+-- Runs as lines that were read.
+use Rattle.std.specs.Prelude.{◌≡◌, ℕ, List, Ok, ⊤}
+use Rattle.scene_reader.specs.Names.{event_lines, ParsedLines, RunLine, lines_read, no_lines}
+use Rattle.scene_reader.specs.Names.{LineFault, SceneConfig, text_lines}
+use Rattle.{command_line.specs.declared.fault.Fault.Fault}
 use Rattle.command_line.specs.declared.fault.Fault.TheVariants as fault
-
--- the run of a scene, as the reader holds it
-abbrev pub run_of : Scene → ParsedRun
-run_of scene = record { config = scene.config; events = scene.events; lines = scene.lines }
-
--- the lines of a scene
-abbrev pub scene_lines : Scene → ParsedLines
-scene_lines scene = parsed_lines (run_of scene)
 
 -- a line is wrong in the way that is named; or memory was refused; or a file cannot be read, where that may be
 abbrev pub IsFaultOf : Type 0 → (ℕ → LineFault → Type 0) → Fault → Type 0
@@ -19,16 +11,6 @@ IsFaultOf MayBeUnread IsWrong (fault.CannotRead file) = MayBeUnread
 IsFaultOf MayBeUnread IsWrong (fault.Line n f) = IsWrong n f
 IsFaultOf MayBeUnread IsWrong fault.OutOfMemory = ⊤
 IsFaultOf MayBeUnread IsWrong other = ⊥
-
--- the scene is that of the lines that were read, or the fault is theirs; or the file cannot be read, or memory was
--- refused
-abbrev pub IsSceneRead : Result Scene Fault → Result ParsedLines (ℕ × LineFault) → Type 0
-IsSceneRead (Ok scene) read = read ≡ Ok (scene_lines scene)
-IsSceneRead (Err fault) read = IsFaultOf ⊤ (λ n f. read ≡ Err (n, f)) fault
-
--- the fault is the first one of the text; or the file cannot be read, or memory was refused
-abbrev pub IsReadFault : List ℕ → Fault → Type 0
-IsReadFault text = IsFaultOf ⊤ (IsFirstFault (text_lines text))
 
 -- P holds of the run that these lines are
 pub record OfLines (lines : List RunLine) (P : ParsedLines → Type 0) : Type 0 where
@@ -39,3 +21,17 @@ pub record OfLines (lines : List RunLine) (P : ParsedLines → Type 0) : Type 0 
 -- P holds of the run that a text spells
 abbrev pub OfText : List ℕ → (ParsedLines → Type 0) → Type 0
 OfText text P = OfLines (text_lines text) P
+
+-- the text of a scene, and how it says that its run is reported
+pub record SceneText : Type 0 where
+  pub text : List ℕ
+  pub config : SceneConfig
+
+-- the numbers of the lines that are its events
+abbrev pub lines_of : SceneText → List ℕ
+lines_of scene = event_lines 1 no_lines (text_lines scene.text)
+
+-- a text of lines that can be read says this of its run, and has its events in the lines of these numbers
+abbrev pub IsOfText : List ℕ → SceneConfig → List ℕ → Type 0
+IsOfText text config numbers = OfText text
+    (λ run. (run.config ≡ config) × (event_lines 1 no_lines (text_lines text) ≡ numbers))

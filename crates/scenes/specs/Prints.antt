@@ -114,3 +114,7 @@ module _ {W T : Type 0} (m : Meaning W) (k : Meaning T) (options : Options) (old
   -- how the report of the run ends
   abbrev pub Reported : ParsedLines → Result (Unit {0}) Fault → Type 0
   Reported run result = OnOk result (Prints run) × IfErr result (Begins run)
+
+-- a text is the report of the run
+abbrev pub HasReport : Options → Text → ParsedLines → Type 0
+HasReport options report run = OfCalls options run (λ calls. report ≡ report_of options run.config calls)

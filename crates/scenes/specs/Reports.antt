@@ -2,8 +2,8 @@
 -- with the output left unread that no report shows.
 use Rattle.std.specs.Prelude.{ℕ, List, reverse, false, if◌then◌else◌, Option, ◌≡◌, Bool}
 use Rattle.styled_text.specs.Names.{option_map, AllZip, Text}
-use Rattle.{run_names.specs.Filters.default_config_filter, scenes.specs.declared.scene.Scene.Scene}
-use Rattle.{command_line.specs.declared.fault.Fault.Fault, command_line.specs.declared.args.Options.Options}
+use Rattle.{run_names.specs.Filters.default_config_filter, command_line.specs.declared.fault.Fault.Fault}
+use Rattle.{command_line.specs.declared.args.Options.Options}
 use Rattle.text_parts.specs.Names.{ReportCall, overridden, ShowProgress, DisplayerKind}
 use Rattle.reporter_state.specs.Names.{StoreConfig, unread, unread_call}
 use Rattle.console_reporter.specs.Names.{WriteEventError, OutputLoadDecider, Configuration, configured_in, report}
@@ -12,15 +12,11 @@ use Rattle.console_reporter.specs.declared.imp.builder.{DisplayReporterBuilder.D
 use Rattle.console_reporter.specs.declared.imp.builder.{Surroundings.Surroundings}
 use Rattle.reporter_state.specs.declared.faults.WriteEventError.TheVariants.{RetriedSuccess, OutputNotLoaded, Io}
 use Rattle.reporter_state.specs.declared.faults.WriteEventError.TheVariants.{Memory, Failed, StoreIo}
-use Rattle.scene_reader.specs.Names.{IsCallOf, SceneConfig, SceneEvent}
+use Rattle.scene_reader.specs.Names.{IsCallOf, ParsedLines, SceneConfig, SceneEvent}
 use Rattle.command_line.specs.declared.fault.Fault.TheVariants.{Line, WriteFailed, StoreFailed, OutOfMemory}
 use Rattle.unit_report.specs.declared.config.ShowProgress.TheVariants as progress
 use Rattle.unit_report.specs.declared.unit_output.DisplayerKind.TheVariants as displayer
 use Rattle.scene_fields.specs.declared.fault.LineFault.TheVariants as line
-
--- the calls of a scene: for each event one, in order
-abbrev pub AreCallsOf : Scene → List ReportCall → Type 0
-AreCallsOf scene calls = AllZip IsCallOf scene.events.items calls
 
 -- what the options show of progress: a counter, or nothing
 abbrev pub progress_for : Options → ShowProgress
@@ -100,9 +96,9 @@ pub record IsReadyCall (options : Options) (d : OutputLoadDecider) (event : Scen
     pub of_event : IsCallOf event made
     pub ready : call ≡ ready_if options.unload_skipped d made
 
--- the calls are those, and so they have the report of the scene's calls, and the first that is refused is the same
-pub record AreReadyCallsOf (options : Options) (scene : Scene) (calls : List ReportCall) : Type 0 where
+-- the calls are those of the run, and so they have the report of its calls, and the first that is refused is the same
+pub record AreReadyCallsOf (options : Options) (run : ParsedLines) (calls : List ReportCall) : Type 0 where
   pub made : List ReportCall
-  pub of_scene : AreCallsOf scene made
-  pub ready : calls ≡ unloaded_for options scene.config made
-  pub isolated : IsIsolated (decider_for options scene.config) made calls
+  pub of_run : AllZip IsCallOf run.events made
+  pub ready : calls ≡ unloaded_for options run.config made
+  pub isolated : IsIsolated (decider_for options run.config) made calls

@@ -1,42 +1,88 @@
--- The events of a scene, reported one after the other: what a reporter of some has done, and what stops one.
-use Rattle.std.specs.Prelude.{◌≡◌, ◌⊎◌, ℕ, List, [], ◌∷◌, ◌++◌, get_or, length, reverse, Option}
-use Rattle.{writers.specs.Writer.Meaning, console_reporter.specs.Names.StandsAfter}
-use Rattle.{console_reporter.specs.Names.store_meaning, console_reporter.specs.declared.imp.store.Store.Store}
-use Rattle.scene_reader.specs.Names.{SceneConfig, SceneEvent, LineFault, ParsedLines}
-use Rattle.scenes.specs.Prints.{Begins, Prints, PrintsFollowed}
-use Rattle.scenes.specs.{Judged.RefusesEvent, declared.scene_reporter.SceneReporter.SceneReporter}
-use Rattle.scenes.specs.{Reports.configuration_for, Reports.unloaded_for}
+-- The calls of a scene, reported one after the other: what a reporter of some has done, and what stops one.
+use Rattle.std.specs.Prelude.{◌≡◌, ◌⊎◌, ℕ, List, [], reverse, true, Option, None, Some, Result, Ok, Err}
+use Rattle.std.specs.Prelude.{IfErr, OnOk, ⊤, String, string_bytes}
+use Rattle.{std.specs.declared.alloc.Global.Global, writers.specs.StringWriter.string_meaning}
+use Rattle.{writers.specs.Writer.Meaning, console_reporter.specs.Names.IsSameReporter}
+use Rattle.{console_reporter.specs.Names.StandsAfter, console_reporter.specs.Names.store_meaning}
+use Rattle.{std.specs.Option.is_some, console_reporter.specs.declared.imp.store.Store.Store}
+use Rattle.scene_reader.specs.Names.{call_by_names, SceneConfig, SceneEvent, LineFault, ParsedLines, PlacedOutput}
+use Rattle.scene_reader.specs.Names.{ReportCall, with_line}
+use Rattle.{scene_reader.specs.SceneTexts.EventLine, scenes.specs.Prints.Begins, scenes.specs.Prints.Prints}
+use Rattle.{scenes.specs.Prints.PrintsFollowed}
+use Rattle.scenes.specs.{Judged.RefusesEvent, declared.scene_reporter.Gathering.Gathering}
+use Rattle.scenes.specs.{declared.scene_reporter.SceneReporter.SceneReporter, Reports.configuration_for}
+use Rattle.scenes.specs.{Reports.decider_for, Reports.unloaded_for}
 use Rattle.command_line.specs.declared.{fault.Fault.Fault, fault.Fault.TheVariants.Line, args.Options.Options}
 
 -- its two writers
-abbrev pub writers : {W S : Type 0} → SceneReporter W S → W × Option (Store S)
+abbrev pub Writers : Type 0 → Type 0 → Type 0
+Writers W S = W × Option (Store S)
+
+abbrev pub writers : {W S : Type 0} → SceneReporter W S → Writers W S
 writers r = (r.reporter.writer.now, r.reporter.store)
 
-module _ {W S : Type 0} (m : Meaning W) (n : Meaning S) (options : Options) (start now : SceneReporter W S) where
-  -- since its start, it has reported this run, and is after its calls
+-- it decides as the options and the scene ask
+abbrev pub IsSetFor : {W S : Type 0} → Options → SceneConfig → SceneReporter W S → Type 0
+IsSetFor options config r = (r.decider ≡ decider_for options config) × (r.unloads ≡ options.unload_skipped)
+
+module _ {W S : Type 0} (m : Meaning W) (n : Meaning S) (options : Options) (start : Writers W S)
+    (now : SceneReporter W S) where
+  -- since its writers were these, it has reported this run, and is after its calls
   pub record Follows (run : ParsedLines) : Type 0 where
-    pub reported : PrintsFollowed m (store_meaning n) options (writers start) (writers now) now.outcome run
+    pub reported : PrintsFollowed m (store_meaning n) options start (writers now) now.outcome run
     pub stands : StandsAfter (configuration_for options run.config)
         (reverse (unloaded_for options run.config reported.calls)) now.reporter
 
-  -- The first of these events were reported, and the fault stopped the next one: before it was begun, or in the midst
-  -- of it, or it is refused. The lines of all are these.
-  pub record StopsAtEvent (config : SceneConfig) (events : List SceneEvent) (lines : List ℕ) (base : List SceneEvent)
-      (fault : Fault) : Type 0 where
-    pub front : List SceneEvent
-    pub event : SceneEvent
-    pub rest : List SceneEvent
-    pub whole : events ≡ front ++ event ∷ rest
-    pub stops : Begins m (store_meaning n) options (writers start) (writers now) (record {
-      config = config;
-      events = base ++ front;
-    }) fault
-        ⊎ Begins m (store_meaning n) options (writers start) (writers now) (record {
-          config = config;
-          events = (base ++ front) ++ event ∷ [];
-        }) fault
-        ⊎ (Prints m (store_meaning n) options (writers start) (writers now) (record {
-          config = config;
-          events = base ++ front;
-        })
-        × ((f : LineFault) × (fault ≡ Line (get_or lines (length front) 0) f) × RefusesEvent options config event f))
+  -- Behind a run that was reported the fault stopped this event, of the line of this number: before it was begun, or in
+  -- the midst of it, or it is refused.
+  abbrev pub StopsAtEvent : ParsedLines → ℕ → SceneEvent → Fault → Type 0
+  StopsAtEvent run number event fault =
+      Begins m (store_meaning n) options start (writers now) run fault
+      ⊎ Begins m (store_meaning n) options start (writers now) (with_line run (EventLine event)) fault
+      ⊎ (Prints m (store_meaning n) options start (writers now) run
+      × ((f : LineFault) × (fault ≡ Line number f) × RefusesEvent options run.config event f))
+
+-- It reported the call of the line of this number. Its settings and the place of its writers stay.
+pub record ReportsCall {W S : Type 0} (m : Meaning W) (n : Meaning S) (old : SceneReporter W S) (number : ℕ)
+    (stored : List PlacedOutput) (call : ReportCall) (result : Result (Unit {0}) Fault) (new : SceneReporter W S) : Type
+    0 where
+  pub same : IsSameReporter old.reporter new.reporter
+  pub settings : (new.decider ≡ old.decider) × (new.unloads ≡ old.unloads)
+  pub reported : OnOk result
+      ((options : Options) (start : Writers W S) (run : ParsedLines) → IsSetFor options run.config old
+      → Follows m n options start old run
+      → Follows m n options start new (with_line run (EventLine (call_by_names call))))
+  pub left : IfErr result
+      (λ fault. (options : Options) (start : Writers W S) (run : ParsedLines)
+      → IsSetFor options run.config old → Follows m n options start old run
+      → StopsAtEvent m n options start new run number (call_by_names call) fault)
+
+-- what was returned is no fault of a line
+abbrev pub IsNoLine : Result (Unit {0}) Fault → Type 0
+IsNoLine (Err (Line number f)) = ⊥
+IsNoLine other = ⊤
+
+-- it holds the fault of a line, and returned another one
+abbrev pub HoldsFault : {W S : Type 0} → Gathering W S → Fault → Result (Unit {0}) Fault → Gathering W S → Type 0
+HoldsFault old (Line number f) result new = (result ≡ Ok tt) × (new ≡ record old { refused = Some (Line number f) })
+HoldsFault old other result new = (result ≡ Err other) × (new ≡ old)
+
+-- It reported the call, or it had met a refused one before, and took no more; or it refused this one, and holds that
+-- fault.
+pub record GathersCall {W S : Type 0} (m : Meaning W) (n : Meaning S) (old : Gathering W S) (number : ℕ)
+    (stored : List PlacedOutput) (call : ReportCall) (result : Result (Unit {0}) Fault) (new : Gathering W S) : Type 0
+  where
+    pub behind : is_some old.refused ≡ true → (new ≡ old) × (result ≡ Ok tt)
+    pub next : old.refused ≡ None
+        → (ReportsCall m n old.reporter number stored call result new.reporter × (new.refused ≡ None)
+        × IsNoLine result)
+        ⊎ ((k : ℕ) × (f : LineFault) × ReportsCall m n old.reporter number stored call (Err (Line k f)) new.reporter
+        × (new.refused ≡ Some (Line k f)) × (result ≡ Ok tt))
+
+-- A reporter into memory goes on with another writer, to which what it had gathered was delivered: whatever it had
+-- followed from an empty text on, the other one has followed.
+abbrev pub GoesOn : {W S : Type 0} → Meaning W → Meaning S → SceneReporter (String Global) S → W → SceneReporter W S
+    → Type 0
+GoesOn {S = S} m n old given new = (options : Options) (start : Writers (String Global) S) (run : ParsedLines)
+    → string_bytes start.0 ≡ [] → Follows string_meaning n options start old run
+    → Follows m n options (given, start.1) new run

@@ -4,15 +4,16 @@
 //! event is written and delivered, and then the next are read. Only what the summary will list is kept, and those
 //! lines.
 
-ghost use Rattle.std.specs.Prelude.{◌≡◌, ℕ, List, [], true, Option, None, Some, Ok, IfOk, IfErr, OnOk};
-ghost use Rattle.console_reporter.specs.Names.{IsSameStore, config_of, store_delivered, store_meaning, IsSameReporter};
-ghost use Rattle.scene_reader.specs.SceneTexts.{RunLine, is_begun, no_lines, text_lines};
+ghost use Rattle.std.specs.Prelude.{◌≡◌, ℕ, List, [], Option, None, Some, IfOk, IfErr, OnOk, ⊤};
+ghost use Rattle.console_reporter.specs.Names.{IsSameStore, config_of, store_delivered, store_meaning};
+ghost use Rattle.scene_reader.specs.SceneTexts.{ParsedLines, RunLine, no_lines, text_lines};
 ghost use Rattle.scenes.specs.Names.{Followed, StopsBy, OfLines, OfText, Begins, Prints, PrintsFollowed, device};
-ghost use Rattle.scenes.specs.Names.{HasReadLines, store_for, Follows, writers};
+ghost use Rattle.scenes.specs.{Follow.with_outcome, Kept.AreLinesOf, Names.store_for};
 
 use crate::devices::{RecordDevice, buffered};
+use crate::kept::KeptRun;
 pub use crate::outcome::RunOutcome;
-use crate::read::{RunSource, SceneSource, read_lines};
+use crate::read::{Reading, RunSource, SceneSource};
 use crate::reporter::builder_of;
 use crate::scene_reporter::SceneReporter;
 use command_line::args::Options;
@@ -20,7 +21,6 @@ use command_line::fault::Fault;
 use console_reporter::imp::{Store, give_back};
 use console_reporter::write_str::WriteStr;
 use run_model::memory::OutOfMemory;
-use scene_reader::reader::LinesRead;
 use std::alloc::Global;
 use std::io::{Read, Write};
 
@@ -70,18 +70,66 @@ pub fn follow_source<'a, L: RunSource, W: Write, S: Write>(
     writer: W,
     store_writer: S,
 ) -> (Result<RunOutcome, Fault<'a>>, W, S)
-    ensures ok { (total : ℕ) (all : List RunLine) → L.left total source.old no_lines all
+    ensures ok { (total : ℕ) (all : List RunLine) → L.left total source.old [] no_lines all
         → IfOk result.0 (λ come_to. OfLines all
         (PrintsFollowed device device options.now (W.contents writer, S.contents store_writer)
         (W.contents result.1, S.contents result.2) come_to)) }
-    ensures rest { (total : ℕ) (all : List RunLine) → L.left total source.old no_lines all
-        → OnOk result.0 (OfLines all (λ run. L.left total source.new run [])) }
-    ensures err { (total : ℕ) (all : List RunLine) → L.left total source.old no_lines all
+    ensures rest { (total : ℕ) (all : List RunLine) → L.left total source.old [] no_lines all
+        → OnOk result.0 (OfLines all (λ run. L.left total source.new [] run [])) }
+    ensures err { (total : ℕ) (all : List RunLine) → L.left total source.old [] no_lines all
         → IfErr result.0 (StopsBy options.now all
         (Prints device device options.now (W.contents writer, S.contents store_writer)
         (W.contents result.1, S.contents result.2))
         (Begins device device options.now (W.contents writer, S.contents store_writer)
         (W.contents result.1, S.contents result.2))) }
+    ensures no_store { options.now.store ≡ None → result.2 ≡ store_writer }
+{
+    follow_lines(alloc, options, source, writer, store_writer)
+}
+
+/// Lines that can be followed.
+pub(crate) trait Lines {
+    // these are its lines
+    ghost has: { ℕ → Self → List RunLine → Type 0 };
+
+    // it has none left behind this run
+    ghost done: { ℕ → Self → ParsedLines → Type 0 };
+
+    /// Follows the lines to a writer, and to a store where there is one. It gives both back.
+    fn follow_to<'a, 'w, W: WriteStr, S: WriteStr>(
+        &mut self,
+        alloc: Global,
+        options: &Options<'a>,
+        writer: &'w mut W,
+        store: Option<Store<'w, S>>,
+    ) -> (
+        Result<RunOutcome, Fault<'a>>,
+        &'w mut W,
+        Option<Store<'w, S>>,
+    )
+        requires store_asked { config_of store ≡ store_for options.now }
+        requires delivered { W.meaning.is_delivered writer.old }
+        requires store_delivered { store_delivered S.meaning store }
+        ensures same_reference { (total : ℕ) (all : List RunLine) → has total self.old all
+            → result.1.ghost_name ≡ writer.entry.ghost_name }
+        ensures same_store { (total : ℕ) (all : List RunLine) → has total self.old all
+            → IsSameStore store.entry result.2 }
+        ensures ends { (total : ℕ) (all : List RunLine) → has total self.old all
+            → Followed W.meaning (store_meaning S.meaning) options.now all (writer.old, store.entry)
+            (result.1.now, result.2) (done total self.new) result.0 };
+}
+
+/// Follows lines to a device, and to a second one for the records if the options ask for them. Both are returned.
+pub(crate) fn follow_lines<'a, T: Lines, W: Write, S: Write>(
+    alloc: Global,
+    options: &Options<'a>,
+    lines: &mut T,
+    writer: W,
+    store_writer: S,
+) -> (Result<RunOutcome, Fault<'a>>, W, S)
+    ensures ends { (total : ℕ) (all : List RunLine) → T.has total lines.old all
+        → Followed device device options.now all (W.contents writer, S.contents store_writer)
+        (W.contents result.1, S.contents result.2) (T.done total lines.new) result.0 }
     ensures no_store { options.now.store ≡ None → result.2 ≡ store_writer }
 {
     let (mut out, records) = match buffered(alloc, options, writer, store_writer) {
@@ -91,19 +139,16 @@ pub fn follow_source<'a, L: RunSource, W: Write, S: Write>(
     match records {
         RecordDevice::Unused(store_writer) => {
             let no_store = None::<Store<'_, String>>;
-            let (outcome, _lent, _) = follow_to(alloc, options, source, &mut out, no_store);
+            let (outcome, _lent, _) = lines.follow_to(alloc, options, &mut out, no_store);
             let (writer, _pending) = out.into_inner();
             (outcome, writer, store_writer)
         }
         RecordDevice::Buffered(mut records, config) => {
             let store = Store::new(&mut records, config);
-            let (outcome, lent, store) = follow_to(alloc, options, source, &mut out, Some(store));
-            let Some(store) = store else { unreachable!() };
-            let Store {
-                writer: store_writer,
-                ..
-            } = store;
-            give_back(lent, store_writer);
+            let (outcome, lent, store) = lines.follow_to(alloc, options, &mut out, Some(store));
+            if let Some(Store { writer: held, .. }) = store {
+                give_back(lent, held);
+            }
             let (writer, _pending) = out.into_inner();
             let (store_writer, _unstored) = records.into_inner();
             (outcome, writer, store_writer)
@@ -111,69 +156,84 @@ pub fn follow_source<'a, L: RunSource, W: Write, S: Write>(
     }
 }
 
-// Follows the lines to a writer, and to a store where there is one. It gives both back.
-fn follow_to<'a, 'w, L: RunSource, W: WriteStr, S: WriteStr>(
-    alloc: Global,
-    options: &Options<'a>,
-    source: &mut L,
-    writer: &'w mut W,
-    store: Option<Store<'w, S>>,
+impl<L: RunSource> Lines for L {
+    ghost has = { λ total s all. L.left total s [] no_lines all };
+
+    ghost done = { λ total s run. L.left total s [] run [] };
+
+    fn follow_to<'a, 'w, W: WriteStr, S: WriteStr>(
+        &mut self,
+        alloc: Global,
+        options: &Options<'a>,
+        writer: &'w mut W,
+        store: Option<Store<'w, S>>,
+    ) -> (
+        Result<RunOutcome, Fault<'a>>,
+        &'w mut W,
+        Option<Store<'w, S>>,
+    ) {
+        let mut reading = Reading::new(alloc);
+        match reading.configure(alloc, options.file, self) {
+            Ok(()) => {}
+            Err(fault) => return (Err(fault), writer, store),
+        }
+        let config = reading.read.config;
+        let builder = match builder_of(alloc, options, &config) {
+            Ok(builder) => builder,
+            Err(fault) => return (Err(fault), writer, store),
+        };
+        let mut reporter = SceneReporter::build(alloc, options, builder, &config, writer, store);
+        let passed = reading.pass_to(alloc, options.file, self, &mut reporter);
+        end(options, reporter, passed)
+    }
+}
+
+/// Its lines are followed once it was judged.
+impl Lines for KeptRun {
+    ghost has = { λ total r all. AreLinesOf all r };
+
+    ghost done = { λ total r run. ⊤ };
+
+    fn follow_to<'a, 'w, W: WriteStr, S: WriteStr>(
+        &mut self,
+        alloc: Global,
+        options: &Options<'a>,
+        writer: &'w mut W,
+        store: Option<Store<'w, S>>,
+    ) -> (
+        Result<RunOutcome, Fault<'a>>,
+        &'w mut W,
+        Option<Store<'w, S>>,
+    ) {
+        let config = self.begin.config;
+        let builder = match builder_of(alloc, options, &config) {
+            Ok(builder) => builder,
+            Err(fault) => return (Err(fault), writer, store),
+        };
+        let mut reporter = SceneReporter::build(alloc, options, builder, &config, writer, store);
+        let passed = self.pass_to(alloc, options.file, &mut reporter);
+        end(options, reporter, passed)
+    }
+}
+
+// What came of lines that were passed to a reporter, and its writers.
+fn end<'a, 'w, W: WriteStr, S: WriteStr>(
+    options: &Options<'_>,
+    reporter: SceneReporter<'w, W, S>,
+    passed: Result<(), Fault<'a>>,
 ) -> (
     Result<RunOutcome, Fault<'a>>,
     &'w mut W,
     Option<Store<'w, S>>,
 )
-    requires store_asked { config_of store ≡ store_for options.now }
-    requires delivered { W.meaning.is_delivered writer.old }
-    requires store_delivered { store_delivered S.meaning store }
-    ensures same_reference { result.1.ghost_name ≡ writer.entry.ghost_name }
-    ensures same_store { IsSameStore store.entry result.2 }
-    ensures ends { (total : ℕ) (all : List RunLine) → L.left total source.old no_lines all
-        → Followed W.meaning (store_meaning S.meaning) options.now all (writer.old, store.entry)
-        (result.1.now, result.2) (λ run. L.left total source.new run []) result.0 }
+    ensures outcome { result.0 ≡ with_outcome reporter.entry.outcome passed.entry }
+    ensures writer { result.1 ≡ reporter.entry.reporter.writer }
+    ensures store { result.2 ≡ reporter.entry.reporter.store }
 {
-    let mut read = LinesRead::new(alloc);
-    let more = read_lines(alloc, options.file, source, &mut read, true);
-    let builder = match builder_of(alloc, options, &read.run.config) {
-        Ok(builder) => builder,
-        Err(fault) => return (Err(fault), writer, store),
+    let outcome = match passed {
+        Ok(()) => Ok(reporter.outcome),
+        Err(fault) => Err(fault),
     };
-    let mut reporter = SceneReporter::build(alloc, builder, &read.run.config, writer, store);
-    let followed = follow_lines(alloc, options, source, &mut read, more, &mut reporter);
     let (writer, store) = reporter.into_parts(options);
-    (followed, writer, store)
-}
-
-// Reports the events that were read, and follows the lines that are left, if there may be more.
-fn follow_lines<'a, L: RunSource, W: WriteStr, S: WriteStr>(
-    alloc: Global,
-    options: &Options<'a>,
-    source: &mut L,
-    read: &mut LinesRead,
-    more: Result<bool, Fault<'a>>,
-    reporter: &mut SceneReporter<'_, W, S>,
-) -> Result<RunOutcome, Fault<'a>>
-    ensures same { IsSameReporter reporter.old.reporter reporter.new.reporter }
-    ensures ends { (total : ℕ) (all : List RunLine)
-        → HasReadLines options.now.file.now all [] no_lines read.old more.entry (L.left total source.old)
-        → (more.entry ≡ Ok true → is_begun read.old.run.events.items ≡ true)
-        → Follows W.meaning S.meaning options.now reporter.old reporter.old (record
-        { config = read.old.run.config; events = [] })
-        → Followed W.meaning (store_meaning S.meaning) options.now all (writers reporter.old) (writers reporter.new)
-        (λ run. L.left total source.new run []) result }
-{
-    let mut more = more;
-    for _turn in 0..u64::MAX {
-        let (events, lines) = (read.run.events.as_slice(), read.run.lines.as_slice());
-        match reporter.report_events(alloc, options, events, lines) {
-            Ok(()) => read.forget_events(),
-            Err(fault) => return Err(fault),
-        }
-        match more {
-            Ok(true) => more = read_lines(alloc, options.file, source, read, true),
-            Ok(false) => return Ok(reporter.outcome),
-            Err(fault) => return Err(fault),
-        }
-    }
-    Err(Fault::CannotRead { file: options.file })
+    (outcome, writer, store)
 }

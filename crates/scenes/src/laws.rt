@@ -15,7 +15,7 @@ use std::io::Write;
 
 /// If a fault stops a report with records, the records come after the texts: no call has a record in the second device
 /// before its text is in the first one. So if nothing was printed, nothing was stored, provided that a call without a
-/// text has no record. `report_accepted` and `follow_source` promise `StandAtOneCall`.
+/// text has no record. `report_judged` and `follow_source` promise `StandAtOneCall`.
 pub fn records_come_after_texts()
     ensures { (texts records : List ReportCall → Text) (calls : List ReportCall) (stored : List ℕ)
         → ((first : List ReportCall) → texts first ≡ [] → records first ≡ [])

@@ -4,13 +4,13 @@
 //!
 //! - `report` is the whole way from a file's bytes to those of its report and its records; `follow` is the same line by
 //!   line.
-//! - `read` reads the lines of a source, `scene` is a run that was read, and `plain` is its report without a check of
-//!   its own.
-//! - `reporter` builds the reporter of a scene, `scene_reporter` makes its calls, and `outcome` is what they say of the
-//!   run.
-//! - `devices` puts a buffer before each device, and `deferred` delivers at the end what a buffer still holds.
-//! - `laws` are functions that do nothing, whose clauses the prover proved about the specs: for one, what can still
-//!   stop a valid scene.
+//! - `laws` says what is left to stop a report of which no line is wrong, and the like.
+//! - `read` reads the lines of a source, and has a sink take their calls: `scene_reporter` reports them, at once or
+//!   into memory, and `judge` asks whether a reporter would refuse them.
+//! - `kept` keeps lines until their run is accepted, a large one as its call (`held_call`).
+//! - `scene` is a run of the library, which owns its text, and `plain` is its report by all its calls.
+//! - `reporter` builds the reporter of a scene, and `outcome` is what its calls say of the run.
+//! - `devices` puts a buffer before each device.
 //! - `process` is what the programs have in common: standard descriptors, the file of records, the line and the status
 //!   of a fault.
 //!
@@ -18,9 +18,11 @@
 //! `command_line`.
 #![tactic(auto)]
 
-mod deferred;
 mod devices;
 pub mod follow;
+mod held_call;
+mod judge;
+pub mod kept;
 pub mod laws;
 mod outcome;
 mod plain;

@@ -1,11 +1,10 @@
 //! The plain way to report a scene: all its calls are made, the first that is refused is asked for, and `run_report`
-//! writes their report.
-//!
-//! `report_accepted`, which the programs call, promises the same and holds one call at a time.
+//! writes their report. The programs hold one call at a time.
 
 ghost use Rattle.std.specs.Prelude.{◌≡◌, ℕ, List, Option, None, Some, IfErr, OnOk, get_or};
 ghost use Rattle.reporter_state.specs.Refusals.{first_refused};
-ghost use Rattle.scenes.specs.Names.{fault_of_first, AreBegun, AreWhole, device, decider_for, fault_at_call, store_for};
+ghost use Rattle.scenes.specs.Names.{fault_of_first, AreBegun, AreWhole, device, decider_for, fault_at_call, lines_of};
+ghost use Rattle.scenes.specs.Names.{store_for};
 
 use crate::reporter::{builder_of, fault_at_call};
 use crate::scene::Scene;
@@ -25,7 +24,7 @@ pub(crate) fn refused_call(
     scene: &Scene,
     calls: &[ReportCall<'_>],
 ) -> Option<Fault<'static>>
-    ensures { result ≡ fault_of_first decider.now scene.now calls.now }
+    ensures { result ≡ fault_of_first decider.now (lines_of scene.now) calls.now }
 {
     let place = first_refused(decider, calls)?;
     let error = decider.refusal(calls.get(place)?)?;
@@ -52,15 +51,16 @@ pub(crate) fn write_calls<W: Write>(
         → AreBegun device device options.now (W.contents writer, held) (W.contents result.1, held)
         scene.now.config fault calls.now) }
 {
-    let Ok(builder) = builder_of(alloc, options, &scene.config) else {
+    let config = scene.config();
+    let Ok(builder) = builder_of(alloc, options, config) else {
         return (Err(Fault::OutOfMemory), writer);
     };
     let mut out = match TextBuffer::new(alloc, writer) {
         Ok(out) => out,
         Err((AllocError, writer)) => return (Err(Fault::OutOfMemory), writer),
     };
-    let unicode = scene.config.use_unicode;
-    let empty = scene.config.display_empty_outputs;
+    let unicode = config.use_unicode;
+    let empty = config.display_empty_outputs;
     let ran = run_report(
         alloc, builder, &mut out, unicode, false, false, empty, calls,
     );
@@ -91,7 +91,8 @@ pub(crate) fn write_calls_and_records<W: Write, S: Write>(
         (λ fault. AreBegun device device options.now (W.contents writer, S.contents store_writer)
         (W.contents result.1, S.contents result.2) scene.now.config fault calls.now) }
 {
-    let Ok(builder) = builder_of(alloc, options, &scene.config) else {
+    let config = scene.config();
+    let Ok(builder) = builder_of(alloc, options, config) else {
         return (Err(Fault::OutOfMemory), writer, store_writer);
     };
     let mut out = match TextBuffer::new(alloc, writer) {
@@ -105,8 +106,8 @@ pub(crate) fn write_calls_and_records<W: Write, S: Write>(
             return (Err(Fault::OutOfMemory), writer, store_writer);
         }
     };
-    let unicode = scene.config.use_unicode;
-    let empty = scene.config.display_empty_outputs;
+    let unicode = config.use_unicode;
+    let empty = config.display_empty_outputs;
     let ran = run_report_with_store(
         alloc,
         builder,
@@ -129,7 +130,7 @@ pub(crate) fn write_calls_and_records<W: Write, S: Write>(
 
 // What a run of a scene's calls stopped by, as a fault of the program.
 fn fault_of_stop(scene: &Scene, stop: RunFault) -> Fault<'static>
-    ensures { result ≡ fault_at_call (get_or scene.now.lines.items stop.position 0) stop.fault }
+    ensures { result ≡ fault_at_call (get_or (lines_of scene.now) stop.position 0) stop.fault }
 {
     fault_at_call(scene.line_of(stop.position), stop.fault)
 }

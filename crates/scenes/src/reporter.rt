@@ -5,7 +5,6 @@ ghost use Rattle.std.specs.Prelude.{◌≡◌, IfOk, IfErr};
 ghost use Rattle.scenes.specs.Names.{builder_for, fault_at_call, kind_for, progress_for, surroundings_of, decider_for};
 ghost use Rattle.scenes.specs.Names.{Fault};
 
-use crate::scene::SceneConfig;
 use command_line::args::Options;
 use command_line::fault::{Fault, LineFault};
 use console_reporter::config::{DisplayConfig, ShowProgress};
@@ -13,6 +12,7 @@ use console_reporter::imp::{
     DisplayReporterBuilder, DisplayerKind, OutputLoadDecider, Surroundings, WriteEventError,
 };
 use run_model::config::CompiledDefaultFilter;
+use scene_run_lines::config::SceneConfig;
 use std::alloc::Global;
 
 /// What decides which output the scene's reporter needs and which events it refuses.

@@ -1,33 +1,101 @@
 //! A run as a scene holds it, and the calls that it makes of its reporter.
 
 ghost use Rattle.std.specs.Prelude.{◌≡◌, IfOk, IfErr, get_or};
-ghost use Rattle.{std.specs.List.AllZip, scene_events.specs.Scenes.IsCallOf, scenes.specs.Reports.AreReadyCallsOf};
+ghost use Rattle.std.specs.List.{AllZip};
+ghost use Rattle.scene_reader.specs.Names.{IsCallOf, event_lines, no_lines, text_lines};
+ghost use Rattle.scenes.specs.Names.{AreReadyCallsOf, IsFaultOfLines, IsJudgeFault, OfText};
+ghost use Rattle.scenes.specs.{SceneNotes.NotesEvent};
 
+use crate::read::{Reading, SceneSource};
 use crate::reporter::decider_of;
 use command_line::args::Options;
 use command_line::fault::Fault;
 use console_reporter::imp::{ReportCall, unload_skipped};
+use run_model::event::TestEventKind;
+use run_model::info::InfoResponse;
 use run_model::memory::OutOfMemory;
-pub use scene_reader::scene::{SceneConfig, attempts, event, outputs, run_events, unit_events};
+use run_model::name::{OwnedTestInstanceId, TestInstanceId};
+use scene_fields::fault::LineError;
+use scene_fields::split::first_line;
+use scene_fields::stored::PlacedOutput;
+use scene_reader::reader::{CallSink, read_call};
+use scene_run_lines::config::SceneConfig;
+use scene_unit_lines::lines::no_names;
 use std::alloc::Global;
+use std::marker::Model;
 
-/// A run: how it is reported, and its events in order.
+/// A run whose lines were all read. It owns their text, and the names of their tests.
 #[derive(Drop)]
 pub struct Scene {
-    /// How it is reported.
-    pub config: SceneConfig,
-    /// Its events.
-    pub events: Vec<event::SceneEvent>,
-    /// The line of each event, from 1.
-    pub lines: Vec<u64>,
+    config: SceneConfig,
+    text: Vec<u8>,
+    events: Vec<EventLine>,
+}
+
+// The line of an event: its number, from 1, and the names of its test, or empty ones.
+#[derive(Drop)]
+struct EventLine {
+    number: u64,
+    names: OwnedTestInstanceId,
+}
+
+impl Model for Scene {
+    ghost use Rattle.std.specs.Prelude.{map};
+    ghost use Rattle.scenes.specs.ParsedScenes.{IsOfText, SceneText};
+
+    ghost Value = { SceneText };
+
+    ghost view = { λ s. record { text = s.text.items; config = s.config } };
+
+    ghost invariant = { λ s. IsOfText s.text.items s.config (map (λ e. e.number) s.events.items) };
 }
 
 impl Scene {
+    // Reads the lines of a text, of a scene in this file.
+    pub(crate) fn read<'a>(alloc: Global, file: &'a str, text: Vec<u8>) -> Result<Scene, Fault<'a>>
+        ensures scene { IfOk result (λ scene. scene.text ≡ text.items) }
+        ensures fault { IfErr result (IsFaultOfLines (text_lines text.items)) }
+        ensures of_judge { IfErr result (IsJudgeFault file.now) }
+    {
+        let mut source = SceneSource::new(alloc, text.as_slice())?;
+        let mut reading = Reading::new(alloc);
+        let mut events = Events {
+            lines: Vec::new(alloc),
+        };
+        reading.configure(alloc, file, &mut source)?;
+        let config = reading.read.config;
+        reading.pass_to(alloc, file, &mut source, &mut events)?;
+        drop(source);
+        Ok(Scene {
+            config,
+            text,
+            events: events.lines,
+        })
+    }
+
+    /// How it is reported, as its text says.
+    pub fn config(&self) -> &SceneConfig
+        ensures config { result.now ≡ self.now.config }
+        ensures of_text { OfText self.now.text (λ run. run.config ≡ self.now.config) }
+    {
+        &self.config
+    }
+
+    /// Its text.
+    pub fn text(&self) -> &[u8]
+        ensures { result.now ≡ self.now.text }
+    {
+        self.text.as_slice()
+    }
+
     /// The line of the event with this index, from 1; 0 if there is no such event.
     pub fn line_of(&self, place: usize) -> u64
-        ensures { result ≡ get_or self.now.lines.items place 0 }
+        ensures { result ≡ get_or (event_lines 1 no_lines (text_lines self.now.text)) place 0 }
     {
-        line_at(self.lines.as_slice(), place)
+        match self.events.get(place) {
+            Some(event) => event.number,
+            None => 0,
+        }
     }
 
     /// The calls that the scene makes of a reporter, in order. They borrow its names. Where the options ask for it, the
@@ -36,16 +104,16 @@ impl Scene {
     /// # Errors
     ///
     /// `OutOfMemory`.
-    #[tactic(auto, using(crate::proofs::lemmas::ReadyCalls::ready_whole, crate::proofs::lemmas::ReadyCalls::ready_unread))]
     pub fn calls(
         &self,
         alloc: Global,
         options: &Options<'_>,
     ) -> Result<Vec<ReportCall<'_>>, Fault<'static>>
-        ensures calls { IfOk result (λ calls. AreReadyCallsOf options.now self.now calls.items) }
+        ensures calls { IfOk result
+            (λ calls. OfText self.now.text (λ run. AreReadyCallsOf options.now run calls.items)) }
         ensures err { IfErr result (λ fault. fault ≡ Fault.OutOfMemory) }
     {
-        let mut calls = whole_calls(alloc, self.events.as_slice())?;
+        let mut calls = self.whole_calls(alloc)?;
         if !options.unload_skipped {
             return Ok(calls);
         }
@@ -53,29 +121,80 @@ impl Scene {
         unload_skipped(&decider, calls.as_mut_slice());
         Ok(calls)
     }
-}
 
-// The calls of events, in order, with what they say of output.
-#[tactic(auto, using(crate::proofs::lemmas::Refusals::zipped_more))]
-fn whole_calls<'a>(
-    alloc: Global,
-    events: &'a [event::SceneEvent],
-) -> Result<Vec<ReportCall<'a>>, OutOfMemory>
-    ensures calls { IfOk result (λ calls. AllZip IsCallOf events.now calls.items) }
-{
-    let mut calls = Vec::with_capacity(alloc, events.len())?;
-    for event in events {
-        event.push_call(alloc, &mut calls)?;
+    // The calls, with what they say of output. Each line is read again, which cannot fail.
+    fn whole_calls(&self, alloc: Global) -> Result<Vec<ReportCall<'_>>, OutOfMemory>
+        ensures { IfOk result (λ calls. OfText self.now.text (λ run. AllZip IsCallOf run.events calls.items)) }
+    {
+        let mut calls = Vec::with_capacity(alloc, self.events.len())?;
+        let mut rest = Some(self.text.as_slice());
+        for _turn in 0..u64::MAX {
+            let Some(left) = rest else {
+                return Ok(calls);
+            };
+            let (line, after) = first_line(left);
+            let names = self.events.get(calls.len()).map(|event| &event.names);
+            let call = match read_call(alloc, names, line) {
+                Ok(call) => call,
+                Err(LineError::OutOfMemory) => return Err(OutOfMemory),
+                Err(LineError::Fault(_)) => unreachable!(),
+            };
+            if let Some(call) = call {
+                calls.push(call)?;
+            }
+            rest = after;
+        }
+        Err(OutOfMemory)
     }
-    Ok(calls)
 }
 
-// The line at this place, or 0.
-pub(crate) fn line_at(lines: &[u64], place: usize) -> u64
-    ensures { result ≡ get_or lines.now place 0 }
-{
-    match lines.get(place) {
-        Some(line) => *line,
-        None => 0,
+// The lines of the events that were read.
+#[derive(Drop)]
+struct Events {
+    lines: Vec<EventLine>,
+}
+
+impl CallSink for Events {
+    ghost takes = { λ old file. NotesEvent old };
+
+    fn take<'a>(
+        &mut self,
+        alloc: Global,
+        _file: &'a str,
+        number: u64,
+        _stored: &[PlacedOutput],
+        call: &mut ReportCall<'_>,
+    ) -> Result<(), Fault<'a>> {
+        let names = match test_of(call) {
+            Some(test) => {
+                let (binary_id, test_name) = (test.binary_id.as_str(), test.test_name.as_str());
+                OwnedTestInstanceId::new(alloc, binary_id, test_name)?
+            }
+            None => no_names(alloc),
+        };
+        match self.lines.push(EventLine { number, names }) {
+            Ok(()) => Ok(()),
+            Err(_) => Err(Fault::OutOfMemory),
+        }
+    }
+}
+
+// The test of a call, if it is of one. Its names are compared with those of the line, so nothing rests on them.
+fn test_of<'c>(call: &'c ReportCall<'_>) -> Option<&'c TestInstanceId<'c>> {
+    let ReportCall::Event(event) = call else {
+        return None;
+    };
+    match &event.kind {
+        TestEventKind::TestStarted { test_instance, .. }
+        | TestEventKind::TestSlow { test_instance, .. }
+        | TestEventKind::TestAttemptFailedWillRetry { test_instance, .. }
+        | TestEventKind::TestRetryStarted { test_instance, .. }
+        | TestEventKind::TestFinished { test_instance, .. }
+        | TestEventKind::TestSkipped { test_instance, .. } => Some(test_instance),
+        TestEventKind::InfoResponse {
+            response: InfoResponse::Test(response),
+            ..
+        } => Some(&response.test_instance),
+        _ => None,
     }
 }

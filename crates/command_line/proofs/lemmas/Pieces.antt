@@ -5,6 +5,7 @@ use Rattle.std.proofs.Common.{◌==◌, if◌then◌else◌}
 use native.Mathlib.Numerals.{unary_clauses}
 use Rattle.{std.specs.Io.KnownBytes.Keeps, std.specs.Io.KnownBytes.prepend_known}
 use Rattle.{std.proofs.lemmas.Bool.Decides.nat_tests, memchr.specs.Find.IsLastByte, memchr.specs.Find.is_byte}
+use Rattle.{memchr.specs.Find.IsFirstByte, command_line.specs.Pieces.IsFeed, std.specs.Option.ForSome}
 use Rattle.{command_line.specs.Pieces.IsBehind, command_line.specs.Pieces.IsNextPiece}
 use Rattle.command_line.specs.declared.pieces.Chunk.TheVariants as taken
 
@@ -31,13 +32,27 @@ feed_here (c ∷ t) left (suc k) within feed =
     let later = feed_here t left k (omega (arith, within)) feed in
     simp unary_clauses (ap (λ u. c ∷ u) (simp unary_clauses at later))
 
--- the lines that end in the last line feed of the buffer
+-- a line feed that was found
+pub first_feed : (t : List ℕ) (r : Option ℕ) → IsFirstByte (is_byte 10) t r → ForSome r (IsFeed t)
+first_feed t None found = λ at is. absurd (cc)
+first_feed t (Some k) found = λ at is.
+    let same : k ≡ at = cc in
+    let feed : get_or t k 0 ≡ 10 = grind (arith, nat_tests, found.1) in
+    rw (← same) (found.0.high, feed)
+
+pub last_feed : (t : List ℕ) (r : Option ℕ) → IsLastByte (is_byte 10) t r → ForSome r (IsFeed t)
+last_feed t None found = λ at is. absurd (cc)
+last_feed t (Some k) found = λ at is.
+    let same : k ≡ at = cc in
+    let feed : get_or t k 0 ≡ 10 = grind (arith, nat_tests, found.1) in
+    rw (← same) (found.0.high, feed)
+
+-- the lines that end in a line feed of the buffer
 pub lines_taken : (k : ℕ) (old at_hand text : List ℕ) → (left : List ℕ) × (at_hand ++ left ≡ text)
-    → IsLastByte (is_byte 10) at_hand (Some k) → old ++ text ≡ (old ++ take k at_hand) ++ 10 ∷ drop (k + 1) text
-lines_taken k old at_hand text left last =
-    let feed : get_or at_hand k 0 ≡ 10 = grind (arith, nat_tests, last.1) in
+    → IsFeed at_hand k → old ++ text ≡ (old ++ take k at_hand) ++ 10 ∷ drop (k + 1) text
+lines_taken k old at_hand text left feed =
     let here = subst (λ t. t ≡ take k at_hand ++ 10 ∷ drop (k + 1) t) left.1
-    (feed_here at_hand left.0 k last.0.high feed) in
+    (feed_here at_hand left.0 k feed.0 feed.1) in
     ap (λ u. old ++ u) here ∙ sym (append_assoc old (take k at_hand) (10 ∷ drop (k + 1) text))
 
 -- lines, or part of a line, were taken from what was left of the text

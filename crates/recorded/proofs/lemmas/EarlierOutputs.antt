@@ -1,22 +1,24 @@
 -- A test that has finished with all its outputs in it, and with that of its last attempt alone: no call of the one is
 -- shown otherwise than a call of the other.
-use Rattle.std.proofs.Common.{◌≡◌, ℕ, true, false, ◌==◌, List, [], ◌∷◌, None, Some, length, reverse, refl, ap, sym, ◌∙◌}
-use Rattle.std.proofs.Common.{subst, arith, inl, inr}
-use Rattle.{std.proofs.lemmas.Bool.cases_Bool, std.proofs.lemmas.List.length-map}
-use Rattle.{reporter_state.specs.Unread.unread_call}
+use Rattle.std.proofs.Common.{◌≡◌, ℕ, true, false, ◌==◌, List, [], ◌∷◌, None, Some, length, Option, reverse, refl, ap}
+use Rattle.std.proofs.Common.{sym, ◌∙◌, subst, arith, inl, inr}
+use Rattle.std.proofs.lemmas.{Bool.cases_Bool, Bool.false≢true, List.length-map}
+use Rattle.{reporter_state.specs.Unread.unread_call, run_model.specs.Loads.attempts_with}
 use Rattle.{reporter_state.specs.declared.decider.OutputLoadDecider.OutputLoadDecider}
 use mathlib.Core.List.{reverse_aux}
-use Rattle.console_reporter.proofs.lemmas.Earlier.{call_of_last, calls_of_last, kind_of_last, last_alone}
-use Rattle.recorded.specs.Names.{event_inline, output_inline, wanted, wanted_of, skips}
-use Rattle.recorded.proofs.lemmas.{Skipped.skips-with, Skips.skips-same, Unloaded.unloaded-earlier}
-use Rattle.run_model.specs.Names.{Attempts, attempt_with_output, unloaded_attempt}
-use Rattle.scene_reader.specs.Names.{ReportCall, TestEvent, TestEventKind, ChildOutputDescription, LiveSpec}
-use Rattle.scene_reader.specs.Names.{attempts_with, event_with, IsCallOf, SaysSame, SceneEvent, TestFinish}
-use Rattle.scene_reader.specs.Names.{PlacedOutput}
+use Rattle.{std.specs.Option.is_some}
+use Rattle.console_reporter.proofs.lemmas.Earlier.{call_of_last, calls_of_last, last_alone}
+use Rattle.recorded.specs.Names.{event_inline, event_with, only_place_of, output_inline, wanted, wanted_of, skips}
+use Rattle.recorded.proofs.lemmas.{Named.call_skips, Named.named_skips, Skipped.skips-with}
+use Rattle.recorded.proofs.lemmas.{Unloaded.unloaded-earlier}
+use Rattle.run_model.specs.Names.{Attempts, attempt_with_output, Nanos, StressIndex, TestInstanceId, TestOutputDisplay}
+use Rattle.run_model.specs.Names.{unloaded_attempt}
+use Rattle.scene_reader.specs.Names.{call_by_names, ReportCall, RunStats, TestEventKind, ChildOutputDescription}
+use Rattle.scene_reader.specs.Names.{EventCall, HeaderCall, LiveSpec, PlacedOutput, PrefixCall, SceneEvent}
 use Rattle.scenes.specs.{Outcomes.outcome_after, Outcomes.run_outcome, declared.outcome.RunOutcome.RunOutcome}
 use Rattle.run_model.specs.declared.call.ReportCall.TheVariants as call
 use Rattle.run_model.specs.declared.event.TestEventKind.TheVariants as kind
-use Rattle.scene_events.specs.declared.scene.event.SceneEvent.TheVariants as scene
+use Rattle.run_model.specs.declared.info.InfoResponse.TheVariants as response
 
 abbrev AttemptsOfRun : Type 0
 AttemptsOfRun = Attempts LiveSpec ChildOutputDescription
@@ -25,16 +27,6 @@ AttemptsOfRun = Attempts LiveSpec ChildOutputDescription
 abbrev attempts_inline : List ℕ → List PlacedOutput → AttemptsOfRun → AttemptsOfRun
 attempts_inline all [] a = a
 attempts_inline all (p ∷ ps) a = attempts_inline all ps (attempts_with p.place (output_inline all p.output) a)
-
--- and a test that has finished
-finished_inline : (all : List ℕ) (ps : List PlacedOutput) (e : TestFinish) → event_inline all ps (scene.TestFinished e)
-    ≡ scene.TestFinished (record e {
-      attempts = attempts_inline all ps e.attempts;
-    })
-finished_inline all [] e = refl
-finished_inline all (p ∷ ps) e = finished_inline all ps (record e {
-  attempts = attempts_with p.place (output_inline all p.output) e.attempts;
-})
 
 -- attempts that differ at most in what was captured before the last one
 abbrev AreLike : AttemptsOfRun → AttemptsOfRun → Type 0
@@ -94,66 +86,121 @@ skips-inline d all (p ∷ ps) event = skips-inline d all ps (event_with p.place 
     ∙ skips-with d p.place (output_inline all p.output) event
 
 -- it is not skipped
-unread-loaded : (d : OutputLoadDecider) (event : SceneEvent) (e : TestEvent) → SaysSame event e.kind
-    → skips d event ≡ false → unread_call d (call.Event e) ≡ call.Event e
-unread-loaded d event e says loads = rw (skips-same d event e.kind says ∙ loads) refl
+unread-loaded : (d : OutputLoadDecider) (c : ReportCall) → call_skips d c ≡ false → unread_call d c ≡ c
+unread-loaded d (call.Event e) loads = rw loads refl
+unread-loaded d (call.Header h) loads = refl
+unread-loaded d (call.Prefix p) loads = refl
+
+-- the attempts of a test that has finished, and the same event with others
+abbrev kind_attempts : TestEventKind → Option AttemptsOfRun
+kind_attempts (kind.TestFinished stress test success failure statuses stats) = Some statuses
+kind_attempts other = None
+
+abbrev event_attempts : SceneEvent → Option AttemptsOfRun
+event_attempts (EventCall e) = kind_attempts e.kind
+event_attempts other = None
+
+abbrev kind_put : AttemptsOfRun → TestEventKind → TestEventKind
+kind_put a (kind.TestFinished stress test success failure statuses stats) = kind.TestFinished stress test success
+    failure a stats
+kind_put a other = other
+
+abbrev event_put : AttemptsOfRun → SceneEvent → SceneEvent
+event_put a (EventCall e) = EventCall (record e { kind = kind_put a e.kind })
+event_put a other = other
+
+same_some : (a b : AttemptsOfRun) → ◌≡◌ {A = Option AttemptsOfRun} (Some a) (Some b) → a ≡ b
+same_some a b h = cc
+
+-- it is none that has no attempts
+no_attempts : (event finish : SceneEvent) → event ≡ finish → is_some (event_attempts finish) ≡ true
+    → is_some (event_attempts event) ≡ true
+no_attempts event finish is has = ap (λ e. is_some (event_attempts e)) is ∙ has
 
 -- a call of an event with the outputs in it that are loaded is shown as one of the event with all of them
 module _ (d : OutputLoadDecider) (all : List ℕ) (ps : List PlacedOutput) where
-  -- a test that has finished with the one, and with the others
-  module _ (e : TestFinish) where
-    abbrev with_last : SceneEvent
-    with_last = scene.TestFinished (record e {
-      attempts = attempts_inline all (wanted_of (scene.TestFinished e) ps) e.attempts;
+  loads-inline : (event : SceneEvent) (c : ReportCall) (qs : List PlacedOutput) → skips d event ≡ false
+      → call_by_names c ≡ event_inline all qs event → unread_call d c ≡ c
+  loads-inline event c qs loads is = unread-loaded d c
+      (sym (named_skips d c) ∙ ap (skips d) is ∙ skips-inline d all qs event ∙ loads)
+
+  -- there is one
+  abbrev IsShown : SceneEvent → ReportCall → Type 0
+  IsShown event c = (other : ReportCall) × (call_by_names other ≡ event_inline all ps event)
+      × (shown_call d other ≡ shown_call d c)
+
+  -- it is the call itself, of an event of which all outputs are loaded
+  all_loaded : (event : SceneEvent) (c : ReportCall) → call_by_names c ≡ event_inline all (wanted None ps) event
+      → IsShown event c
+  all_loaded event c is = (c, subst (λ qs. call_by_names c ≡ event_inline all qs event) (all_wanted ps) is, refl)
+
+  -- a test that has finished
+  module _ (elapsed : Nanos) (stress : Option StressIndex) (test : TestInstanceId)
+      (success failure : TestOutputDisplay) (stats : RunStats) where
+    abbrev finished : AttemptsOfRun → SceneEvent
+    finished a = EventCall (record {
+      elapsed = elapsed;
+      kind = kind.TestFinished stress test success failure a stats;
     })
 
-    abbrev with_all : SceneEvent
-    with_all = scene.TestFinished (record e { attempts = attempts_inline all ps e.attempts })
+    finished_inline : (qs : List PlacedOutput) (a : AttemptsOfRun)
+        → event_inline all qs (finished a) ≡ finished (attempts_inline all qs a)
+    finished_inline [] a = refl
+    finished_inline (q ∷ qs) a = finished_inline qs (attempts_with q.place (output_inline all q.output) a)
 
-    kind_of_all : (k : TestEventKind) → SaysSame with_last k
-        → (other : TestEventKind) × SaysSame with_all other × (kind_of_last other ≡ kind_of_last k)
-    kind_of_all (kind.TestFinished stress test success failure statuses stats) says = (
-      kind.TestFinished stress test success failure (attempts_inline all ps e.attempts) stats,
-      (says.0, says.1, says.2, says.3, refl, says.5),
-      ap (λ a. kind.TestFinished stress test success failure a stats)
-          (like-inline all (length e.attempts.earlier) ps e.attempts e.attempts refl refl ∙ ap last_alone (sym says.4)),
-    )
-    kind_of_all k says = absurd says
-
-    loads_so : skips d (scene.TestFinished e) ≡ false → (qs : List PlacedOutput) → skips d
-        (scene.TestFinished (record e {
-          attempts = attempts_inline all qs e.attempts;
-        })) ≡ false
-    loads_so loads qs = ap (skips d) (sym (finished_inline all qs e)) ∙ skips-inline d all qs (scene.TestFinished e)
-        ∙ loads
-
-    of_finish : (c : ReportCall) → IsCallOf with_last c → skips d (scene.TestFinished e) ≡ false
-        → (other : ReportCall) × IsCallOf with_all other × (shown_call d other ≡ shown_call d c)
-    of_finish (call.Event x) is loads =
-        let h = kind_of_all x.kind is.1 in
-        let y : TestEvent = record { elapsed = x.elapsed; kind = h.0 } in (
-          call.Event y,
-          (is.0, h.1),
-          ap call_of_last (unread-loaded d with_all y h.1 (loads_so loads ps)) ∙ ap
-              (λ (k : TestEventKind). call.Event (record {
-                elapsed = x.elapsed;
-                kind = k;
-              })) h.2
-              ∙ sym
-              (ap call_of_last
-              (unread-loaded d with_last x is.1 (loads_so loads (wanted_of (scene.TestFinished e) ps)))),
+    -- by its call
+    of_finish : (a : AttemptsOfRun) (at : Nanos) (k : TestEventKind)
+        → call_by_names (call.Event (record { elapsed = at; kind = k }))
+        ≡ finished (attempts_inline all (wanted_of (finished a) ps) a)
+        → skips d (finished a) ≡ false → IsShown (finished a) (call.Event (record { elapsed = at; kind = k }))
+    of_finish a at (kind.TestFinished s t on_success on_failure b counts) is loads =
+        let loaded = wanted_of (finished a) ps in
+        let with_attempts : AttemptsOfRun → ReportCall = λ x. call.Event (record {
+          elapsed = at;
+          kind = kind.TestFinished s t on_success on_failure x counts;
+        }) in
+        let other = with_attempts (attempts_inline all ps a) in
+        let same : b ≡ attempts_inline all loaded a =
+        same_some b (attempts_inline all loaded a) (ap event_attempts is) in
+        let named : call_by_names other ≡ finished (attempts_inline all ps a) =
+        ap (event_put (attempts_inline all ps a)) is in
+        let of_all = named ∙ sym (finished_inline ps a) in (
+          other,
+          of_all,
+          ap call_of_last (loads-inline (finished a) other ps loads of_all)
+              ∙ ap with_attempts
+              (like-inline all (length a.earlier) ps a a refl refl ∙ ap last_alone (sym same))
+              ∙ sym (ap call_of_last
+              (loads-inline (finished a) (with_attempts b) loaded loads (is ∙ sym (finished_inline loaded a)))),
         )
-    of_finish (call.Header h) is loads = absurd is
-    of_finish (call.Prefix p) is loads = absurd is
+    of_finish a at (kind.InfoResponse index total (response.SetupScript r)) is loads =
+        absurd (false≢true (no_attempts _ _ is refl))
+    of_finish a at (kind.InfoResponse index total (response.Test r)) is loads =
+        absurd (false≢true (no_attempts _ _ is refl))
+    of_finish a at k is loads = absurd (false≢true (no_attempts _ _ is refl))
 
-  pub loaded_call : (event : SceneEvent) (c : ReportCall) → IsCallOf (event_inline all (wanted_of event ps) event) c
-      → skips d event ≡ false →
-      (other : ReportCall) × IsCallOf (event_inline all ps event) other × (shown_call d other ≡ shown_call d c)
-  loaded_call (scene.TestFinished e) c is loads =
-      let of = of_finish e c
-      (subst (λ x. IsCallOf x c) (finished_inline all (wanted_of (scene.TestFinished e) ps) e) is) loads in
-      (of.0, subst (λ x. IsCallOf x of.0) (sym (finished_inline all ps e)) of.1, of.2)
-  loaded_call event c is loads = (c, subst (λ qs. IsCallOf (event_inline all qs event) c) (all_wanted ps) is, refl)
+  of_event : (elapsed : Nanos) (k : TestEventKind) (c : ReportCall)
+      → call_by_names c ≡ event_inline all (wanted (only_place_of k) ps)
+      (EventCall (record { elapsed = elapsed; kind = k }))
+      → skips d (EventCall (record { elapsed = elapsed; kind = k })) ≡ false
+      → IsShown (EventCall (record { elapsed = elapsed; kind = k })) c
+  of_event elapsed (kind.TestFinished stress test success failure a stats) (call.Event x) is loads =
+      let loaded = wanted (Some (length a.earlier)) ps in
+      of_finish elapsed stress test success failure stats a x.elapsed x.kind
+      (is ∙ finished_inline elapsed stress test success failure stats loaded a) loads
+  of_event elapsed (kind.TestFinished stress test success failure a stats) (call.Header h) is loads = absurd
+      (let loaded = wanted (Some (length a.earlier)) ps in
+      false≢true (no_attempts _ _ (is ∙ finished_inline elapsed stress test success failure stats loaded a) refl))
+  of_event elapsed (kind.TestFinished stress test success failure a stats) (call.Prefix p) is loads = absurd
+      (let loaded = wanted (Some (length a.earlier)) ps in
+      false≢true (no_attempts _ _ (is ∙ finished_inline elapsed stress test success failure stats loaded a) refl))
+  of_event elapsed k c is loads = all_loaded (EventCall (record { elapsed = elapsed; kind = k })) c is
+
+  pub loaded_call : (event : SceneEvent) (c : ReportCall)
+      → call_by_names c ≡ event_inline all (wanted_of event ps) event → skips d event ≡ false → IsShown event c
+  loaded_call (EventCall e) c is loads = of_event e.elapsed e.kind c is loads
+  loaded_call (HeaderCall h) c is loads = all_loaded (HeaderCall h) c is
+  loaded_call (PrefixCall p) c is loads = all_loaded (PrefixCall p) c is
 
 -- nor does the outcome of a run
 outcome-call : (before : RunOutcome) (c : ReportCall) → outcome_after before (call_of_last c) ≡ outcome_after before c

@@ -3,15 +3,15 @@
 use Rattle.std.proofs.Common.{◌≡◌, ◌⊎◌, ℕ, Bool, true, false, List, [], ◌∷◌, map, Option, None, Some, Result, Ok, Err}
 use Rattle.std.proofs.Common.{refl, sym, ap, ◌∙◌, subst, inl, inr, if◌then◌else◌}
 use Rattle.{std.specs.List.AllZip, reporter_state.specs.declared.decider.OutputLoadDecider.OutputLoadDecider}
-use Rattle.{scenes.proofs.lemmas.ReadLines.config_kept}
+use Rattle.{scenes.proofs.lemmas.ReadLines.kept_config}
 use Rattle.{std.proofs.lemmas.Bool.cases_Bool, std.proofs.lemmas.Bool.false≢true}
 use Rattle.{std.proofs.lemmas.Slice.Zip.all_zipped_more, scenes.specs.Names.Options, scenes.specs.Names.decider_for}
 use Rattle.recorded.specs.Names.{event_inline, event_replayed, first_field_not, is_there, is_undamaged, unless_bad}
 use Rattle.recorded.specs.Names.{wanted_of, skips, line_inline, line_replayed}
 use Rattle.scene_reader.specs.Names.{PlacedOutput, SceneEvent, LineFault, AllRead, ParsedLines, event_line, is_begun}
 use Rattle.scene_reader.specs.Names.{line_read, lines_before, lines_with, recorded_line, with_line, with_made}
-use Rattle.scene_reader.specs.declared.reader.ParsedLine.TheVariants.{ConfigLine, EventLine, NoEvent}
-use Rattle.scene_reader.specs.declared.reader.ParsedLine.{ParsedLine}
+use Rattle.scene_reader.specs.Names.{ParsedLine}
+use Rattle.scene_reader.specs.SceneTexts.{ConfigLine, EventLine, NoEvent}
 
 -- an event with every output in its place: the decider skips those of the one that is replayed, or that one has those
 -- in it that are loaded
@@ -80,12 +80,13 @@ module _ (options : Options) (all : List ℕ) where
 
     -- by what the line says
     line_goes : (says : Result (ParsedLine × List PlacedOutput) LineFault)
+        → recorded_line (lines_before replayed) t ≡ says
         → lines_with replayed (with_made (λ stored e. event_replayed all d stored e) says) ≡ Ok after →
         (next : ParsedLines) × (lines_with inline (with_made (λ stored e. Ok (event_inline all stored e)) says)
         ≡ Ok next) × AreInline options all after next
-    line_goes (Ok (NoEvent, stored)) h =
+    line_goes (Ok (NoEvent, stored)) is h =
         (inline, refl, (let same : replayed ≡ after = cc in subst (λ x. AreInline options all x inline) same are))
-    line_goes (Ok (ConfigLine c, stored)) h =
+    line_goes (Ok (ConfigLine c, stored)) is h =
         let same : with_line replayed (ConfigLine c) ≡ after = cc in (
           with_line inline (ConfigLine c),
           refl,
@@ -93,28 +94,29 @@ module _ (options : Options) (all : List ℕ) where
             config = refl;
             events = elim (cases_Bool (is_begun replayed.events)) [
               | inl begun ↦
-                  let kept : c ≡ replayed.config = ap (λ x. x.config) same
-                  ∙ config_kept replayed (line_replayed options all t ∷ []) after begun (after, reads, refl) in
+                  let kept : c ≡ replayed.config =
+                  kept_config replayed (line_replayed options all t) (ConfigLine c) begun
+                  (ap (with_made (λ stored e. event_replayed all d stored e)) is) in
                   subst (λ k. AllZip (IsInline all (decider_for options k)) replayed.events inline.events) (sym kept)
                   are.events
               | inr none ↦ none_zipped _ _ replayed.events inline.events none are.events
             ];
           }),
         )
-    line_goes (Ok (EventLine e, stored)) h = (
+    line_goes (Ok (EventLine e, stored)) is h = (
       with_line inline (EventLine (event_inline all stored e)),
       refl,
       line_made stored e
           (event_replayed all d stored e) refl h,
     )
-    line_goes (Err f) h = absurd (cc)
+    line_goes (Err f) is h = absurd (cc)
 
     goes : (next : ParsedLines) × (line_read inline (line_inline all t) ≡ Ok next) × AreInline options all after next
     unfolding line_read
     goes =
         let same_before : lines_before inline ≡ lines_before replayed = rw
         (are.config, same_begun _ replayed.events inline.events are.events) refl in
-        let next = line_goes (recorded_line (lines_before replayed) t) reads in (
+        let next = line_goes (recorded_line (lines_before replayed) t) refl reads in (
           next.0,
           ap (λ b. lines_with inline
               (with_made (λ stored e. Ok (event_inline all stored e)) (recorded_line b t))) same_before

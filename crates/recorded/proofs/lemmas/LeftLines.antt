@@ -1,135 +1,287 @@
--- What is left of a recorded run, line by line (for `read_next`).
+-- What is left of a recorded run, line by line (for `RecordedRun`'s `next_piece`, `pass_line`).
 use Rattle.std.proofs.Common.{◌≡◌, ℕ, ◌+◌, Bool, true, false, List, [], ◌∷◌, ◌++◌, Option, Some, Result, Ok, Err, map}
-use Rattle.std.proofs.Common.{refl, sym, ap, ◌∙◌, append_assoc, arith, inl, inr}
-use Rattle.scenes.specs.Names.{Options, Fault, HasReadLines, IsMore, decider_for, LinesRead}
-use Rattle.recorded.proofs.lemmas.LoadedLines.{before_is, behind, one_read}
-use Rattle.{recorded.proofs.lemmas.WholeLines.ended_lines-more}
-use Rattle.{scene_reader.specs.declared.reader.ParsedLine.ParsedLine, scene_reader.proofs.lemmas.Tellings.reads_none}
-use Rattle.recorded.specs.Names.{event_replayed, CountsLine, IsNextLine, LeavesLine, counted, before_rest}
-use Rattle.recorded.specs.Names.{line_replayed, lines_replayed, needed, needed_for, ended_lines, IsLeft}
-use Rattle.scene_reader.specs.Names.{SceneEvent, LineFault, PlacedOutput, ParsedLines, ReadsLines, RunLine, before_next}
-use Rattle.scene_reader.specs.Names.{line_read, lines_before, lines_with, recorded_line, with_made}
-use Rattle.scenes.proofs.lemmas.ReadLines.{begun_by, further as with_more, next_fault}
+use Rattle.std.proofs.Common.{refl, sym, ap, ◌∙◌, subst, arith, inl, inr, IfOk}
+use Rattle.scenes.specs.{Names.Options, Names.Fault, Names.HasNext, Names.PassesNext, Names.decider_for, Read.IsGiven}
+use Rattle.{scenes.specs.Names.LinesRead, scenes.specs.Read.StopsNext}
+use Rattle.{reporter_state.specs.declared.decider.OutputLoadDecider.OutputLoadDecider}
+use Rattle.{scenes.proofs.lemmas.ReadLines.begun_by}
+use Rattle.recorded.proofs.lemmas.{WholeLines.ended_lines-more}
+use Rattle.recorded.specs.Names.{event_replayed, IsNextLine, LoadsCall, counted, before_rest, needed_for}
+use Rattle.recorded.specs.Names.{line_replayed, needed, needed_by, needed_of, ended_lines, IsLeft}
+use Rattle.scene_fields.proofs.lemmas.Cuts.{split_on-lacks}
+use Rattle.scene_reader.specs.Names.{before_behind, before_next, call_by_names, event_line, IsLineFault, IsTaken}
+use Rattle.scene_reader.specs.Names.{line_value, LineFault, lines_before, LinesBefore, ParsedLine}
+use Rattle.scene_reader.specs.Names.{ParsedLines, PassesValue, PlacedOutput, recorded_line, ReportCall, RunLine}
+use Rattle.scene_reader.specs.Names.{SceneConfig, SceneEvent, split_on, Takes, with_line, with_made}
+use Rattle.scene_reader.specs.SceneTexts.{ConfigLine, EventLine, NoEvent}
+use Rattle.command_line.specs.declared.fault.Fault.TheVariants as program
 
--- what is before the line after a valid one
-before_so : (run after : ParsedLines) (make : List PlacedOutput → SceneEvent → Result SceneEvent LineFault) (says :
-    Result (ParsedLine × List PlacedOutput) LineFault)
-    → lines_with run (with_made make says) ≡ Ok after → lines_before after ≡ before_rest (lines_before run) says
-before_so run after make says h = grind (arith, begun_by)
+-- the next piece is the next line, or there is none
+module _ (total : ℕ) (options : Options) (recorded remaining rest : Option (List ℕ)) (count : ℕ) (piece : List ℕ)
+    (before : ParsedLines) (lines : List RunLine)
+    (left : IsLeft total options recorded remaining count [] before lines) where
+  abbrev LeftOf : List (List ℕ) → List RunLine → Type 0
+  LeftOf texts = IsLeft total options recorded rest count texts before
 
-before_others : (options : Options) (all : List ℕ) (run after : ParsedLines) (t : List ℕ)
-    → line_read run (line_replayed options all t) ≡ Ok after
-    → lines_before after ≡ before_rest (lines_before run) (recorded_line (lines_before run) t)
-unfolding line_read
-before_others options all run after t h = before_so run after
-    (λ stored e. event_replayed all (decider_for options run.config) stored e) (recorded_line (lines_before run) t) h
+  piece_left : (is_whole : Bool) → ((text : List ℕ) → remaining ≡ Some text → IsNextLine text is_whole piece rest)
+      → HasNext piece LeftOf lines is_whole
+  piece_left true next =
+      let h = next left.text left.rest in
+      let same : ended_lines left.text ≡ split_on 10 piece ++ ended_lines h.0 = ap ended_lines h.2
+      ∙ ended_lines-more piece h.0 h.3 ∙ ap (λ ts. ts ++ ended_lines h.0) (sym (split_on-lacks 10 piece h.3)) in
+      record {
+        all = left.all;
+        text = h.0;
+        outputs = left.outputs;
+        rest = h.1;
+        is = left.is ∙ ap (map (line_replayed options left.all)) same;
+        counts = left.counts ∙ ap (λ ts. counted count (needed options (lines_before before) ts)) same;
+      }
+  piece_left false next =
+      let h = next left.text left.rest in
+      let none : lines ≡ [] = left.is ∙ ap (map (line_replayed options left.all)) h.0 in
+      let still : LeftOf [] [] = record {
+        all = left.all;
+        text = h.1.0;
+        outputs = left.outputs;
+        rest = h.1.1;
+        is = ap (map (line_replayed options left.all)) (sym h.1.2);
+        counts = left.counts
+            ∙ ap (λ ts. counted count (needed options (lines_before before) ts)) (h.0 ∙ sym h.1.2);
+      } in
+      (inr (none, refl), subst (LeftOf []) (sym none) still, still)
 
-module _ (file : List ℕ) (total : ℕ) (options : Options) (all front : List RunLine) (before : ParsedLines)
-    (old : LinesRead) (recorded remaining : Option (List ℕ)) (count : ℕ) where
-  abbrev Left : ParsedLines → List RunLine → Type 0
-  Left = IsLeft total options recorded remaining count
+  pub pieces_left : (result : Result Bool Fault)
+      → IfOk result (λ is_whole. (text : List ℕ) → remaining ≡ Some text → IsNextLine text is_whole piece rest)
+      → IfOk result (HasNext piece LeftOf lines)
+  pieces_left (Ok is_whole) next = piece_left is_whole next
+  pieces_left (Err fault) next = tt
 
-  module _ (has : HasReadLines file all front before old (Ok true) Left) where
-    -- further lines were read
-    further : (new : LinesRead) (lines left : List RunLine) → has.left ≡ lines ++ left → ReadsLines old new lines
-        → (more : Result Bool Fault) (Next : ParsedLines → List RunLine → Type 0)
-        → IsMore file more (behind before.events new) left new.next Next →
-        HasReadLines file all front before new more Next
-    further new lines left is reads more Next more_is = with_more file all front before old new Left Next has lines left
-        is reads more more_is
+-- what is before the line after one of this value
+before_so : (run : ParsedLines) (value : ParsedLine)
+    → lines_before (with_line run value) ≡ before_behind (lines_before run) value
+before_so run NoEvent = refl
+before_so run (ConfigLine c) = refl
+before_so run (EventLine e) = rw (begun_by run.events e) refl
 
-    module _ (recorded_new remaining_new : Option (List ℕ)) (kept : recorded_new ≡ recorded) (line : List ℕ) where
-      -- no line is left
-      pub none_left : ((text : List ℕ) → remaining ≡ Some text → IsNextLine text false line remaining_new)
-          → HasReadLines file all front before old (Ok false) (IsLeft total options recorded_new remaining_new count)
-      none_left next =
-          let left = has.more_is in
-          let ends = next left.text left.rest in
-          let none : has.left ≡ [] = left.is ∙ ap (map (line_replayed options left.all)) ends.0 in
-          further old [] has.left refl (reads_none old) (Ok false)
-          (IsLeft total options recorded_new remaining_new count) (
-            inr (none, refl),
-            record {
-              all = left.all;
-              text = ends.1.0;
-              outputs = kept ∙ left.outputs;
-              rest = ends.1.1;
-              is = ap (map (line_replayed options left.all)) (sym ends.1.2);
-              counts = left.counts
-                  ∙ ap (λ ts. counted count (needed options (lines_before (behind before.events old)) ts))
-                  (ends.0 ∙ sym ends.1.2);
-            },
-          )
+-- what a sink keeps that takes a call, it keeps where a line was read
+abbrev Keeps : {K X : Type 0} → Takes K → (K → X) → Type 0
+Keeps {K} takes name = (old : K) (file : List ℕ) (n : ℕ) (stored : List PlacedOutput) (call : ReportCall)
+    (result : Result (Unit {0}) Fault) (new : K) → takes old file n stored call result new → name new ≡ name old
 
-      -- the next one is there
-      module _ (next : (text : List ℕ) → remaining ≡ Some text → IsNextLine text true line remaining_new)
-          (new : LinesRead) where
-        abbrev all_outputs : List ℕ
-        all_outputs = has.more_is.all
+taken_keeps : {K X : Type 0} (takes : Takes K) (file : List ℕ) (n : ℕ) (line : ParsedLine) (stored : List PlacedOutput)
+    (given : K) (result : Result (Unit {0}) Fault) (after : K)
+    → IsTaken takes file n stored line given result after → (name : K → X) → Keeps takes name → name after ≡ name given
+taken_keeps takes file n NoEvent stored given result after taken name keeps = ap name taken.0
+taken_keeps takes file n (ConfigLine c) stored given result after taken name keeps = ap name taken.0
+taken_keeps takes file n (EventLine e) stored given result after taken name keeps =
+    keeps given file n stored taken.0 result after taken.2
 
-        abbrev more : List ℕ
-        more = (next has.more_is.text has.more_is.rest).0
+pub line_keeps : {K X : Type 0} (takes : Takes K) (file : List ℕ)
+    (value : Result (ParsedLine × List PlacedOutput) LineFault) (old : LinesRead) (given : K)
+    (result : Result (Unit {0}) Fault) (new : LinesRead) (after : K)
+    → PassesValue takes file value old given result new after → (name : K → X) → Keeps takes name
+    → name after ≡ name given
+line_keeps takes file value old given (Ok done) new after h name keeps =
+    taken_keeps takes file old.next h.ok.0 h.ok.1 given (Ok tt) after h.ok.3 name keeps
+line_keeps takes file value old given (Err fault) new after h name keeps = elim h.err [
+  | inl before_call ↦ ap name before_call.0
+  | inr in_call ↦ taken_keeps takes file old.next in_call.0 in_call.1 given (Err fault) after in_call.3 name keeps
+]
 
-        abbrev others : List RunLine
-        others = lines_replayed options all_outputs more
+-- the next line, which the loading sink was given
+module _ {L O K : Type 0} (recorded : O → Option (List ℕ)) (counts : O → ℕ) (takes : Takes K)
+    (options_of : L → Options) (config_of : L → SceneConfig) (source : L → O) (sink : L → K) (Same : L → L → Type 0)
+    (file : List ℕ) (total : ℕ) (options : Options) (remaining : Option (List ℕ)) (t : List ℕ)
+    (others : List (List ℕ))
+    (before : ParsedLines) (lines : List RunLine) (old : LinesRead) (given : L)
+    (options_are : options_of given ≡ options) (config_is : config_of given ≡ old.config)
+    (is : before_next old ≡ lines_before before)
+    (left : IsLeft total options (recorded (source given)) remaining (counts (source given))
+    (t ∷ others) before lines) where
+  abbrev Loads : Takes L
+  Loads old file n stored call result new = LoadsCall recorded counts takes (options_of old) (config_of old)
+      (source old) (sink old) file n stored call result (source new) (sink new) × Same old new
 
-        lines_are : ended_lines has.more_is.text ≡ line ∷ ended_lines more
-        lines_are = let n = next has.more_is.text has.more_is.rest in ap ended_lines n.2 ∙ ended_lines-more line n.0 n.3
+  abbrev make : List PlacedOutput → SceneEvent → Result SceneEvent LineFault
+  make = λ stored e. event_replayed left.all (decider_for options before.config) stored e
 
-        left_is : has.left ≡ line_replayed options all_outputs line ∷ others
-        left_is = has.more_is.is ∙ ap (map (line_replayed options all_outputs)) lines_are
+  abbrev line : RunLine
+  line = line_replayed options left.all t
 
-        -- and was read
-        pub line_is_read : (count_new : ℕ)
-            → ((outputs : List ℕ) → recorded ≡ Some outputs
-            → ReadsLines old new (line_replayed options outputs line ∷ []))
-            → CountsLine options old line count count_new →
-            HasReadLines file all front before new (Ok true) (IsLeft total options recorded_new remaining_new count_new)
-        unfolding needed
-        line_is_read count_new reads counts =
-            let read = reads all_outputs has.more_is.outputs in
-            let b = lines_before (behind before.events old) in
-            let says = recorded_line b line in
-            let then : lines_before (behind before.events new) ≡ before_rest b says =
-            before_others options all_outputs (behind before.events old) (behind before.events new) line
-            (one_read old new (line_replayed options all_outputs line) read before.events has.begun) in
-            let needs : needed options b (ended_lines has.more_is.text) ≡ needed_for options b says + needed options
-            (before_rest b says) (ended_lines more) = ap
-            (needed options b) lines_are in
-            let here : needed_for options (before_next old) (recorded_line (before_next old) line) ≡ needed_for options
-            b says = ap
-            (λ x. needed_for options x (recorded_line x line)) (sym (before_is before.events old has.begun)) in
-            further new (line_replayed options all_outputs line ∷ []) others left_is read (Ok true)
-            (IsLeft total options recorded_new remaining_new count_new) (record {
-              all = all_outputs;
-              text = more;
-              outputs = kept ∙ has.more_is.outputs;
-              rest = (next has.more_is.text has.more_is.rest).1;
-              is = refl;
-              counts =
-                  has.more_is.counts ∙ ap (counted count) needs
-                  ∙ ap (λ n. counted count (n + needed options (before_rest b says) (ended_lines more))) (sym here)
-                  ∙ sym (counts (needed options (before_rest b says) (ended_lines more)))
-                  ∙ ap (λ x. counted count_new (needed options x (ended_lines more))) (sym then);
-            })
+  abbrev more : List RunLine
+  more = map (line_replayed options left.all) (others ++ ended_lines left.text)
 
-        -- or it is wrong
-        pub line_is_left : (told : Fault) (Next : ParsedLines → List RunLine → Type 0)
-            → ((outputs : List ℕ) → recorded ≡ Some outputs
-            → LeavesLine file old new (line_replayed options outputs line) told)
-            → HasReadLines file all front before new (Err told) Next
-        line_is_left told Next leaves = elim (leaves all_outputs has.more_is.outputs) [
-          | inl h ↦ further new [] has.left refl h.1 (Err told) Next (inl h.0)
-          | inr h ↦ (
-              let l = h.2 in
-              further new l.front (l.rest ++ others)
-              (left_is ∙ ap (λ ls. ls ++ others) l.whole ∙ append_assoc l.front l.rest others) l.reads (Err told)
-              Next
-              (inr (
-                h.0,
-                h.1,
-                next_fault new.next (behind before.events new) l.rest others h.0
-                    (l.wrong before.events has.begun),
-              ))
-              )
-        ]
+  said : (read : Result (ParsedLine × List PlacedOutput) LineFault) → recorded_line (before_next old) t ≡ read
+      → line_value (lines_before before) line ≡ with_made make read
+  said read says = ap (with_made make) (ap (λ b. recorded_line b t) (sym is) ∙ says)
+
+  -- the decider of the sink is that of the run, and names make no difference
+  abbrev decider : OutputLoadDecider
+  decider = decider_for (options_of given) (config_of given)
+
+  decides : decider ≡ decider_for options before.config
+  decides = rw (options_are, config_is, ap (λ (b : LinesBefore). b.config) is) refl
+
+  made_so : (stored : List PlacedOutput) (call : ReportCall) (e : SceneEvent) (made : Result SceneEvent LineFault)
+      → call_by_names call ≡ e → event_replayed left.all decider stored (call_by_names call) ≡ made
+      → make stored e ≡ made
+  made_so stored call e made named loaded = ap (make stored) (sym named)
+      ∙ ap (λ d. event_replayed left.all d stored (call_by_names call)) (sym decides) ∙ loaded
+
+  -- what is left behind it
+  abbrev Left : L → ParsedLines → List RunLine → Type 0
+  Left after = IsLeft total options (recorded (source after)) remaining (counts (source after))
+      others
+
+  left_behind : (read value : ParsedLine) (stored : List PlacedOutput) (after : L)
+      → recorded_line (before_next old) t ≡ Ok (read, stored) →
+      recorded (source after) ≡ recorded (source given)
+      → ((n : ℕ) → counted (counts (source after)) n
+      ≡ counted (counts (source given)) (needed_by options (lines_before before) stored read + n))
+      → before_behind (lines_before before) read ≡ before_behind (lines_before before) value
+      → Left after (with_line before value) more
+  unfolding needed
+  left_behind read value stored after says kept counted_more same =
+      let b = lines_before before in
+      let rest = others ++ ended_lines left.text in
+      let says_so : recorded_line b t ≡ Ok (read, stored) = ap (λ b. recorded_line b t) (sym is) ∙ says in
+      let needs : needed options b (t ∷ rest) ≡ needed_by options b stored read + needed options
+      (before_behind b read) rest = ap (λ r. needed_for options b r + needed options (before_rest b r) rest) says_so in
+      record {
+        all = left.all;
+        text = left.text;
+        outputs = kept ∙ left.outputs;
+        rest = left.rest;
+        is = refl;
+        counts = left.counts ∙ ap (counted (counts (source given))) needs
+            ∙ sym (counted_more (needed options (before_behind b read) rest))
+            ∙ ap (λ x. counted (counts (source after)) (needed options x rest))
+            (same ∙ sym (before_so before value));
+      }
+
+  -- it was read
+  abbrev Passed : LinesRead → L → Type 0
+  Passed new after = (first : RunLine) × (rest : List RunLine) × (value : ParsedLine) × (lines ≡ first ∷ rest)
+      × (line_value (lines_before before) first ≡ Ok value)
+      × IsGiven takes file old.next value (sink given) (Ok tt) (sink after)
+      × (before_next new ≡ lines_before (with_line before value)) × (new.next ≡ old.next + 1)
+      × Left after (with_line before value) rest
+
+  -- without a call
+  passed_over : (value : ParsedLine) (stored : List PlacedOutput) (new : LinesRead) (after : L)
+      → recorded_line (before_next old) t ≡ Ok (value, stored) → with_made make (Ok (value, stored)) ≡ Ok value
+      → needed_by options (lines_before before) stored value ≡ 0 → after ≡ given
+      → IsTaken takes file old.next stored value (sink given) (Ok tt) (sink after)
+      → before_next new ≡ before_behind (before_next old) value → new.next ≡ old.next + 1 → Passed new after
+  passed_over value stored new after says made none same taken behind next = (
+    line,
+    more,
+    value,
+    left.is,
+    said (Ok (value, stored)) says ∙ made,
+    (stored, taken),
+    behind ∙ ap (λ b. before_behind b value) is ∙ sym (before_so before value),
+    next,
+    left_behind value value stored after says (ap (λ l. recorded (source l)) same)
+        (λ n. ap (λ l. counted (counts (source l)) n) same
+        ∙ ap (counted (counts (source given))) (omega (arith, none)))
+        refl,
+  )
+
+  passed : (value : ParsedLine) (stored : List PlacedOutput) (new : LinesRead) (after : L)
+      → recorded_line (before_next old) t ≡ Ok (value, stored)
+      → IsTaken Loads file old.next stored value given (Ok tt) after
+      → before_next new ≡ before_behind (before_next old) value → new.next ≡ old.next + 1 → Passed new after
+  passed NoEvent stored new after says taken behind next =
+      passed_over NoEvent stored new after says refl refl taken.0
+      (ap sink taken.0, refl) behind next
+  passed (ConfigLine c) stored new after says taken behind next =
+      passed_over (ConfigLine c) stored new after says refl refl taken.0
+      (ap sink taken.0, refl) behind next
+  passed (EventLine e) stored new after says (call, named, loads) behind next =
+      elim (loads.0.loaded left.all left.outputs) [
+        | inl made ↦ (
+          line,
+          more,
+          EventLine (call_by_names made.0),
+          left.is,
+          said (Ok (EventLine e, stored)) says
+              ∙ ap event_line (made_so stored call e (Ok (call_by_names made.0)) named made.1),
+          (stored, (made.0, refl, made.2)),
+          behind ∙ ap (λ b. before_behind b (EventLine e)) is
+              ∙ sym (before_so before (EventLine (call_by_names made.0))),
+          next,
+          left_behind (EventLine e) (EventLine (call_by_names made.0)) stored after says loads.0.kept
+              (λ n. loads.0.counts n ∙ ap (λ k. counted (counts (source given)) (k + n))
+              (ap (λ d. needed_of d (call_by_names call) stored) decides
+              ∙ ap (λ x. needed_of (decider_for options before.config) x stored) named))
+              refl,
+        )
+        | inr wrong ↦ absurd wrong.1
+      ]
+
+  -- or a fault stopped it: its own
+  abbrev Stopped : Fault → L → Type 0
+  Stopped fault after = StopsNext takes file before old.next lines (sink given) fault (sink after)
+
+  stopped_before : (fault : Fault) (after : L) → after ≡ given
+      → IsLineFault old.next (recorded_line (before_next old) t) fault → Stopped fault after
+  stopped_before program.OutOfMemory after same h = inl (ap sink same, inl tt)
+  stopped_before (program.Line n f) after same h = inl (
+    ap sink same,
+    inr (line, more, f, left.is, said (Err f) h.1, ap (λ m. program.Line m f) h.0),
+  )
+  stopped_before other after same h = absurd h
+
+  -- that of an output, or of the sink
+  stopped_in : (value : ParsedLine) (stored : List PlacedOutput) (fault : Fault) (after : L)
+      → recorded_line (before_next old) t ≡ Ok (value, stored)
+      → IsTaken Loads file old.next stored value given (Err fault) after
+      → Stopped fault after
+  stopped_in NoEvent stored fault after says taken = absurd (let wrong = taken.1 in cc)
+  stopped_in (ConfigLine c) stored fault after says taken = absurd (let wrong = taken.1 in cc)
+  stopped_in (EventLine e) stored fault after says (call, named, loads) =
+      elim (loads.0.loaded left.all left.outputs) [
+        | inl made ↦ inr (
+          line,
+          more,
+          call_by_names made.0,
+          left.is,
+          said (Ok (EventLine e, stored)) says
+              ∙ ap event_line (made_so stored call e (Ok (call_by_names made.0)) named made.1),
+          (stored, (made.0, refl, made.2)),
+        )
+        | inr (same, unread) ↦ inl (
+          same,
+          elim unread [
+            | inl is_unread ↦ inl is_unread
+            | inr (f, wrong, told) ↦ inr (
+              line,
+              more,
+              f,
+              left.is,
+              said (Ok (EventLine e, stored)) says
+                  ∙ ap event_line (made_so stored call e (Err f) named wrong),
+              told,
+            )
+          ],
+        )
+      ]
+
+  pub line_passes : (result : Result (Unit {0}) Fault) (new : LinesRead) (after : L) (sink_after : K)
+      → sink after ≡ sink_after → PassesValue Loads file (recorded_line (before_next old) t) old given result new after
+      → PassesNext takes file before lines (Left after) old (sink given) result new sink_after
+  line_passes (Ok done) new after sink_after same h = subst
+      (λ s. PassesNext takes file before lines (Left after) old (sink given) (Ok done) new s) same (record {
+        ok = passed h.ok.0 h.ok.1 new after h.ok.2 h.ok.3 h.ok.4 h.ok.5;
+        err = tt;
+      })
+  line_passes (Err fault) new after sink_after same h = subst
+      (λ s. PassesNext takes file before lines (Left after) old (sink given) (Err fault) new s) same (record {
+        ok = tt;
+        err = elim h.err [
+          | inl before_call ↦ stopped_before fault after before_call.0 before_call.1
+          | inr in_call ↦ stopped_in in_call.0 in_call.1 fault after in_call.2 in_call.3
+        ];
+      })

@@ -1,9 +1,10 @@
 -- What was loaded of an output is what is at its positions.
 use Rattle.std.proofs.Common.{◌≡◌, ℕ, List, Option, None, Some, IfSome, Ok, ap, ◌∙◌, arith}
 use Rattle.scene_reader.specs.Names.{ChildOutputDescription, Reference, PlacedOutput, StoredOutput, StoredStream}
-use Rattle.scene_reader.specs.Names.{event_with, SceneEvent}
-use Rattle.recorded.specs.Names.{bytes_at, stream_at, IsCaptured, captured_at, captured_stream_at, output_inline}
-use Rattle.recorded.specs.Names.{stream_inline}
+use Rattle.{run_model.specs.Loads.call_with, recorded.proofs.lemmas.Named.named-with}
+use Rattle.scene_reader.specs.Names.{call_by_names, ReportCall}
+use Rattle.recorded.specs.Names.{bytes_at, event_with, stream_at, IsCaptured, captured_at, captured_stream_at}
+use Rattle.recorded.specs.Names.{output_inline, stream_inline}
 
 -- the bytes of a reference, a stream, and both streams, apart or together
 loaded-bytes : (all : List ℕ) (r : Reference) (bytes : List ℕ) → stream_at all r ≡ Some bytes → bytes ≡ bytes_at all r
@@ -18,11 +19,11 @@ loaded-output : (all : List ℕ) (o : StoredOutput) (loaded : ChildOutputDescrip
     → loaded ≡ output_inline all o
 loaded-output all o loaded is = grind (arith, loaded-bytes, loaded-stream)
 
--- what was loaded is put into the event
-pub loaded-event : (known : Option (List ℕ)) (p : PlacedOutput) (loaded : ChildOutputDescription) (old new : SceneEvent)
+-- what was loaded is put into the call
+pub loaded-event : (known : Option (List ℕ)) (p : PlacedOutput) (loaded : ChildOutputDescription) (old new : ReportCall)
     → IfSome known (λ all. IsCaptured all p.output (Ok loaded)) →
-    new ≡ event_with p.place loaded old
-    → IfSome known (λ all. new ≡ event_with p.place (output_inline all p.output) old)
+    new ≡ call_with p.place loaded old
+    → IfSome known (λ all. call_by_names new ≡ event_with p.place (output_inline all p.output) (call_by_names old))
 loaded-event None p loaded old new is with = tt
-loaded-event (Some all) p loaded old new is with = with
-    ∙ ap (λ l. event_with p.place l old) (loaded-output all p.output loaded is)
+loaded-event (Some all) p loaded old new is with = ap call_by_names with ∙ named-with p.place loaded old
+    ∙ ap (λ l. event_with p.place l (call_by_names old)) (loaded-output all p.output loaded is)

@@ -7,11 +7,11 @@ use Rattle.scenes.specs.Names.{Options, Fault, PrintsFollowed, device, run_outco
 use Rattle.scenes.specs.Names.{report_of, stored_of, decider_for}
 use Rattle.console_reporter.proofs.lemmas.Earlier.{call_of_last, calls_of_last, isolated_last}
 use Rattle.{console_reporter.proofs.lemmas.Isolation.isolated, recorded.proofs.lemmas.Skipped.skipped_call}
-use Rattle.{recorded.proofs.lemmas.SpelledLines.scene_law}
+use Rattle.recorded.proofs.lemmas.{Named.call_inline, Named.named-inline, Named.named_skips, SpelledLines.scene_law}
 use Rattle.recorded.proofs.lemmas.EarlierOutputs.{loaded_call, outcome_last, shown_call}
 use Rattle.recorded.proofs.lemmas.Inline.{AreInline, IsInline, go_on}
 use Rattle.recorded.specs.Names.{counted, line_replayed, lines_inline, lines_replayed, needed, ended_lines, IsLeft}
-use Rattle.recorded.specs.Names.{AreBytes, scene_spelled}
+use Rattle.recorded.specs.Names.{AreBytes, event_inline, scene_spelled, skips}
 use Rattle.reporter_state.specs.{Names.first_refused, Names.unread}
 use Rattle.reporter_state.specs.{declared.decider.OutputLoadDecider.OutputLoadDecider}
 use Rattle.scene_reader.specs.Names.{ReportCall, IsCallOf, SceneConfig, SceneEvent, ParsedLines, RunLine, lines_before}
@@ -25,12 +25,14 @@ module _ (all : List ℕ) (d : OutputLoadDecider) where
 
   has_call : (replayed inline : SceneEvent) (call : ReportCall) → IsInline all d replayed inline
       → IsCallOf replayed call → (other : ReportCall) × IsCallOf inline other × (shown_call d other ≡ shown_call d call)
-  has_call replayed inline call (inl h) of_event =
-      let other = skipped_call d all h.0 replayed call of_event h.1 in
-      (other.0, subst (λ e. IsCallOf e other.0) (sym h.2) other.1, ap call_of_last other.2)
+  has_call replayed inline call (inl h) of_event = (
+    call_inline all h.0 call,
+    named-inline all h.0 call ∙ ap (event_inline all h.0) of_event ∙ sym h.2,
+    ap call_of_last (skipped_call d all h.0 call (sym (named_skips d call) ∙ ap (skips d) of_event ∙ h.1)),
+  )
   has_call replayed inline call (inr h) of_event =
-      let other = loaded_call d all h.1 h.0 call (subst (λ e. IsCallOf e call) h.3 of_event) h.2 in
-      (other.0, subst (λ e. IsCallOf e other.0) (sym h.4) other.1, other.2)
+      let other = loaded_call d all h.1 h.0 call (of_event ∙ h.3) h.2 in
+      (other.0, other.1 ∙ sym h.4, other.2)
 
   -- several lines
   has_calls : (replayed inline : List SceneEvent) (calls : List ReportCall) → AllZip (IsInline all d) replayed inline
@@ -132,7 +134,7 @@ none_mapped f (x ∷ xs) h = absurd (cc)
 -- where no line is left, as many were read as there are to read
 read_all : (total : ℕ) (options : Options) (recorded remaining : Option (List ℕ)) (bytes_read : ℕ)
     (before : ParsedLines)
-    → bytes_read ≤ 2 ^ 64 - 1 → IsLeft total options recorded remaining bytes_read before [] → bytes_read ≡ total
+    → bytes_read ≤ 2 ^ 64 - 1 → IsLeft total options recorded remaining bytes_read [] before [] → bytes_read ≡ total
 unfolding needed
 read_all total options recorded remaining bytes_read before fits left =
     let none = none_mapped (line_replayed options left.all) (ended_lines left.text) left.is in
@@ -144,7 +146,7 @@ read_all total options recorded remaining bytes_read before fits left =
 pub reads_on_ok : (total : ℕ) (options : Options) (recorded remaining : Option (List ℕ)) (bytes_read : ℕ)
     (lines : List RunLine)
     → bytes_read ≤ 2 ^ 64 - 1 → (r : Result RunOutcome Fault) →
-    OnOk r (OfLines lines (λ run. IsLeft total options recorded remaining bytes_read run []))
+    OnOk r (OfLines lines (λ run. IsLeft total options recorded remaining bytes_read [] run []))
     → IfOk r (λ come_to. bytes_read ≡ total)
 reads_on_ok total options recorded remaining bytes_read lines fits (Ok come_to) h = read_all total options recorded
     remaining bytes_read h.run fits h.holds

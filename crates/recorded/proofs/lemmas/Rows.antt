@@ -1,17 +1,19 @@
 -- Worked rows: what the definitions say of outputs that are written out, what a replay makes of a setup script whose
 -- output is stored, and a text whose outputs are spelled out.
-use Rattle.std.proofs.Common.{◌≡◌, ℕ, List, [], ◌∷◌, ◌++◌, codes, true, false, refl, None, Some, Ok, Err}
+use Rattle.std.proofs.Common.{◌≡◌, ℕ, List, [], ◌∷◌, ◌++◌, codes, true, false, refl, None, Some, Ok}
+use Rattle.std.proofs.Common.{Err, Option}
 use Rattle.{hex.proofs.OnLiterals.hex_on_literals, console_reporter.specs.Names.OutputLoadDecider}
-use Rattle.{run_model.specs.Names.attempt_with_output, run_model.specs.Names.is_success}
+use Rattle.run_model.specs.Names.{execution_with_output, is_success, StressIndex}
+use Rattle.run_model.specs.declared.status.{SetupScriptExecuteStatus.SetupScriptExecuteStatus}
 use Rattle.scene_fields.specs.declared.{fault.LineFault.TheVariants.BadField, stored.StoredOutput.TheVariants.Split}
 use Rattle.scene_fields.specs.declared.{stored.StoredOutput.TheVariants.Combined}
 use Rattle.recorded.specs.Names.{captured_at, counted_output, event_replayed, outputs_len, stream_at, line_spelled}
 use Rattle.recorded.specs.Names.{scene_spelled, tabbed}
-use Rattle.scene_reader.specs.Names.{SetupFinish, number_in, after_mark, reference_in, sum_in, sum_of, cut, split_on}
-use Rattle.scene_reader.specs.Names.{Reference, PlacedOutput}
+use Rattle.scene_reader.specs.Names.{event_at, number_in, after_mark, reference_in, sum_in, sum_of, cut, split_on}
+use Rattle.scene_reader.specs.Names.{ChildOutputDescription, LiveSpec, Reference, PlacedOutput, SceneEvent}
 use Rattle.scene_fields.specs.declared.stored.StoredStream.TheVariants.{NotCaptured, Empty, At}
 use Rattle.run_model.specs.declared.output.ChildOutputDescription.TheVariants as captured
-use Rattle.scene_events.specs.declared.scene.event.SceneEvent.TheVariants as scene
+use Rattle.run_model.specs.declared.event.TestEventKind.TheVariants.{SetupScriptFinished}
 
 -- the sum of no byte
 abbrev sum_bytes : List ℕ
@@ -48,7 +50,8 @@ row_counted reference seven = rw seven refl
 row_nothing : (all : List ℕ) → captured_at all (Split Empty NotCaptured) ≡ Some (captured.Split (Some []) None)
 row_nothing all = refl
 
-module _ (d : OutputLoadDecider) (e : SetupFinish) (sum : List ℕ) where
+module _ (d : OutputLoadDecider) (stress : Option StressIndex) (id program : List ℕ) (args : List (List ℕ))
+    (status : SetupScriptExecuteStatus LiveSpec ChildOutputDescription) (sum : List ℕ) where
   -- two bytes of these
   abbrev all : List ℕ
   all = codes "abcd"
@@ -62,26 +65,28 @@ module _ (d : OutputLoadDecider) (e : SetupFinish) (sum : List ℕ) where
   abbrev second : List PlacedOutput
   second = record { place = 0; field = 10; output = Split Empty (At here) } ∷ []
 
+  abbrev finished : SetupScriptExecuteStatus LiveSpec ChildOutputDescription → SceneEvent
+  finished status = event_at 0 (SetupScriptFinished stress id program args status)
+
   -- of a script that succeeded it is not looked at, but must be there
-  row_skipped : is_success e.attempt.result ≡ true
-      → event_replayed all d combined (scene.SetupScriptFinished e) ≡ Ok (scene.SetupScriptFinished e)
+  row_skipped : is_success status.result ≡ true → event_replayed all d combined (finished status) ≡ Ok (finished status)
   unfolding event_replayed
   row_skipped passed = rw passed refl
 
-  row_not_there : event_replayed (codes "ab") d second (scene.SetupScriptFinished e) ≡ Err (BadField 11)
+  row_not_there : event_replayed (codes "ab") d second (finished status) ≡ Err (BadField 11)
   unfolding event_replayed
   row_not_there = refl
 
   -- that of one that failed is put into it, if it is what was recorded
-  row_loaded : is_success e.attempt.result ≡ false → stream_at all here ≡ Some (codes "bc") →
-      event_replayed all d second (scene.SetupScriptFinished e) ≡ Ok (scene.SetupScriptFinished (record e {
-        attempt = attempt_with_output e.attempt (captured.Split (Some []) (Some (codes "bc")));
+  row_loaded : is_success status.result ≡ false → stream_at all here ≡ Some (codes "bc") →
+      event_replayed all d second (finished status) ≡ Ok (finished (record status {
+        output = execution_with_output status.output (captured.Split (Some []) (Some (codes "bc")));
       }))
   unfolding event_replayed
   row_loaded failed is = rw (failed, is) refl
 
-  row_damaged : is_success e.attempt.result ≡ false → stream_at all here ≡ None
-      → event_replayed all d second (scene.SetupScriptFinished e) ≡ Err (BadField 11)
+  row_damaged : is_success status.result ≡ false → stream_at all here ≡ None
+      → event_replayed all d second (finished status) ≡ Err (BadField 11)
   unfolding event_replayed
   row_damaged failed is = rw (failed, is) refl
 

@@ -1,7 +1,7 @@
 -- The attempts of a test, spelled out: each is read with its own output in it.
 use Rattle.std.proofs.Common.{◌≡◌, ℕ, zero, suc, ◌+◌, ◌/◌, ◌^◌, ◌==◌, true, false, List, [], ◌∷◌, ◌++◌, length, Option}
 use Rattle.std.proofs.Common.{None, Some, refl, sym, ap, ◌∙◌, arith, append_assoc, nat_lt, slice_get}
-use Rattle.scene_reader.specs.Names.{ChildOutputDescription, LiveSpec, FlakyResult, attempts_with, Noted, Place}
+use Rattle.scene_reader.specs.Names.{ChildOutputDescription, LiveSpec, FlakyResult, Noted, Place}
 use Rattle.scene_reader.specs.Names.{none_noted, noted_outputs, with_noted, placed, PlacedOutput, StoredOutput}
 use Rattle.scene_reader.specs.Names.{all_attempts}
 use Rattle.std.proofs.{Common.length-append, Math.Seq.set-append_seam, lemmas.Bool.Decides.nat_tests}
@@ -11,7 +11,7 @@ use Rattle.recorded.proofs.lemmas.SpelledPlaces.{Change, Follows, HasNoted, HasO
 use Rattle.recorded.proofs.lemmas.SpelledPlaces.{checked_reads, place_spelled, says_spells, with_put}
 use Rattle.{recorded.specs.Names.output_inline, recorded.specs.Names.AreBytes}
 use Rattle.{scene_fields.specs.declared.fault.LineFault.TheVariants.WrongNumberOfFields}
-use Rattle.run_model.specs.Attempts.{Attempt, Attempts, attempt_with_output}
+use Rattle.run_model.specs.{Attempts.Attempt, Attempts.Attempts, Attempts.attempt_with_output, Loads.attempts_with}
 use Rattle.scene_reader.specs.Names.{attempt_fields, attempt_number, attempts_from, retry_numbered}
 
 abbrev pub TestAttempts : Type 0

@@ -5,14 +5,16 @@ use Rattle.recorded.proofs.lemmas.MarkedFields.{marked_state}
 use Rattle.recorded.proofs.lemmas.SpelledPlaces.{Change, Follows, HasNoted, HasOutput, Read, Reads, Refused, RowsRead}
 use Rattle.recorded.proofs.lemmas.SpelledPlaces.{Same, by_row_reads, either_reads, exactly_reads, fields_read, if_reads}
 use Rattle.scene_reader.specs.Names.{UnitState, ChildOutputDescription, ExecutionResultDescription, RunStats}
-use Rattle.scene_reader.specs.Names.{FlakyResult, RetryData, answer_with, attempts_with, event_with, written}
-use Rattle.scene_reader.specs.Names.{SceneConfig}
-use Rattle.scene_reader.specs.Names.{SceneEvent, SceneOutput, SceneTest, UnitAnswer, ◌>>=◌, Line, Place, exactly}
+use Rattle.scene_reader.specs.Names.{FlakyResult, RetryData, event_at, SceneConfig, SceneEvent, ◌>>=◌, Line, Place}
+use Rattle.scene_reader.specs.Names.{exactly, instance_fields, ParsedLine}
+use Rattle.scene_reader.specs.SceneTexts.{ConfigLine, EventLine, NoEvent}
+use Rattle.{run_model.specs.Loads.attempts_with, recorded.specs.Names.event_with}
+use Rattle.run_model.specs.Names.{execution_with_output, StressIndex, TestInstanceId, Written}
 use Rattle.scene_reader.specs.Names.{none_noted, noted_outputs, says, split_on, LineFault, unescaped_after}
 use Rattle.scene_reader.specs.Names.{PlacedOutput}
 use Rattle.scene_reader.specs.Names.{StoredOutput, ConfigKey, placed, all_attempts, attempt_fields, answer_fields}
 use Rattle.scene_reader.specs.Names.{config_line_fields, event_line_fields, event_rows, made, other_event_rows}
-use Rattle.scene_reader.specs.Names.{retry_fields, run_event_rows, script_fields, set_field, state_fields, test_fields}
+use Rattle.scene_reader.specs.Names.{retry_fields, run_event_rows, script_fields, set_field, state_fields}
 use Rattle.scene_reader.specs.Names.{unique_prefix_fields, unknown, AllRead, LinesBefore, ParsedLines, config_words}
 use Rattle.scene_reader.specs.Names.{is_passed_over, line_from, line_place, line_read, line_words, lines_before}
 use Rattle.scene_reader.specs.Names.{lines_read, lines_with, no_lines, parsed_line, plain_line, recorded_line}
@@ -23,7 +25,7 @@ use Rattle.{std.specs.Result.result_map_both, std.specs.Str.is_utf8, std.proofs.
 use Rattle.{run_model.specs.Names.Attempt, run_model.specs.Names.TestOutputDisplay}
 use Rattle.recorded.proofs.lemmas.SpelledAttempts.{TestAttempts, attempts_inline, attempts_read}
 use Rattle.recorded.proofs.lemmas.{MarkedFields.marked_stats, MarkedFields.marked_stress}
-use Rattle.recorded.proofs.lemmas.SpelledOutputs.{attempt_loads, attempt_reads, output_loads, output_reads}
+use Rattle.recorded.proofs.lemmas.SpelledOutputs.{attempt_loads, attempt_reads, output_reads}
 use Rattle.recorded.proofs.lemmas.SpelledPlaces.{made_reads, next_reads, next_unmarked, output_made_reads}
 use Rattle.recorded.proofs.lemmas.SpelledPlaces.{place_spelled, then_spells, turned_follows, with_attempts_reads}
 use Rattle.recorded.proofs.lemmas.SpelledPlaces.{with_put}
@@ -33,9 +35,7 @@ use Rattle.recorded.specs.Names.{event_inline, output_inline, ended_lines, line_
 use Rattle.recorded.specs.Names.{line_spelled, scene_spelled}
 use Rattle.scene_reader.{specs.Names.with_made, specs.Names.words_behind, proofs.lemmas.Tellings.all_tell}
 use Rattle.scene_reader.{proofs.lemmas.Tellings.all_told}
-use Rattle.scene_reader.specs.declared.reader.ParsedLine.TheVariants.{ConfigLine, EventLine, NoEvent}
-use Rattle.scene_reader.specs.declared.reader.ParsedLine.{ParsedLine}
-use Rattle.scene_events.specs.declared.scene.event.SceneEvent.TheVariants as event
+use Rattle.run_model.specs.declared.event.TestEventKind.TheVariants as event
 use Rattle.scene_fields.specs.declared.values.ConfigKey.TheVariants as key
 
 -- the values of all kinds of field
@@ -53,18 +53,19 @@ ruleset values = (
   marked_moment,
 )
 
+-- the value of a line; of a response its type has no name here
+abbrev ValueOf : {X : Type 0} → Line X → Type 0
+ValueOf {X} line = X
+
+abbrev Answer : Type 0
+Answer = ValueOf answer_fields
+
 -- a response with this captured output
-abbrev pub answer_loads : ChildOutputDescription → UnitAnswer → UnitAnswer
-answer_loads captured answer = answer_with captured answer
+abbrev pub answer_loads : ChildOutputDescription → Answer → Answer
+answer_loads captured answer = record answer { output = execution_with_output answer.output captured }
 
-abbrev answer_made : UnitState × Option ExecutionResultDescription → SceneOutput → UnitAnswer
-answer_made read output = record { state = read.0; output = written read.1 output }
-
--- output put into it is put into the response
-answer_puts : (read : UnitState × Option ExecutionResultDescription) (captured : ChildOutputDescription)
-    (output : SceneOutput)
-    → answer_made read (output_loads captured output) ≡ answer_loads captured (answer_made read output)
-answer_puts read captured output = grind arith
+abbrev answer_made : UnitState × Option ExecutionResultDescription → Written → Answer
+answer_made read output = record { state = read.0; output = output }
 
 module _ (all : List ℕ) where
   -- the prefix of a header
@@ -124,32 +125,21 @@ module _ (all : List ℕ) where
     answer_reads : Reads all (HasOutput all answer_loads) answer_fields
     unfolding answer_fields state_fields
     answer_reads = then_spells all (search (fields_read, values) depth 12)
-        (λ read. output_made_reads all (answer_made read) (output_reads all bytes) (answer_puts read))
+        (λ read. output_made_reads all (answer_made read) (output_reads all bytes read.1) (λ captured output. refl))
 
-    answer_event_reads : (make : UnitAnswer → SceneEvent)
-        → ((captured : ChildOutputDescription) (a : UnitAnswer)
+    answer_event_reads : (make : Answer → SceneEvent)
+        → ((captured : ChildOutputDescription) (a : Answer)
         → make (answer_loads captured a) ≡ event_with 0 captured (make a))
         → Reads all HasOne (answer_fields >>= (λ a. says (make a)))
     answer_event_reads make puts = output_made_reads all make answer_reads puts
 
-    finish_inline : (stats : RunStats) (test : SceneTest) (success failure : TestOutputDisplay)
-        (stored : List PlacedOutput) (a : TestAttempts)
-        → event.TestFinished (record {
-          attempts = attempts_inline all stored a;
-          current_stats = stats;
-          test = test;
-          success_output = success;
-          failure_output = failure;
-        })
-        ≡ event_inline all stored (event.TestFinished (record {
-          attempts = a;
-          current_stats = stats;
-          test = test;
-          success_output = success;
-          failure_output = failure;
-        }))
-    finish_inline stats test success failure [] a = refl
-    finish_inline stats test success failure (p ∷ ps) a = finish_inline stats test success failure ps
+    finish_inline : (stress : Option StressIndex) (test : TestInstanceId) (success failure : TestOutputDisplay)
+        (stats : RunStats) (stored : List PlacedOutput) (a : TestAttempts)
+        → event_at 0 (event.TestFinished stress test success failure (attempts_inline all stored a) stats)
+        ≡ event_inline all stored (event_at 0 (event.TestFinished stress test success failure a stats))
+    finish_inline stress test success failure stats [] a = refl
+    finish_inline stress test success failure stats (p ∷ ps) a =
+        finish_inline stress test success failure stats ps
         (attempts_with p.place (output_inline all p.output) a)
 
     finish_event_reads : (flaky : FlakyResult) (total : ℕ) (make : TestAttempts → SceneEvent) →
@@ -183,7 +173,7 @@ module _ (all : List ℕ) where
     a &&& b = (a, b)
 
     other_lines_read : RowsRead all HasAll other_event_rows
-    unfolding other_event_rows test_fields retry_fields script_fields unescaped_after
+    unfolding other_event_rows instance_fields retry_fields script_fields unescaped_after
     other_lines_read =
         search lines depth 20
         &&& search lines depth 20
@@ -198,7 +188,7 @@ module _ (all : List ℕ) where
         &&& run_lines_read
 
     lines_read_so : RowsRead all HasAll event_rows
-    unfolding event_rows test_fields retry_fields unescaped_after
+    unfolding event_rows instance_fields retry_fields unescaped_after
     lines_read_so = search (other_lines_read, lines) depth 20 fits 20000
 
     -- whole lines

@@ -2,20 +2,19 @@
 use Rattle.recorded.proofs.lemmas.SpelledPlaces.{Becomes, Follows, HasOutput, Reads, Same, Spells, by_row_reads}
 use Rattle.recorded.proofs.lemmas.SpelledPlaces.{field_reads, fields_read, next_reads, output_made_reads, then_spells}
 use Rattle.recorded.proofs.lemmas.SpelledPlaces.{turned_follows}
-use Rattle.scene_reader.specs.Names.{ChildOutputDescription, ExecutionResultDescription, RetryData, loaded, written}
-use Rattle.scene_reader.specs.Names.{SceneOutput, Line, Noted, next_stored, stored_among, valued, with_noted}
-use Rattle.scene_reader.specs.Names.{after_mark}
+use Rattle.scene_reader.specs.Names.{ChildOutputDescription, ExecutionResultDescription, RetryData, Line, Noted}
+use Rattle.scene_reader.specs.Names.{next_stored, stored_among, valued, with_noted, after_mark}
 use Rattle.scene_reader.specs.Names.{reference_in, is_reference, stored_output_in, stored_split, stored_stream_in}
 use Rattle.scene_reader.specs.Names.{unescaped_after, Reference, StoredOutput, StoredStream, after_streams}
 use Rattle.scene_reader.specs.Names.{attempt_fields}
 use Rattle.std.proofs.Common.{◌≡◌, ℕ, ◌+◌, Bool, true, false, List, [], ◌∷◌, map, Option, None, Some, refl, ap, ◌∙◌}
-use Rattle.std.proofs.Common.{bytes_eq, codes, ◌||◌, ◌&&◌, if◌then◌else◌, inl, inr, arith, option_map}
+use Rattle.std.proofs.Common.{bytes_eq, codes, ◌||◌, ◌&&◌, if◌then◌else◌, inl, inr, option_map}
 use Rattle.std.proofs.lemmas.{Bool.and_parts, Bool.cases_Bool, Slice.Eq.bytes_eq-Decides}
 use Rattle.recorded.proofs.lemmas.MarkedFields.{marked_highlight, marked_nanos, marked_result}
 use Rattle.recorded.proofs.lemmas.SpelledPlaces.{valued_reads}
 use Rattle.recorded.proofs.lemmas.SpelledBytes.{bytes_at_bytes, bytes_read_back, stream_read_back}
 use Rattle.recorded.specs.Names.{output_inline, stream_inline, bytes_at, AreBytes, field_spelled}
-use Rattle.run_model.specs.Names.{Attempt, attempt_with_output, Nanos}
+use Rattle.run_model.specs.Names.{Attempt, attempt_with_output, execution_with_output, Nanos, Written}
 use Rattle.scene_reader.specs.Names.{by_row, combined_fields, output_fields, output_fields_of, spelled_output_fields}
 use Rattle.scene_reader.specs.Names.{split_fields, start_error_fields, stored_output_fields, stream_in, unloaded_fields}
 use Rattle.scene_fields.specs.declared.stored.{StoredOutput.TheVariants.Split, StoredOutput.TheVariants.Combined}
@@ -35,21 +34,22 @@ chosen true x y h = cc
 chosen false x y h = absurd (cc)
 
 -- the forms of an output that is not stored
-abbrev output_rows : List (List ℕ × Line SceneOutput)
-output_rows = (codes "split", split_fields) ∷ (codes "comb", combined_fields) ∷ (codes "unloaded", unloaded_fields)
+abbrev output_rows : Option ExecutionResultDescription → List (List ℕ × Line Written)
+output_rows result = (codes "split", split_fields result) ∷ (codes "comb", combined_fields result)
+    ∷ (codes "unloaded", unloaded_fields result)
     ∷ (codes "start", start_error_fields) ∷ []
 
 -- what captured output makes of what was read of it, and of an attempt
-abbrev pub output_loads : ChildOutputDescription → SceneOutput → SceneOutput
-output_loads captured output = loaded output captured
+abbrev pub output_loads : ChildOutputDescription → Written → Written
+output_loads captured output = execution_with_output output captured
 
 abbrev pub attempt_loads : ChildOutputDescription → Attempt → Attempt
 attempt_loads captured attempt = attempt_with_output attempt captured
 
-abbrev attempt_made : RetryData → ExecutionResultDescription → Nanos → Bool → SceneOutput → Attempt
+abbrev attempt_made : RetryData → ExecutionResultDescription → Nanos → Bool → Written → Attempt
 attempt_made retry_data result time_taken is_slow output = record {
   retry_data = retry_data;
-  output = written (Some result) output;
+  output = output;
   result = result;
   time_taken = time_taken;
   is_slow = is_slow;
@@ -57,16 +57,17 @@ attempt_made retry_data result time_taken is_slow output = record {
 
 module _ (all : List ℕ) where
   -- what follows the streams is the same, whatever was captured
-  after_spells : (output : ChildOutputDescription)
-      → Spells all (Becomes (output_loads output)) (after_streams streams.NotLoaded) (after_streams output)
+  after_spells : (result : Option ExecutionResultDescription) (output : ChildOutputDescription)
+      → Spells all (Becomes (output_loads output)) (after_streams result streams.NotLoaded)
+      (after_streams result output)
   unfolding after_streams unescaped_after
-  after_spells output = search (fields_read, marked_highlight) depth 12
+  after_spells result output = search (fields_read, marked_highlight) depth 12
 
   -- an output that is not stored
-  spelled_reads : Reads all Same spelled_output_fields
+  spelled_reads : (result : Option ExecutionResultDescription) → Reads all Same (spelled_output_fields result)
   unfolding spelled_output_fields after_streams unescaped_after
-  spelled_reads = next_reads all Same (by_row (valued None) output_rows) (λ u p. tt)
-      (λ form. by_row_reads all Same (valued None) output_rows form (valued_reads all None)
+  spelled_reads result = next_reads all Same (by_row (valued None) (output_rows result)) (λ u p. tt)
+      (λ form. by_row_reads all Same (valued None) (output_rows result) form (valued_reads all None)
       (search (fields_read, marked_highlight) depth 20 fits 3000))
 
   -- what is stored of streams
@@ -95,21 +96,25 @@ module _ (all : List ℕ) where
 
     -- the output as it is spelled out, with what follows its streams
     abbrev IsSpelled : List ℕ → List ℕ → List ℕ → StoredOutput → Type 0
-    IsSpelled form first second output = (n : ℕ) (fields : List (List ℕ)) →
-        spelled_output_fields (record {
+    IsSpelled form first second output = (result : Option ExecutionResultDescription) (n : ℕ)
+        (fields : List (List ℕ)) → spelled_output_fields result (record {
           number = n;
           left = form ∷ field_spelled all first ∷ second ∷ fields;
           noted = None;
         })
-        ≡ after_streams (output_inline all output) (record { number = n + 1 + 1 + 1; left = fields; noted = None })
+        ≡ after_streams result (output_inline all output) (record {
+          number = n + 1 + 1 + 1;
+          left = fields;
+          noted = None;
+        })
 
     split_spelled : (first second : List ℕ) (output : StoredOutput) (one two : Option StoredStream)
         → stored_stream_in first ≡ one → stored_stream_in second ≡ two →
         stored_split one two ≡ Some output → IsSpelled (codes "split") first (field_spelled all second) output
     unfolding spelled_output_fields
-    split_spelled first second output None two is also h n fields = absurd (cc)
-    split_spelled first second output (Some stdout) None is also h n fields = absurd (cc)
-    split_spelled first second output (Some stdout) (Some stderr) is also h n fields =
+    split_spelled first second output None two is also h result n fields = absurd (cc)
+    split_spelled first second output (Some stdout) None is also h result n fields = absurd (cc)
+    split_spelled first second output (Some stdout) (Some stderr) is also h result n fields =
         rw (
           stream_spelled first stdout is,
           stream_spelled second stderr also,
@@ -122,8 +127,8 @@ module _ (all : List ℕ) where
         → option_map (λ reference. Combined reference) o ≡ Some output →
         IsSpelled (codes "comb") first (codes "-") output
     unfolding spelled_output_fields
-    combined_spelled first output None is h n fields = absurd (cc)
-    combined_spelled first output (Some r) is h n fields =
+    combined_spelled first output None is h result n fields = absurd (cc)
+    combined_spelled first output (Some r) is h result n fields =
         (let same : output
         ≡ Combined r = cc in rw (is, bytes_read_back (bytes_at all r) (bytes_at_bytes all r bytes), same) refl)
 
@@ -149,54 +154,50 @@ module _ (all : List ℕ) where
     ]
 
     -- the fields of a line from an output on, by what is stored of it
-    output_follows : (n : ℕ) (left : List (List ℕ)) (noted : Option Noted) (o : Option StoredOutput)
+    output_follows : (result : Option ExecutionResultDescription) (n : ℕ) (left : List (List ℕ))
+        (noted : Option Noted) (o : Option StoredOutput)
         → stored_among left noted ≡ o →
-        Follows all (HasOutput all output_loads) noted (output_fields_of o (record {
+        Follows all (HasOutput all output_loads) noted (output_fields_of result o (record {
           number = n;
           left = left;
           noted = with_noted o (n + 2) noted;
         }))
-        (spelled_output_fields (record { number = n; left = map (field_spelled all) left; noted = None }))
+        (spelled_output_fields result (record { number = n; left = map (field_spelled all) left; noted = None }))
     unfolding stored_output_fields
-    output_follows n left noted None is =
+    output_follows result n left noted None is =
         turned_follows all Same (HasOutput all output_loads) _ noted _ _ (λ x new y h. record {
           output = None;
           number = n + 2;
           noted = h.noted;
           value = h.value;
         })
-        (spelled_reads.each (record { number = n; left = left; noted = with_noted None (n + 2) noted }))
-    output_follows n left None (Some output) is = absurd (cc)
-    output_follows n [] (Some noted) (Some output) is = tt
-    output_follows n (form ∷ []) (Some noted) (Some output) is = tt
-    output_follows n (form ∷ first ∷ []) (Some noted) (Some output) is = tt
-    output_follows n (form ∷ first ∷ second ∷ fields) (Some noted) (Some output) is =
-        rw (stored_spelled form first second output is n (map (field_spelled all) fields))
+        ((spelled_reads result).each (record { number = n; left = left; noted = with_noted None (n + 2) noted }))
+    output_follows result n left None (Some output) is = absurd (cc)
+    output_follows result n [] (Some noted) (Some output) is = tt
+    output_follows result n (form ∷ []) (Some noted) (Some output) is = tt
+    output_follows result n (form ∷ first ∷ []) (Some noted) (Some output) is = tt
+    output_follows result n (form ∷ first ∷ second ∷ fields) (Some noted) (Some output) is =
+        rw (stored_spelled form first second output is result n (map (field_spelled all) fields))
         (turned_follows all (Becomes (output_loads (output_inline all output))) (HasOutput all output_loads) _
         (Some noted) _ _
         (λ x new y h. record { output = Some output; number = n + 2; noted = h.noted; value = h.value })
-        ((after_spells (output_inline all output)).each (record {
+        ((after_spells result (output_inline all output)).each (record {
           number = n + 1 + 1 + 1;
           left = fields;
           noted = with_noted (Some output) (n + 2) (Some noted);
         })))
 
-    pub output_reads : Reads all (HasOutput all output_loads) output_fields
+    pub output_reads : (result : Option ExecutionResultDescription)
+        → Reads all (HasOutput all output_loads) (output_fields result)
     unfolding output_fields
-    output_reads = record { each = λ p. output_follows p.number p.left p.noted (next_stored p) refl }
+    output_reads result = record { each = λ p. output_follows result p.number p.left p.noted (next_stored p) refl }
 
     -- an attempt has one
-    attempt_puts : (retry_data : RetryData) (result : ExecutionResultDescription) (time_taken : Nanos) (is_slow : Bool)
-        (captured : ChildOutputDescription) (output : SceneOutput)
-        → attempt_made retry_data result time_taken is_slow (output_loads captured output)
-        ≡ attempt_loads captured (attempt_made retry_data result time_taken is_slow output)
-    attempt_puts retry_data result time_taken is_slow captured output = grind arith
-
     pub attempt_reads : (retry_data : RetryData) → Reads all (HasOutput all attempt_loads) (attempt_fields retry_data)
     unfolding attempt_fields
     attempt_reads retry_data =
         then_spells all (field_reads all _ marked_result)
         (λ result. then_spells all (field_reads all _ marked_nanos)
         (λ time_taken. then_spells all (field_reads all _ (λ u. refl)) (λ is_slow.
-        output_made_reads all (attempt_made retry_data result time_taken is_slow) output_reads
-        (attempt_puts retry_data result time_taken is_slow))))
+        output_made_reads all (attempt_made retry_data result time_taken is_slow) (output_reads (Some result))
+        (λ captured output. refl))))

@@ -2,7 +2,9 @@
 use Rattle.std.proofs.Common.{◌≡◌, ℕ, zero, suc, List, [], ◌∷◌, map, refl, ap, sym, ◌∙◌, arith}
 use Rattle.run_model.specs.Names.{Attempt, Attempts, Written, attempt_with_output, execution_with_output, summary_of}
 use Rattle.run_model.specs.Names.{unloaded_attempt, unloaded_attempts, unloaded_output, unloaded_script}
-use Rattle.scene_reader.specs.Names.{ChildOutputDescription, LiveSpec, with_output_at, attempts_with, script_status}
+use Rattle.run_model.specs.{Loads.attempts_with, Loads.with_output_at}
+use Rattle.run_model.specs.declared.status.{SetupScriptExecuteStatus.SetupScriptExecuteStatus}
+use Rattle.scene_reader.specs.Names.{ChildOutputDescription, LiveSpec}
 use Rattle.console_reporter.proofs.lemmas.Isolation.{unloaded-summary}
 
 unloaded-execution : (o : Written) (captured : ChildOutputDescription)
@@ -14,10 +16,9 @@ pub unloaded-attempt : (a : Attempt) (captured : ChildOutputDescription)
     → unloaded_attempt (attempt_with_output a captured) ≡ unloaded_attempt a
 unloaded-attempt a captured = ap (λ (o : Written). record a { output = o }) (unloaded-execution a.output captured)
 
-pub unloaded-script : (a : Attempt) (captured : ChildOutputDescription)
-    → unloaded_script (script_status (attempt_with_output a captured)) ≡ unloaded_script (script_status a)
-unloaded-script a captured = ap (λ (o : Written). record (script_status a) { output = o })
-    (unloaded-execution a.output captured)
+pub unloaded-script : (a : SetupScriptExecuteStatus LiveSpec ChildOutputDescription) (captured : ChildOutputDescription)
+    → unloaded_script (record a { output = execution_with_output a.output captured }) ≡ unloaded_script a
+unloaded-script a captured = ap (λ (o : Written). record a { output = o }) (unloaded-execution a.output captured)
 
 -- earlier attempts, of which one may be there, and all attempts of a test
 pub unloaded-earlier : (attempts : List Attempt) (place : ℕ) (captured : ChildOutputDescription)

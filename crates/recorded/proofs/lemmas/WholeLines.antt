@@ -1,4 +1,4 @@
--- The whole lines of a text, one by one (for `next_line`, `take_at_hand`, `read_next`).
+-- The whole lines of a text, one by one (for `next_line`, `take_at_hand`, `next_piece`).
 use Rattle.std.proofs.Common.{◌≡◌, ℕ, ◌+◌, ◌<◌, true, false, List, [], ◌∷◌, ◌++◌, Option, None, Some, length, take}
 use Rattle.std.proofs.Common.{drop, refl, sym, ap, ◌∙◌, subst, arith, append_assoc, append-nil, inl, inr, ◌==◌}
 use Rattle.{std.specs.Prelude.⊤, std.specs.List.onto_first, memchr.specs.Find.IsFirstByte, memchr.specs.Find.is_byte}

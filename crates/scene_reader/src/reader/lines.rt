@@ -1,67 +1,59 @@
 //! The kinds of line that a scene has.
 
-ghost use Rattle.scene_reader.specs.Names.{Gives, SceneEvent, by_row, event_line_fields, made, other_event_rows};
-ghost use Rattle.scene_reader.specs.Names.{run_event_rows, test_fields, unknown};
+ghost use Rattle.scene_reader.specs.Names.{Gives, by_row, call_by_names, event_line_fields, other_event_rows};
+ghost use Rattle.scene_reader.specs.Names.{run_event_rows, unknown};
 
-use run_model::boxed::Boxed;
-use scene_events::scene::event::SceneEvent;
+use run_model::call::ReportCall;
 use scene_fields::fault::{LineError, LineFault};
 use scene_fields::fields::Fields;
-use scene_fields::numbers::read_count;
 use scene_run_lines::lines::{
-    read_cancel, read_end, read_end_stress, read_header, read_info, read_input, read_pause,
-    read_prefix, read_run, read_sub_end,
+    read_cancel, read_continue, read_end, read_end_stress, read_header, read_info, read_info_end,
+    read_input, read_kill, read_pause, read_prefix, read_run, read_sub_end, read_sub_start,
 };
-use scene_run_lines::parts::read_progress;
-use scene_unit_lines::binary_ids::BinaryIds;
 use scene_unit_lines::lines::{
-    read_answer_script, read_answer_test, read_done, read_retry, read_retry_start, read_setup,
-    read_setup_done, read_setup_slow, read_slow, read_start, read_test,
+    TestNames, read_answer_script, read_answer_test, read_done, read_retry, read_retry_start,
+    read_setup, read_setup_done, read_setup_slow, read_skip, read_slow, read_start,
 };
 use std::alloc::Global;
 
-/// Reads the fields behind a word, which names the kind of event. The words of tests come first, since most lines
-/// are theirs.
-///
-/// # Errors
-///
-/// The first fault of the line, `UnknownEvent` for an unknown word, or refused memory.
+/// Reads the fields behind a word, which names the kind of event, into the call that they spell. These are the names of
+/// its test. The words of tests come first, since most lines are theirs.
 #[inline(always)]
 #[tactic(auto, unfolding(crate::specs::EventLines::event_rows))]
-pub fn read_event(
+pub fn read_event<'n, N: TestNames<'n>>(
     alloc: Global,
-    ids: &mut BinaryIds,
+    names: N,
     word: &str,
     fields: &mut Fields<'_>,
-) -> Result<SceneEvent, LineError>
-    ensures { Gives (λ e. e) fields.old result fields.new (event_line_fields word.now) }
+) -> Result<ReportCall<'n>, LineError>
+    ensures { Gives call_by_names fields.old result fields.new (event_line_fields word.now) }
 {
     match word {
         "done" => {
             fields.with_attempts()?;
-            read_done(alloc, ids, fields)
+            read_done(alloc, names, fields)
         }
         "start" => {
             fields.exactly(5)?;
-            read_start(alloc, ids, fields)
+            read_start(alloc, names, fields)
         }
         "retrystart" => {
             fields.exactly(6)?;
-            read_retry_start(alloc, ids, fields)
+            read_retry_start(alloc, names, fields)
         }
         "slow" => {
             fields.exactly(7)?;
-            read_slow(alloc, ids, fields)
+            read_slow(alloc, names, fields)
         }
         "retry" => {
             fields.exactly(15)?;
-            read_retry(alloc, ids, fields)
+            read_retry(alloc, names, fields)
         }
         "skip" => {
             fields.exactly(3)?;
-            read_skip(alloc, ids, fields)
+            read_skip(alloc, names, fields)
         }
-        word => read_other_event(alloc, ids, word, fields),
+        word => read_other_event(alloc, names, word, fields),
     }
 }
 
@@ -69,13 +61,13 @@ pub fn read_event(
 // function at its entry, used or not.
 #[inline(never)]
 #[tactic(auto, unfolding(crate::specs::EventLines::other_event_rows))]
-fn read_other_event(
+fn read_other_event<'n, N: TestNames<'n>>(
     alloc: Global,
-    ids: &mut BinaryIds,
+    names: N,
     word: &str,
     fields: &mut Fields<'_>,
-) -> Result<SceneEvent, LineError>
-    ensures { Gives (λ e. e) fields.old result fields.new (by_row unknown other_event_rows word.now) }
+) -> Result<ReportCall<'n>, LineError>
+    ensures { Gives call_by_names fields.old result fields.new (by_row unknown other_event_rows word.now) }
 {
     match word {
         "prefix" => {
@@ -108,7 +100,7 @@ fn read_other_event(
         }
         "answer-test" => {
             fields.exactly(14)?;
-            read_answer_test(alloc, ids, fields)
+            read_answer_test(alloc, names, fields)
         }
         "end" => {
             fields.exactly(4)?;
@@ -118,70 +110,52 @@ fn read_other_event(
             fields.exactly(7)?;
             read_end_stress(alloc, fields)
         }
-        word => read_run_event(alloc, word, fields),
+        word => read_run_event(word, fields),
     }
 }
 
-// Reads a `skip` line: the test.
-fn read_skip(
-    alloc: Global,
-    ids: &mut BinaryIds,
-    fields: &mut Fields<'_>,
-) -> Result<SceneEvent, LineError>
-    ensures { Gives (λ e. e) fields.old result fields.new (made SceneEvent.TestSkipped test_fields) }
-{
-    let test = read_test(alloc, ids, fields)?;
-    Ok(SceneEvent::TestSkipped(Boxed::new(alloc, test)?))
-}
-
-// Reads the fields behind a word that names an event of the run as it goes on. They hold no text, so only the event
-// allocates.
+// Reads the fields behind a word that names an event of the run as it goes on. They hold no text, so none allocates.
 #[inline(never)]
 #[tactic(auto, unfolding(crate::specs::EventLines::run_event_rows))]
-fn read_run_event(
-    alloc: Global,
-    word: &str,
-    fields: &mut Fields<'_>,
-) -> Result<SceneEvent, LineError>
-    ensures { Gives (λ e. e) fields.old result fields.new (by_row unknown run_event_rows word.now) }
+fn read_run_event<'n>(word: &str, fields: &mut Fields<'_>) -> Result<ReportCall<'n>, LineError>
+    ensures { Gives call_by_names fields.old result fields.new (by_row unknown run_event_rows word.now) }
 {
     match word {
         "substart" => {
             fields.exactly(1)?;
-            let progress = fields.read(read_progress)?;
-            Ok(SceneEvent::StressSubRunStarted(Boxed::new(alloc, progress)?))
+            read_sub_start(fields)
         }
         "cancel" => {
             fields.exactly(3)?;
-            Ok(SceneEvent::RunBeginCancel(read_cancel(alloc, fields)?))
+            read_cancel(fields)
         }
         "kill" => {
             fields.exactly(3)?;
-            Ok(SceneEvent::RunBeginKill(read_cancel(alloc, fields)?))
+            read_kill(fields)
         }
         "pause" => {
             fields.exactly(2)?;
-            Ok(SceneEvent::RunPaused(read_pause(alloc, fields)?))
+            read_pause(fields)
         }
         "continue" => {
             fields.exactly(2)?;
-            Ok(SceneEvent::RunContinued(read_pause(alloc, fields)?))
+            read_continue(fields)
         }
         "info" => {
             fields.exactly(3)?;
-            read_info(alloc, fields)
+            read_info(fields)
         }
         "infoend" => {
             fields.exactly(1)?;
-            Ok(SceneEvent::InfoFinished(fields.read(read_count)?))
+            read_info_end(fields)
         }
         "input" => {
             fields.exactly(3)?;
-            read_input(alloc, fields)
+            read_input(fields)
         }
         "subend" => {
             fields.exactly(3)?;
-            read_sub_end(alloc, fields)
+            read_sub_end(fields)
         }
         _ => Err(LineError::Fault(LineFault::UnknownEvent)),
     }

@@ -223,15 +223,15 @@ fn run(
 ) -> Result<Result<(), RunFault>, Fault<'static>> {
     let scene = read_whole(alloc, options, text.as_bytes())?;
     let calls = scene.calls(alloc, options)?;
-    let builder = builder_of(alloc, options, &scene.config)?;
+    let builder = builder_of(alloc, options, scene.config())?;
     let ran = run_report(
         alloc,
         builder,
         report,
-        scene.config.use_unicode,
+        scene.config().use_unicode,
         false,
         false,
-        scene.config.display_empty_outputs,
+        scene.config().display_empty_outputs,
         calls.as_slice(),
     );
     mem::forget(calls);

@@ -1,17 +1,17 @@
--- What devices hold of a report that was written to buffers (for `report_accepted`, `follow_source`).
-use Rattle.std.proofs.Common.{◌≡◌, ◌⊎◌, ℕ, List, [], ◌∷◌, ◌++◌, reverse, Option, None, Some, Result, Ok, Err, IfErr}
-use Rattle.std.proofs.Common.{OnOk, refl, sym, ap, ◌∙◌, subst, append-nil, inl, inr}
-use Rattle.styled_text.specs.Names.{Appends, append_known, BufferStops, buffer_laws, GrowsWithin, Holds, AppendsFront}
+-- What devices hold of a report that was written to buffers (for `report_gathered`, `follow_source`).
+use Rattle.std.proofs.Common.{◌≡◌, ◌⊎◌, ℕ, List, [], ◌∷◌, ◌++◌, reverse, Option, None, Some}
+use Rattle.std.proofs.Common.{refl, sym, ap, ◌∙◌, subst, append-nil, inl, inr}
+use Rattle.styled_text.specs.Names.{Appends, append_known, BufferStops, GrowsWithin, Holds, AppendsFront}
 use Rattle.styled_text.specs.Names.{WriteFault}
-use Rattle.scenes.proofs.Common.{Appends-nil, AreWhole, Begins, buffer_meaning, BufferAccepts, DeliversRest, device}
+use Rattle.scenes.proofs.Common.{Appends-nil, AreWhole, Begins, buffer_meaning, BufferAccepts, device}
 use Rattle.scenes.proofs.Common.{Event, false≢true, Fault, HasAtLeast, HasAtMost, HasBeginning, Header, is_some}
 use Rattle.scenes.proofs.Common.{IsSameStore, Meaning}
-use Rattle.scenes.proofs.Common.{Options, ParsedLines, Prefix, report_of, ReportCall, Reported, SceneConfig}
+use Rattle.scenes.proofs.Common.{Options, ParsedLines, Prefix, report_of, ReportCall, SceneConfig}
 use Rattle.scenes.proofs.Common.{StandAtOneCall, Store, store_for, store_meaning, stored, stored_of, StoreFailed, Text}
-use Rattle.scenes.proofs.Common.{TextBuffer, WriteFailed}
-use Rattle.writers.specs.declared.write_str.WriteFault.TheVariants.{Device, Memory}
+use Rattle.scenes.proofs.Common.{TextBuffer}
+use Rattle.writers.specs.declared.write_str.WriteFault.TheVariants.{Device}
 use Rattle.writers.proofs.lemmas.Deliveries.{accepted_delivers, begins_of, stopped_begins}
-use Rattle.scenes.specs.Names.{deferred_meaning, AreBegun, IsStop, Deferred}
+use Rattle.scenes.specs.Names.{AreBegun, IsStop}
 use Rattle.scenes.proofs.lemmas.Prints.{Begun, calls_so, memory_no_store, write_no_store}
 
 -- known bytes that stay, and grow by a beginning where they are known
@@ -284,84 +284,3 @@ module _ (options : Options) (off : store_for options ≡ None) (before after he
     },
     λ there. absurd (false≢true (ap is_some (sym off) ∙ there)),
   )
-
--- a report whose delivery was put off, and its rest delivered; a buffer fails by its device alone
-module _ {W : Type 0} (contents : W → Option (List ℕ)) (a b : Deferred (TextBuffer W)) (c : TextBuffer W) where
-  -- the rest of a text was delivered, or its device failed then
-  rest_accepted : (t : Text) → BufferAccepts contents a.writer t b.writer → BufferAccepts contents b.writer [] c
-      → BufferAccepts contents a.writer t c
-  rest_accepted t h rest = subst (λ x. BufferAccepts contents a.writer x c) (append-nil t)
-      ((buffer_laws contents).joins a.writer b.writer c t [] h rest)
-
-  rest_lost : (t : Text) → BufferAccepts contents a.writer t b.writer → BufferStops contents b.writer [] Device c
-      → BufferStops contents a.writer t Device c
-  rest_lost t h lost = subst (λ x. BufferStops contents a.writer x Device c) (append-nil t)
-      ((buffer_laws contents).goes_on a.writer b.writer c t [] Device h lost)
-
-  -- so of a beginning
-  rest_begun : (F : Type 0) (t : Text) → Begun (deferred_meaning (buffer_meaning contents)) F a t b → (F → c ≡ b.writer)
-      → BufferAccepts contents b.writer [] c → Begun (buffer_meaning contents) F a.writer t c
-  rest_begun F t (inl h) same rest = inl
-      (h.0, subst (λ x. BufferStops contents a.writer t Device x) (sym (same h.0)) h.1)
-  rest_begun F t (inr (inl h)) same rest = absurd (let is : Memory ≡ Device = h.device in cc)
-  rest_begun F t (inr (inr h)) same rest = inr (inr (record {
-    front = h.front;
-    rest = h.rest;
-    whole = h.whole;
-    accepted = rest_accepted h.front h.accepted rest;
-  }))
-
-  begun_lost : (F : Type 0) (t : Text) → Begun (deferred_meaning (buffer_meaning contents)) F a t b → (F → ⊥)
-      → BufferStops contents b.writer [] Device c → BufferStops contents a.writer t Device c
-  begun_lost F t (inl h) other lost = absurd (other h.0)
-  begun_lost F t (inr (inl h)) other lost = absurd (let is : Memory ≡ Device = h.device in cc)
-  begun_lost F t (inr (inr h)) other lost =
-      subst (λ x. BufferStops contents a.writer x Device c) (sym h.whole)
-      ((buffer_laws contents).stops_within a.writer c h.front h.rest Device (rest_lost h.front h.accepted lost))
-
-  -- how the report of a run ended without a store, and the delivery of its rest
-  module _ {S : Type 0} (n : Meaning S) (options : Options) (off : store_for options ≡ None) (run : ParsedLines)
-      (none : a.writer.pending ≡ []) (held : Option (List ℕ)) where
-    front : (t : Text) → BufferStops contents a.writer t Device c
-        → AppendsFront (contents a.writer.writer) (contents c.writer) t
-    front t stops = begun_here contents a.writer c none (Unit {0}) t (inl (tt, stops))
-
-    pub delivered : (y : Option (Store S)) → IsSameStore None y → (reported outcome : Result (Unit {0}) Fault)
-        → Reported (deferred_meaning (buffer_meaning contents)) (store_meaning n) options (a, None) (b, y) run reported
-        → OnOk outcome ((reported ≡ Ok tt) × BufferAccepts contents b.writer [] c × (c.pending ≡ []))
-        → IfErr outcome (DeliversRest contents reported b.writer c) →
-        Reported device device options (contents a.writer.writer, held) (contents c.writer, held) run outcome
-    delivered (Some s) same reported outcome report ok err = absurd same
-    delivered None same (Ok done) (Ok tt) report ok err = (
-      calls_so
-          (λ calls h. alone_whole options off _ _ held run.config calls
-          (whole_here contents a.writer c none _ (rest_accepted _ h.printed ok.1) ok.2))
-          report.0,
-      tt,
-    )
-    delivered None same (Err g) (Ok tt) report ok err = absurd (let wrong = ok.0 in cc)
-    delivered None same (Ok done) (Err f) report ok (inl h) = absurd (let wrong = h.0 in cc)
-    delivered None same (Ok done) (Err f) report ok (inr h) = (
-      tt,
-      calls_so
-          (λ calls p. alone_begun options off _ _ held run.config calls f (inl h.1)
-          (front _ (rest_lost _ p.printed h.2)))
-          report.0,
-    )
-    delivered None same (Err g) (Err f) report ok (inl h) =
-        let is : f ≡ g = cc h.0 in
-        rw is (
-          tt,
-          calls_so
-              (λ calls p. alone_begun options off _ _ held run.config calls g p.0
-              (begun_here contents a.writer c none _ _
-              (rest_begun (g ≡ WriteFailed) _ p.1.begun (λ failed. h.1 (is ∙ failed)) h.2)))
-              report.1,
-        )
-    delivered None same (Err g) (Err f) report ok (inr h) = (
-      tt,
-      calls_so
-          (λ calls p. alone_begun options off _ _ held run.config calls f (inl h.1)
-          (front _ (begun_lost (g ≡ WriteFailed) _ p.1.begun (λ failed. h.0 (cc)) h.2)))
-          report.1,
-    )

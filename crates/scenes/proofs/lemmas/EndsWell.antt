@@ -1,9 +1,9 @@
 -- What is left to stop a report of which no line is wrong and no call is refused (for `scenes_end_well` and
 -- `followed_lines_end_well`).
-use Rattle.std.proofs.Common.{◌≡◌, ◌⊎◌, ◌∙◌, inl, inr, ℕ, List, Ok, Err, refl, subst, sym}
+use Rattle.std.proofs.Common.{◌≡◌, ◌⊎◌, ◌∙◌, inl, inr, ℕ, List, Result, Ok, Err, subst, sym}
 use Rattle.{std.specs.Prelude.⊤, styled_text.specs.Names.Bor, styled_text.specs.Names.Meaning}
 use Rattle.scene_reader.specs.Names.{LineFault, ParsedLines, RunLine, lines_read, no_lines, text_lines}
-use Rattle.scenes.specs.Names.{Begins, Fault, IsJudgeFault, IsJudged, IsRefusedText, IsRejected, IsStop, IsUnread}
+use Rattle.scenes.specs.Names.{Begins, Fault, IsFaultOfLines, IsJudgeFault, IsRefusedText, IsRejected, IsStop, IsUnread}
 use Rattle.scenes.specs.Names.{OfText, Options, Prints, StopsBy}
 use Rattle.scenes.specs.{Follow.IsWrongLine, Read.AtLine}
 use Rattle.command_line.specs.declared.fault.Fault.TheVariants.{CannotRead, CannotWrite, Line, OutOfMemory, StoreFailed}
@@ -12,12 +12,14 @@ use Rattle.command_line.specs.declared.fault.Fault.TheVariants.{Usage, WriteFail
 module _ (options : Options) (text : List ℕ) (run : ParsedLines)
     (spelled : lines_read 1 no_lines (text_lines text) ≡ Ok run)
     (none : (n : ℕ) (f : LineFault) → IsRefusedText options text (Line n f) → ⊥) where
-  judged_stop : (fault : Fault) → IsJudgeFault options.file.now fault → IsJudged options (Err fault) text
+  judged_stop : (fault : Fault) → IsJudgeFault options.file.now fault
+      → IsFaultOfLines (text_lines text) fault ⊎ IsRefusedText options text fault
       → IsUnread options.file.now fault ⊎ IsStop options fault
   judged_stop Usage of_judge judged = inl of_judge
   judged_stop (CannotRead file) of_judge judged = inl of_judge
   judged_stop (CannotWrite file) of_judge judged = inl of_judge
-  judged_stop (Line n f) of_judge (inl h) = let wrong : Ok run ≡ Err (n, f) = sym spelled ∙ h in cc
+  judged_stop (Line n f) of_judge (inl h) = absurd
+      (let wrong : ◌≡◌ {A = Result ParsedLines (ℕ × LineFault)} (Ok run) (Err (n, f)) = sym spelled ∙ h in cc)
   judged_stop (Line n f) of_judge (inr h) = absurd (none n f h)
   judged_stop WriteFailed of_judge judged = inl of_judge
   judged_stop StoreFailed of_judge judged = inl of_judge

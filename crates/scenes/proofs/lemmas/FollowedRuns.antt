@@ -1,31 +1,34 @@
--- What is read of lines that are followed is reported, or left (for `follow_lines`, `follow_to`, `follow_source`).
-use Rattle.scenes.proofs.Common.{AreWhole, AtLine, Begins, begun_behind, Followed, EventLine, Fault, fault_of_read}
-use Rattle.scenes.proofs.Common.{Follows, HasReadLines, is_begun, is_begun_behind, IsMore, IsNextFault, IsUnread}
-use Rattle.scenes.proofs.Common.{KeepsUp, Line, line_value, LineFault, lines_after, lines_before, lines_with, LinesRead}
-use Rattle.scenes.proofs.Common.{Meaning, no_lines, Options, OutOfMemory, parsed_lines, ParsedLine, ParsedLines}
-use Rattle.scenes.proofs.Common.{Prints, ReadFault, ReportCall, RunLine, RunOutcome, SceneConfig, SceneEvent}
-use Rattle.scenes.proofs.Common.{SceneReporter, StopsAtEvent, StopsBy, store-laws, store_meaning, with_line, WriterLaws}
-use Rattle.std.proofs.Common.{◌≡◌, ℕ, ◌+◌, Bool, true, false, List, [], ◌∷◌, ◌++◌, Result, Ok, Err, length, get_or}
-use Rattle.std.proofs.Common.{refl, sym, ap, ◌∙◌, subst, append_assoc, inl, inr, ◌⊎◌}
+-- Lines that are followed: all were reported, or a fault stopped one (for `follow_to`, `follow_source`).
+use Rattle.scenes.proofs.Common.{AreWhole, AtLine, Begins, Fault, Followed, Follows, IsUnread, Line}
+use Rattle.scenes.proofs.Common.{line_value, LineFault, lines_before, Meaning, no_lines, Options, OutOfMemory}
+use Rattle.scenes.proofs.Common.{ParsedLines}
+use Rattle.scenes.proofs.Common.{Prints, ReportCall, RunLine, RunOutcome, SceneEvent, SceneReporter, StopsAtEvent}
+use Rattle.scenes.proofs.Common.{StopsBy, store-laws, store_meaning, with_line, WriterLaws, writers}
+use Rattle.std.proofs.Common.{Option}
+use Rattle.scenes.{proofs.Common.Store, specs.Follow.with_outcome}
+use Rattle.std.proofs.Common.{◌≡◌, ◌⊎◌, ℕ, ◌+◌, List, [], ◌∷◌, ◌++◌, Result, Ok, Err, length, refl, sym}
+use Rattle.std.proofs.Common.{ap, ◌∙◌, subst, inl, inr}
 use Rattle.{std.specs.Borrow.Bor, command_line.specs.declared.fault.Fault.TheVariants.CannotRead}
 use Rattle.{scenes.specs.Follow.IsWrongLine, scene_reader.specs.SceneTexts.line_read}
+use Rattle.scene_reader.specs.Names.{ParsedLine, Takes}
+use Rattle.scene_reader.specs.SceneTexts.{ConfigLine, EventLine, NoEvent}
+use Rattle.scenes.specs.Read.{AllTaken, HasConfigured, IsBegin, PassesAll, StopsConfiguring, StopsRead}
+use Rattle.scenes.specs.Read.{StopsTaking}
+use Rattle.{scene_reader.specs.declared.reader.LinesRead.LinesRead, scenes.proofs.Common.SceneConfig}
+use Rattle.{scenes.specs.SceneReporter.IsSetFor, scenes.proofs.Common.IsSameReporter, scenes.proofs.Common.same-after}
+use Rattle.scenes.proofs.Common.{AllZip, IsCallOf}
+use Rattle.scenes.specs.{SceneReporter.ReportsCall}
 use Rattle.scenes.proofs.lemmas.Prints.{begins_no_more, calls_so, none_begun, prints_only}
-use Rattle.scenes.proofs.{Common.writers, lemmas.SceneReporters.StopsAt}
-use Rattle.scenes.proofs.lemmas.ReadLines.{config_kept, at_behind, event_at, forgets, spells}
-use Rattle.scene_fields.specs.declared.fault.ReadFault.TheVariants as read
-
-wrong_with : (before : ParsedLines) (f : LineFault) (r : Result ParsedLine LineFault) → lines_with before r ≡ Err f
-    → r ≡ Err f
-wrong_with before f (Ok s) h = absurd (cc)
-wrong_with before f (Err g) h = cc
-
-wrong_said : (run : ParsedLines) (t : RunLine) (f : LineFault) → line_read run t ≡ Err f
-    → line_value (lines_before run) t ≡ Err f
-unfolding line_read
-wrong_said run t f h = wrong_with run f (line_value (lines_before run) t) h
+use Rattle.{scenes.proofs.Common.StaysConfigured}
+use Rattle.scenes.proofs.lemmas.Configured.{stays_behind, stays_front}
+use Rattle.{console_reporter.proofs.lemmas.Stores.same-store, scenes.proofs.lemmas.ReadLines.at_behind}
+use Rattle.{console_reporter.specs.declared.imp.reporter.DisplayReporter.DisplayReporter}
+use Rattle.scenes.proofs.lemmas.Taken.{taken_read}
+use Rattle.{scene_reader.proofs.lemmas.Tellings.all_append, scene_reader.proofs.lemmas.Tellings.all_told}
+use Rattle.{scene_reader.specs.SceneTexts.lines_read, scenes.specs.Read.IsGiven}
 
 -- a fault stops lines after those of this run
-stopped : {options : Options} {all : List RunLine} {P : ParsedLines → Type 0} {Q : ParsedLines → Fault → Type 0}
+pub stopped : {options : Options} {all : List RunLine} {P : ParsedLines → Type 0} {Q : ParsedLines → Fault → Type 0}
     {f : Fault} {run : ParsedLines} {lines : List RunLine} {number : ℕ}
     → AtLine all run lines number →
     (P run
@@ -39,34 +42,6 @@ stopped {run = run} {lines = lines} {number = number} at holds = record {
   at = at;
   holds = holds;
 }
-
--- what was read so far holds, and nothing more could be read behind it
-module _ (options : Options) (all : List RunLine) (P : ParsedLines → Type 0) (Q : ParsedLines → Fault → Type 0)
-    (run : ParsedLines) (holds : P run) (refused : Q run OutOfMemory) (left : List RunLine) (number : ℕ)
-    (at : AtLine all run left number) where
-  left_unread : (f : Fault) → IsUnread options.file.now f → StopsBy options all P Q f
-  left_unread (CannotRead name) h = stopped at (inl (holds, inr (name, refl, h)))
-  left_unread OutOfMemory h = stopped at (inr refused)
-  left_unread other h = absurd h
-
-  left_wrong : (f : ReadFault) → IsNextFault number run left f → StopsBy options all P Q (fault_of_read f)
-  left_wrong (read.Line j f) h = stopped at (inl (
-    holds,
-    inl (record {
-      t = h.1.0;
-      more = h.1.1;
-      first = h.1.2;
-      f = f;
-      is = ap (λ n. Line n f) h.0;
-      wrong = inl (wrong_said run h.1.0 f h.1.3);
-    }),
-  ))
-  left_wrong read.OutOfMemory h = stopped at (inr refused)
-
-  nothing_more : (f : Fault) (Has : ParsedLines → List RunLine → Type 0)
-      → IsMore options.file.now (Err f) run left number Has → StopsBy options all P Q f
-  nothing_more f Has (inl h) = left_unread f h
-  nothing_more f Has (inr x) = subst (StopsBy options all P Q) (sym x.1) (left_wrong x.0 x.2)
 
 -- memory was refused before anything was written
 pub nothing_stops : {W T : Type 0} (m : Meaning W) (k : Meaning T) (options : Options) (all : List RunLine)
@@ -87,149 +62,250 @@ nothing_stops m k options all held nothing also delivered stored P f is = rw is
       holds = none_begun m k options _ [] held nothing also delivered stored;
     })))
 
-module _ {W S : Type 0} {m : Meaning W} {n : Meaning S} (laws : WriterLaws m) (others : WriterLaws n)
-    (options : Options) (all : List RunLine) (start : SceneReporter W S) where
-  abbrev Stops : SceneReporter W S → Fault → Type 0
-  Stops now = StopsBy options all (Prints m (store_meaning n) options (writers start) (writers now))
-      (Begins m (store_meaning n) options (writers start) (writers now))
+-- a fault stopped the lines that configure the report: nothing was written
+pub unconfigured_stops : {W T : Type 0} (m : Meaning W) (k : Meaning T) (options : Options) (all : List RunLine)
+    (held : W × T)
+    → m.accepts held.0 [] held.0 → k.accepts held.1 [] held.1 → m.is_delivered held.0 → k.is_delivered held.1
+    → (fault : Fault) → StopsConfiguring options.file.now all fault
+    → StopsBy options all (Prints m k options held held) (Begins m k options held held) fault
+unconfigured_stops {W} {T} m k options all held nothing also delivered stored fault s = by fault s.stops
+  where
+    of_run : AllZip IsCallOf s.run.events []
+    of_run = rw s.none tt
 
-  -- the event of the next line was stopped
-  one_stopped : (next : SceneReporter W S) (run : ParsedLines) (t : RunLine) (more : List RunLine) (number : ℕ)
-      → AtLine all run (t ∷ more) number → (e : SceneEvent) → line_value (lines_before run) t ≡ Ok (EventLine e) →
-      (f : Fault) → StopsAt m n options start next run number e f → Stops next f
-  unfolding line_read
-  one_stopped next run t more number at e says f (inl begins) = stopped at (inr begins)
-  one_stopped next run t more number at e says f (inr (inl begins)) = stopped
-      (at_behind all run (t ∷ []) more number (with_line run (EventLine e)) at
-      (with_line run (EventLine e), rw says refl, refl))
-      (inr begins)
-  one_stopped next run t more number at e says f (inr (inr refused)) = stopped at (inl (
-    refused.0,
-    inl (record {
-      t = t;
-      more = more;
-      first = refl;
-      f = refused.1.0;
-      is = refused.1.1;
-      wrong = inr (e, says, refused.1.2);
-    }),
-  ))
-
-  -- nothing was reported yet
-  pub keeps_up : (read : LinesRead) (more : Result Bool Fault) (Has : ParsedLines → List RunLine → Type 0)
-      → HasReadLines options.file.now all [] no_lines read more Has
-      → (more ≡ Ok true → is_begun read.run.events.items ≡ true) →
-      Follows m n options start start (record {
-        config = read.run.config;
-        events = [];
-      }) → KeepsUp m n options all start start read more Has
-  keeps_up read more Has has begun follows = record {
-    front = [];
-    before = no_lines;
-    has = has;
-    printed = record {
+    prints : Prints m k options held held s.run
+    prints = record {
       calls = [];
-      of_run = tt;
+      of_run = of_run;
       accepted = refl;
-      holds = record {
-        printed = laws.nothing start.reporter.writer.now;
-        kept = (store-laws others).nothing start.reporter.store;
-        delivered = follows.reported.holds.0.delivered;
-      };
-    };
-    follows = follows;
-    begun = begun;
-  }
+      holds = record { printed = nothing; kept = also; delivered = (delivered, stored) };
+    }
 
-  module _ (now : SceneReporter W S) (read : LinesRead) (more : Result Bool Fault)
-      (Has : ParsedLines → List RunLine → Type 0) (k : KeepsUp m n options all start now read more Has) where
-    abbrev run : ParsedLines
-    run = lines_after k.before.events (parsed_lines read.run)
+    unread : (f : Fault) → IsUnread options.file.now f
+        → StopsBy options all (Prints m k options held held) (Begins m k options held held) f
+    unread (CannotRead name) h = stopped s.at (inl (prints, inr (name, refl, h)))
+    unread OutOfMemory h = stopped s.at (inr (record {
+      calls = [];
+      of_run = of_run;
+      accepted = refl;
+      holds = none_begun m k options _ [] held nothing also delivered stored;
+    }))
+    unread other h = absurd h
 
-    behind : AtLine all k.before (k.has.lines ++ k.has.left) (length k.front + 1)
-    behind = record { front = k.front; whole = k.has.whole; place = refl; tells = k.has.forgotten }
+    by : (f : Fault) → StopsRead options.file.now s.run s.number s.lines f
+        → StopsBy options all (Prints m k options held held) (Begins m k options held held) f
+    by f (inl h) = unread f h
+    by f (inr (line, more, wrong, is, says, told)) = stopped s.at (inl (
+      prints,
+      inl (record { t = line; more = more; first = is; f = wrong; is = told; wrong = inl says }),
+    ))
 
-    here : AtLine all run k.has.left read.next
-    here = subst (AtLine all run k.has.left) (sym k.has.place)
-        (at_behind all k.before k.has.lines k.has.left _ run behind k.has.tells)
+-- how a reporter takes calls
+abbrev pub takes : {W S : Type 0} → Meaning W → Meaning S → Takes (SceneReporter W S)
+takes m n = λ old file. ReportsCall m n old
 
-    -- an event of what was read was stopped
-    pub stops_run : (next : SceneReporter W S) (f : Fault)
-        → StopsAtEvent m n options start next read.run.config read.run.events.items read.run.lines.items k.before.events
-        f
-        → Stops next f
-    stops_run next f stop =
-        let is : run.events ≡ (k.before.events ++ stop.front) ++ stop.event ∷ stop.rest = ap
-        (λ es. k.before.events ++ es) stop.whole
-        ∙ sym (append_assoc k.before.events stop.front (stop.event ∷ stop.rest)) in
-        let at = event_at all k.has.left run (k.before.events ++ stop.front) stop.event stop.rest is
-        (get_or read.run.lines.items (length stop.front) 0) (length k.front + 1) k.before k.has.lines behind
-        k.has.tells stop.front refl
-        (ap (λ ls. get_or ls (length stop.front) 0) (sym k.has.noted)) in
-        one_stopped next _ at.t at.more _ at.at stop.event at.says f stop.stops
+-- The writers and settings of a reporter stay where it takes calls,
+pub still : {W S : Type 0} (r : DisplayReporter W S) → IsSameReporter r r
+still r = record { writer = refl; store = same-store r.store; settings = refl }
 
-    -- there are lines that no number counts
-    pub reported_uncounted : Stops now (CannotRead options.file)
-    reported_uncounted = stopped behind (inl (k.printed, inr (options.file, refl, refl)))
+module _ {W S : Type 0} (m : Meaning W) (n : Meaning S) (file : List ℕ) where
+  given_same : (number : ℕ) (value : ParsedLine) (now next : SceneReporter W S) (result : Result (Unit {0}) Fault)
+      → IsGiven (takes m n) file number value now result next → IsSameReporter now.reporter next.reporter
+  given_same number NoEvent now next result given = subst (λ r. IsSameReporter now.reporter r.reporter)
+      (sym given.1.0) (still now.reporter)
+  given_same number (ConfigLine c) now next result given = subst (λ r. IsSameReporter now.reporter r.reporter)
+      (sym given.1.0) (still now.reporter)
+  given_same number (EventLine e) now next result given = given.1.2.same
 
-    -- all that was read was reported
-    module _ (next : SceneReporter W S) (reported : Follows m n options start next (record {
-      config = read.run.config;
-      events = k.before.events ++ read.run.events.items;
-    })) where
-      abbrev prints : Prints m (store_meaning n) options (writers start) (writers next) run
-      prints = prints_only reported.reported
+  taken_same : (number : ℕ) (run last : ParsedLines) (now next : SceneReporter W S) (lines : List RunLine)
+      → AllTaken (takes m n) file number run now lines last next → IsSameReporter now.reporter next.reporter
+  taken_same number run last now next [] h = subst (λ r. IsSameReporter now.reporter r.reporter) h.1
+      (still now.reporter)
+  taken_same number run last now next (line ∷ lines) h = same-after (given_same number h.0 now h.1 (Ok tt) h.3)
+      (taken_same (number + 1) (with_line run h.0) last h.1 next lines h.4)
 
-      -- and the lines end there
-      pub reported_all : more ≡ Ok false
-          → Followed m (store_meaning n) options all (writers start) (writers next) (λ r. Has r []) (Ok next.outcome)
-      reported_all last =
-          let has = subst (λ r. HasReadLines options.file.now all k.front k.before read r Has) last k.has in
-          let spelled = spells options.file.now all read k.front k.before Has has in (
-            record {
-              run = run;
-              spelled = spelled;
-              holds = reported.reported;
-            },
-            record { run = run; spelled = spelled; holds = has.more_is.1 },
-            tt,
-          )
+  stopped_same : (number : ℕ) (run : ParsedLines) (now next : SceneReporter W S) (lines : List RunLine)
+      (fault : Fault)
+      → StopsTaking (takes m n) file number run lines now fault next → IsSameReporter now.reporter next.reporter
+  stopped_same number run now next lines fault stops = same-after
+      (taken_same number run stops.mid_run now stops.mid stops.front stops.taken)
+      (elim stops.stops [
+        | inl h ↦ subst (λ r. IsSameReporter stops.mid.reporter r.reporter) (sym h.0) (still stops.mid.reporter)
+        | inr (line, more, e, is, says, given) ↦
+            given_same (number + length stops.front) (EventLine e) stops.mid next (Err fault) given
+      ])
 
-      -- or nothing more could be read
-      pub reported_first : (f : Fault) → more ≡ Err f → Stops next f
-      reported_first f is =
-          nothing_more options all (Prints m (store_meaning n) options (writers start) (writers next))
-          (Begins m (store_meaning n) options (writers start) (writers next)) run prints
-          (begins_no_more laws (store-laws others) options (writers start) (writers next) run prints)
-          k.has.left read.next here f Has
-          (subst (λ r. IsMore options.file.now r run k.has.left read.next Has) is k.has.more_is)
+  pub passed_same : (Done : ParsedLines → List RunLine → Type 0) (number : ℕ) (run : ParsedLines)
+      (now next : SceneReporter W S) (lines : List RunLine) (result : Result (Unit {0}) Fault)
+      → PassesAll (takes m n) file Done number run lines now result next → IsSameReporter now.reporter next.reporter
+  passed_same Done number run now next lines (Ok done) p = taken_same number run p.ok.0 now next lines p.ok.1
+  passed_same Done number run now next lines (Err fault) p = stopped_same number run now next lines fault p.err
 
-      -- or further lines were read behind it
-      pub reads_on : more ≡ Ok true
-          → (new : LinesRead) (goes_on : Result Bool Fault) (Next : ParsedLines → List RunLine → Type 0)
-          → HasReadLines options.file.now all (k.front ++ k.has.lines) run new goes_on Next
-          → KeepsUp m n options all start next new goes_on Next
-      reads_on more_is new goes_on Next has = record {
-        front = k.front ++ k.has.lines;
-        before = run;
-        has = has;
-        printed = prints;
-        follows = subst (λ c. Follows m n options start next (record {
-          config = c;
-          events = run.events;
-        })) (sym (config_kept run has.lines (lines_after run.events (parsed_lines new.run)) (k.begun
-            more_is) has.tells)) reported;
-        begun = λ is. begun_behind run.events new.run.events.items
-            ∙ ap (λ b. is_begun_behind b new.run.events.items) (k.begun more_is);
-      }
+module _ {W S : Type 0} {m : Meaning W} {n : Meaning S} (laws : WriterLaws m) (others : WriterLaws n)
+    (options : Options) (start : W × Option (Store S)) where
+  -- a line that was taken was reported
+  one_taken : (file : List ℕ) (number : ℕ) (run : ParsedLines) (now next : SceneReporter W S) (value : ParsedLine)
+      → ((with_line run value).config ≡ run.config) → IsGiven (takes m n) file number value now (Ok tt) next →
+      IsSetFor options run.config now → Follows m n options start now run
+      → IsSetFor options run.config next × Follows m n options start next (with_line run value)
+  one_taken file number run now next NoEvent kept given set follows = rw given.1.0 (set, follows)
+  one_taken file number run now next (ConfigLine c) kept given set follows = rw (given.1.0, kept) (set, follows)
+  one_taken file number run now next (EventLine e) kept given set follows =
+      let reports = given.1.2 in (
+        (reports.settings.0 ∙ set.0, reports.settings.1 ∙ set.1),
+        subst (λ x. Follows m n options start next (with_line run (EventLine x))) given.1.1
+            (reports.reported options start run set follows),
+      )
 
-    -- what was read is forgotten
-    module _ (new : LinesRead) (config : new.run.config ≡ read.run.config) (events : new.run.events.items ≡ [])
-        (lines : new.run.lines.items ≡ []) (begun : new.is_begun ≡ is_begun_behind read.is_begun read.run.events.items)
-        (next : new.next ≡ read.next) where
-      pub forgotten : more ≡ Ok true → HasReadLines options.file.now all (k.front ++ k.has.lines) run new (Ok true) Has
-      forgotten goes_on = subst (λ r. HasReadLines options.file.now all (k.front ++ k.has.lines) run new r Has) goes_on
-          (forgets options.file.now all k.front k.before read new more Has k.has config events lines begun next)
+  -- lines that were taken were reported
+  pub all_taken : (file : List ℕ) (number : ℕ) (run last : ParsedLines) (now next : SceneReporter W S)
+      (lines : List RunLine)
+      → StaysConfigured run lines → AllTaken (takes m n) file number run now lines last next →
+      IsSetFor options run.config now → Follows m n options start now run
+      → IsSetFor options last.config next × Follows m n options start next last
+  all_taken file number run last now next [] stays h set follows = rw (← h.0, ← h.1) (set, follows)
+  all_taken file number run last now next (line ∷ lines) stays h set follows =
+      let kept = stays h.0 h.2 in
+      let one = one_taken file number run now h.1 h.0 kept.0 h.3 set follows in
+      all_taken file (number + 1) (with_line run h.0) last h.1 next lines kept.1 h.4
+      (subst (λ c. IsSetFor options c h.1) (sym kept.0) one.0) one.1
+
+  module _ (all : List RunLine) (run : ParsedLines) (lines : List RunLine) (number : ℕ)
+      (at : AtLine all run lines number) (stays : StaysConfigured run lines) (now next : SceneReporter W S)
+      (set : IsSetFor options run.config now) (follows : Follows m n options start now run) where
+    abbrev StopsRun : SceneReporter W S → Fault → Type 0
+    StopsRun r = StopsBy options all (Prints m (store_meaning n) options start (writers r))
+        (Begins m (store_meaning n) options start (writers r))
+
+    -- all of them were, and no line is left
+    pub all_followed : (IsDone : ParsedLines → Type 0) (last : ParsedLines)
+        → AllTaken (takes m n) options.file.now number run now lines last next → IsDone last
+        → Followed m (store_meaning n) options all start (writers next) IsDone (Ok next.outcome)
+    all_followed IsDone last taken done =
+        let spelled = ap (lines_read 1 no_lines) at.whole
+        ∙ all_told 1 no_lines (at.front ++ lines) last (all_append no_lines at.front run lines last at.tells
+        (taken_read (takes m n) options.file.now number run last now next lines taken)) in
+        let told = all_taken options.file.now number run last now next lines stays taken set follows in (
+          record {
+            run = last;
+            spelled = spelled;
+            holds = told.1.reported;
+          },
+          record { run = last; spelled = spelled; holds = done },
+          tt,
+        )
+
+    -- or a fault stopped one
+    module _ (fault : Fault) (stops : StopsTaking (takes m n) options.file.now number run lines now fault next) where
+      abbrev place : ℕ
+      place = number + length stops.front
+
+      here : AtLine all stops.mid_run stops.rest place
+      here = at_behind all run stops.front stops.rest number stops.mid_run
+          (subst (λ ls. AtLine all run ls number) stops.whole at)
+          (taken_read (takes m n) options.file.now number run stops.mid_run now stops.mid stops.front stops.taken)
+
+      so_far : IsSetFor options stops.mid_run.config stops.mid × Follows m n options start stops.mid stops.mid_run
+      so_far = all_taken options.file.now number run stops.mid_run now stops.mid stops.front
+          (stays_front run stops.front stops.rest (subst (StaysConfigured run) stops.whole stays)) stops.taken set
+          follows
+
+      prints : Prints m (store_meaning n) options start (writers stops.mid) stops.mid_run
+      prints = prints_only so_far.1.reported
+
+      unread : (f : Fault) → IsUnread options.file.now f → StopsRun stops.mid f
+      unread (CannotRead name) h = stopped here (inl (prints, inr (name, refl, h)))
+      unread OutOfMemory h = stopped here
+          (inr
+          (begins_no_more laws (store-laws others) options start (writers stops.mid) stops.mid_run
+          prints))
+      unread other h = absurd h
+
+      wrong : ((line : RunLine) × (more : List RunLine) × (f : LineFault) × (stops.rest ≡ line ∷ more)
+          × (line_value (lines_before stops.mid_run) line ≡ Err f) × (fault ≡ Line place f))
+          → StopsRun stops.mid fault
+      wrong (line, more, f, is, says, told) = stopped here (inl (
+        prints,
+        inl (record {
+          t = line;
+          more = more;
+          first = is;
+          f = f;
+          is = told;
+          wrong = inl says;
+        }),
+      ))
+
+      event_stopped : (line : RunLine) (more : List RunLine) (e : SceneEvent) → stops.rest ≡ line ∷ more
+          → line_value (lines_before stops.mid_run) line ≡ Ok (EventLine e)
+          → StopsAtEvent m n options start next stops.mid_run place e fault → StopsRun next fault
+      unfolding line_read
+      event_stopped line more e is says (inl begins) = stopped here (inr begins)
+      event_stopped line more e is says (inr (inl begins)) =
+          stopped
+          (at_behind all stops.mid_run (line ∷ []) more place (with_line stops.mid_run (EventLine e))
+          (subst (λ ls. AtLine all stops.mid_run ls place) is here)
+          (with_line stops.mid_run (EventLine e), rw says refl, refl))
+          (inr begins)
+      event_stopped line more e is says (inr (inr refused)) =
+          stopped here (inl (
+            refused.0,
+            inl (record {
+              t = line;
+              more = more;
+              first = is;
+              f = refused.1.0;
+              is = refused.1.1;
+              wrong = inr (e, says, refused.1.2);
+            }),
+          ))
+
+      pub follow_stopped : StopsRun next fault
+      follow_stopped = elim stops.stops [
+        | inl before ↦ rw before.0 (elim before.1 [ inl h ↦ unread fault h | inr h ↦ wrong h ])
+        | inr (line, more, e, is, says, given) ↦
+            event_stopped line more e is says
+            (subst (λ x. StopsAtEvent m n options start next stops.mid_run place x fault) given.1.1
+            (given.1.2.left options start stops.mid_run so_far.0 so_far.1))
+      ]
+
+-- behind some lines, which were reported, a reporter took the calls of all others
+pub passed_behind : {W S : Type 0} {m : Meaning W} {n : Meaning S} (laws : WriterLaws m) (others : WriterLaws n)
+    (options : Options) (start : W × Option (Store S)) (now next : SceneReporter W S) (all : List RunLine)
+    (run : ParsedLines) (lines : List RunLine) (number : ℕ)
+    → AtLine all run lines number → StaysConfigured run lines → IsSetFor options run.config now
+    → Follows m n options start now run
+    → (Done : ParsedLines → List RunLine → Type 0) (result : Result (Unit {0}) Fault)
+    → PassesAll (takes m n) options.file.now Done number run lines now result next
+    → Followed m (store_meaning n) options all start (writers next) (λ last. Done last [])
+    (with_outcome next.outcome result)
+passed_behind laws others options start now next all run lines number at stays set follows Done (Ok done) p =
+    all_followed laws others options start all run lines number at stays now next set follows (λ last. Done last [])
+    p.ok.0 p.ok.1 p.ok.2
+passed_behind laws others options start now next all run lines number at stays set follows Done (Err f) p = (
+  tt,
+  tt,
+  follow_stopped laws others options start all run lines number at stays now next set follows f p.err,
+)
+
+-- what configures a report was read, and then its reporter took the calls of the other lines
+pub passed_followed : {W S : Type 0} {m : Meaning W} {n : Meaning S} (laws : WriterLaws m) (others : WriterLaws n)
+    (options : Options) (start : W × Option (Store S)) (now next : SceneReporter W S) (all : List RunLine)
+    (Left : ParsedLines → List RunLine → Type 0) (read : LinesRead)
+    (h : HasConfigured all (λ run lines. Left run lines × IsBegin run lines) read)
+    → IsSetFor options read.config now
+    → Follows m n options start now (record { config = read.config; events = [] })
+    → (Done : ParsedLines → List RunLine → Type 0) (result : Result (Unit {0}) Fault)
+    → PassesAll (takes m n) options.file.now Done read.next h.run h.lines now result next
+    → Followed m (store_meaning n) options all start (writers next) (λ run. Done run [])
+    (with_outcome next.outcome result)
+passed_followed {m = m} {n = n} laws others options start now next all Left read h set follows Done result passes =
+    let run_is : record { config = read.config; events = [] } ≡ h.run = rw (ap (λ b. b.config) h.before, ← h.none) refl
+    in
+    passed_behind laws others options start now next all h.run h.lines read.next h.at
+    (stays_behind h.run h.lines h.left.1)
+    (subst (λ (c : SceneConfig). IsSetFor options c now) (ap (λ b. b.config) h.before) set)
+    (subst (Follows m n options start now) run_is follows) Done result passes
 
 -- what holds of two writers holds of others that have what these have
 pub followed_so : {W T W' T' : Type 0} {m : Meaning W} {k : Meaning T} {m' : Meaning W'} {k' : Meaning T'}

@@ -1,13 +1,13 @@
 -- A run of all calls that stopped at one of them, and calls whose output was left unread (for `write_calls`,
--- `write_calls_and_records`, `report_by_calls`).
+-- `write_calls_and_records`, `judge`, `write_report`).
 use Rattle.std.proofs.Common.{◌≡◌, ◌⊎◌, ℕ, suc, ◌<◌, true, false, Bool, List, [], ◌∷◌, ◌++◌, Option, None, Some, length}
 use Rattle.std.proofs.Common.{take, drop, get_or, reverse, refl, sym, ap, ◌∙◌, subst, ap₂, append-nil}
-use Rattle.scenes.proofs.Common.{AllZip, Appends-nil, AreReadyCallsOf, AreWhole, Begins, buffer_meaning, BufferAccepts}
-use Rattle.scenes.proofs.Common.{common_steps, device, Prints, scene_lines, StandAtOneCall, TextBuffer, IsCallOf}
+use Rattle.scenes.proofs.Common.{AllZip, Appends-nil, AreWhole, Begins, buffer_meaning, BufferAccepts}
+use Rattle.scenes.proofs.Common.{common_steps, device, Prints, StandAtOneCall, TextBuffer, IsCallOf}
 use Rattle.scenes.proofs.Common.{position_or_len, configuration_for, decider_for, false≢true, Fault, fault_at_call}
-use Rattle.scenes.proofs.Common.{first_refused, HasAtLeast, HasAtMost, HasBeginning, HasFirstCalls, IsSceneRefused}
+use Rattle.scenes.proofs.Common.{first_refused, HasAtLeast, HasAtMost, HasBeginning, HasFirstCalls, Line, ParsedLines}
 use Rattle.scenes.proofs.Common.{is_some, Meaning, option_map, Options, OutOfMemory, OutputLoadDecider, Records}
-use Rattle.scenes.proofs.Common.{refusal_by, report, report_of, ReportCall, reverse-append, Scene, SceneConfig, Stops}
+use Rattle.scenes.proofs.Common.{refusal_by, report, report_of, ReportCall, reverse-append, SceneConfig, Stops}
 use Rattle.std.proofs.Common.{append_assoc, arith, ◌≤◌, inl, inr, if◌then◌else◌, get_or-take, length-take-le}
 use Rattle.std.proofs.Common.{take-append-drop, slice_get}
 use Rattle.std.proofs.Math.Seq.{drop-append_seam, drop-cons, take-append_seam}
@@ -20,11 +20,11 @@ use Rattle.console_reporter.specs.Names.{refusal_at, Configuration, configured_i
 use Rattle.{console_reporter.specs.declared.imp.builder.DisplayReporterBuilder.DisplayReporterBuilder}
 use Rattle.{writers.specs.declared.write_str.WriteFault.TheVariants.Device}
 use Rattle.reporter_state.specs.Names.{refusal_at_by, refusal_in, StoreConfig}
-use Rattle.scenes.specs.Names.{fault_of_first, builder_for, surroundings_of, AreBegun}
+use Rattle.scenes.specs.Names.{fault_of_first, builder_for, surroundings_of, AreBegun, AreReadyCallsOf, IsRunRefused}
 use Rattle.scenes.proofs.lemmas.Devices.{alone_begun, beginning_here, begun_here, stand_there}
 use Rattle.scenes.proofs.lemmas.Prints.{Begun, call_stopped, front_of_more, HasText, is_stop, IsNext, none_begun}
 use Rattle.scenes.proofs.lemmas.Prints.{stand_here}
-use Rattle.scenes.proofs.lemmas.Refusals.{all_judged, fails_behind, mapped_none}
+use Rattle.scenes.proofs.lemmas.Refusals.{fails_behind, refused_or}
 use Rattle.scenes.proofs.lemmas.{ReadyCalls.report_ready, ReadyCalls.stored_ready}
 
 -- the call at a place, between those before it and those behind
@@ -263,16 +263,28 @@ within_first p xs i is =
     let at : position_or_len p xs ≡ i = grind (arith, common_steps) in
     grind (arith, common_steps)
 
--- the calls of a scene as its reporter gets them, and the fault of the first that is refused
-module _ (options : Options) (scene : Scene) (calls : List ReportCall) where
+mapped_none : (n : ℕ) (o : Option WriteEventError) → option_map (fault_at_call n) o ≡ None → is_some o ≡ false
+mapped_none n None h = refl
+mapped_none n (Some e) h = absurd (cc)
+
+-- the calls of a run as its reporter gets them, and the fault of the first that is refused; its events have lines of
+-- these numbers
+module _ (options : Options) (run : ParsedLines) (lines : List ℕ) (calls : List ReportCall) where
   abbrev d : OutputLoadDecider
-  d = decider_for options scene.config
+  d = decider_for options run.config
 
   abbrev is_refused : ReportCall → Bool
   is_refused call = is_some (refusal_by d call)
 
+  -- that of the call at a place
+  abbrev fault_there : ℕ → Option Fault
+  fault_there i = option_map (fault_at_call (get_or lines i 0)) (refusal_at_by d calls i)
+
+  abbrev of_call : ℕ → Option ReportCall → Option Fault
+  of_call n call = option_map (fault_at_call n) (option_and_then (refusal_by d) call)
+
   -- where there is none, none is refused
-  pub accepted_of_none : fault_of_first d scene calls ≡ None → first_refused d calls ≡ None
+  pub accepted_of_none : fault_of_first d lines calls ≡ None → first_refused d calls ≡ None
   accepted_of_none none = by (first_refused d calls) refl
     where
       by : (o : Option ℕ) → first_refused d calls ≡ o → first_refused d calls ≡ None
@@ -281,71 +293,52 @@ module _ (options : Options) (scene : Scene) (calls : List ReportCall) where
         | inl h ↦
             let passes : is_refused h.0 ≡ true = sym (ap is_refused h.3)
             ∙ (position-Some is_refused calls i h.0 is).1 in
-            let fault : option_map (fault_at_call (get_or scene.lines.items i 0)) (refusal_by d h.0) ≡ None =
-            sym (ap
-            (λ o. option_map (fault_at_call (get_or scene.lines.items i 0))
-            (option_and_then (refusal_by d) o))
-            h.2)
-            ∙ sym (ap
-            (option_and_then
-            (λ k. option_map (fault_at_call (get_or scene.lines.items k 0)) (refusal_at_by d calls k)))
-            is)
-            ∙ none in
-            absurd
-            (false≢true (sym (mapped_none (get_or scene.lines.items i 0) (refusal_by d h.0) (sym fault)) ∙ passes))
+            let fault : of_call (get_or lines i 0) (Some h.0) ≡ None = sym (ap (of_call (get_or lines i 0)) h.2)
+            ∙ sym (ap (option_and_then fault_there) is) ∙ none in
+            absurd (false≢true (sym (mapped_none (get_or lines i 0) (refusal_by d h.0) fault) ∙ passes))
         | inr h ↦ let inside = within_first is_refused calls i is in absurd (omega (arith, h.0, inside))
       ]
 
-  -- where there is one, it is that of the scene
-  pub refused_of_some : AreReadyCallsOf options scene calls → (f : Fault) → fault_of_first d scene calls ≡ Some f
-      → IsSceneRefused options scene f
+  -- where there is one, it is that of the run
+  pub refused_of_some : AreReadyCallsOf options run calls → (f : Fault) → fault_of_first d lines calls ≡ Some f
+      → IsRunRefused options run lines f
   refused_of_some ready f some = by (first_refused d calls) refl
     where
-      by : (o : Option ℕ) → first_refused d calls ≡ o → IsSceneRefused options scene f
+      by : (o : Option ℕ) → first_refused d calls ≡ o → IsRunRefused options run lines f
       by None is =
-          let x : None ≡ Some f = sym (ap
-          (option_and_then
-          (λ k. option_map (fault_at_call (get_or scene.lines.items k 0)) (refusal_at_by d calls k)))
-          is)
-          ∙ some in
+          let x : None ≡ Some f = sym (ap (option_and_then fault_there) is) ∙ some in
           absurd (cc)
       by (Some i) is =
           let made = ready.made in
           let first : first_refused d made ≡ Some i = sym ready.isolated.5 ∙ is in
-          let says : option_map (fault_at_call (get_or scene.lines.items i 0)) (refusal_at_by d made i) ≡ Some f =
-          ap (option_map (fault_at_call (get_or scene.lines.items i 0))) (sym (ready.isolated.6 i))
-          ∙ sym (ap
-          (option_and_then
-          (λ k. option_map (fault_at_call (get_or scene.lines.items k 0)) (refusal_at_by d calls k)))
-          is)
-          ∙ some in
+          let says : of_call (get_or lines i 0) (slice_get made i) ≡ Some f =
+          ap (option_map (fault_at_call (get_or lines i 0))) (sym (ready.isolated.6 i))
+          ∙ sym (ap (option_and_then fault_there) is) ∙ some in
           elim ((slice_get_cases made i).1) [
             | inl h ↦
-                let size : length (take i made) ≡ i = length-take-le i made (omega (arith, h.1)) in
-                all_judged options scene (length scene.events.items) (omega arith) f (record {
-                  calls = made;
-                  of_first = subst (λ es. AllZip IsCallOf es made)
-                      (sym (take_all (length scene.events.items) scene.events.items (omega arith))) ready.of_scene;
-                  first = record {
-                    front = take i made;
-                    call = h.0;
-                    rest = drop (suc i) made;
-                    whole = around made i h.0 h.1 h.3;
-                    accepted = none_before is_refused made i h.0 first;
-                    says =
-                        sym says
-                        ∙ ap (λ o. option_map (fault_at_call (get_or scene.lines.items i 0))
-                        (option_and_then (refusal_by d) o)) h.2
-                        ∙ ap (λ k. option_map (fault_at_call (get_or scene.lines.items k 0)) (refusal_by d h.0))
-                        (sym size);
-                  };
-                })
-            | inr h ↦
-                let x : None ≡ Some f = sym (ap
-                (λ o. option_map (fault_at_call (get_or scene.lines.items i 0))
-                (option_and_then (refusal_by d) o))
-                h.1)
+                let said : of_call (get_or lines i 0) (Some h.0) ≡ Some f = sym (ap (of_call (get_or lines i 0)) h.2)
                 ∙ says in
+                let size : length (take i made) ≡ i = length-take-le i made (omega (arith, h.1)) in
+                elim (refused_or options run.config h.0) [
+                  | inl none ↦
+                      let x : None ≡ Some f = sym (ap (option_map (fault_at_call (get_or lines i 0))) none) ∙ said in
+                      absurd (cc)
+                  | inr (why, refuses) ↦
+                      let both : Some (Line (get_or lines i 0) why) ≡ Some f = sym (refuses (get_or lines i 0))
+                      ∙ said in
+                      let is_f : Line (get_or lines i 0) why ≡ f = cc in
+                      subst (IsRunRefused options run lines) is_f (record {
+                        front = take i made;
+                        call = h.0;
+                        rest = drop (suc i) made;
+                        of_run = subst (AllZip IsCallOf run.events) (around made i h.0 h.1 h.3) ready.of_run;
+                        accepted = none_before is_refused made i h.0 first;
+                        refused = refuses;
+                        number = ap (λ k. get_or lines k 0) (sym size);
+                      })
+                ]
+            | inr h ↦
+                let x : None ≡ Some f = sym (ap (of_call (get_or lines i 0)) h.1) ∙ says in
                 absurd (cc)
           ]
 
@@ -440,34 +433,33 @@ module _ (options : Options) (config : SceneConfig) (calls : List ReportCall)
         (both_stand stored_in c d none kept held order),
   )
 
--- the report of the calls of a scene is that of the scene
-module _ (options : Options) (scene : Scene) (calls : List ReportCall) (ready : AreReadyCallsOf options scene calls)
-    (accepted : first_refused (decider_for options scene.config) calls ≡ None)
-    (old new : Option (List ℕ) × Option (List ℕ)) where
-  made_accepted : first_refused (decider_for options scene.config) ready.made ≡ None
+-- the report of the calls of a run is that of the run
+module _ (options : Options) (run : ParsedLines) (calls : List ReportCall) (ready : AreReadyCallsOf options run calls)
+    (accepted : first_refused (decider_for options run.config) calls ≡ None) where
+  pub made_accepted : first_refused (decider_for options run.config) ready.made ≡ None
   made_accepted = sym ready.isolated.5 ∙ accepted
 
-  pub prints_scene : AreWhole device device options old new scene.config calls
-      → Prints device device options old new (scene_lines scene)
-  prints_scene h = record {
+  pub prints_run : (old new : Option (List ℕ) × Option (List ℕ))
+      → AreWhole device device options old new run.config calls → Prints device device options old new run
+  prints_run old new h = record {
     calls = ready.made;
-    of_run = ready.of_scene;
+    of_run = ready.of_run;
     accepted = made_accepted;
     holds = record {
       printed = subst (λ t. Appends old.0 new.0 t)
-          (ap (report_of options scene.config) ready.ready ∙ report_ready options scene.config ready.made) h.printed;
+          (ap (report_of options run.config) ready.ready ∙ report_ready options run.config ready.made) h.printed;
       kept = subst (λ t. Appends old.1 new.1 t)
-          (ap (stored_of options) ready.ready ∙ stored_ready options scene.config ready.made) h.kept;
+          (ap (stored_of options) ready.ready ∙ stored_ready options run.config ready.made) h.kept;
       delivered = (tt, tt);
     };
   }
 
-  pub begins_scene : (f : Fault) → AreBegun device device options old new scene.config f calls
-      → Begins device device options old new (scene_lines scene) f
-  begins_scene f h = record {
+  pub begins_run : (old new : Option (List ℕ) × Option (List ℕ)) (f : Fault)
+      → AreBegun device device options old new run.config f calls → Begins device device options old new run f
+  begins_run old new f h = record {
     calls = ready.made;
-    of_run = ready.of_scene;
+    of_run = ready.of_run;
     accepted = made_accepted;
-    holds = begun_made options scene.config ready.made old new f
-        (subst (AreBegun device device options old new scene.config f) ready.ready h);
+    holds = begun_made options run.config ready.made old new f
+        (subst (AreBegun device device options old new run.config f) ready.ready h);
   }

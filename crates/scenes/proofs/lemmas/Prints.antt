@@ -1,18 +1,18 @@
 -- What two writers have of a report that stopped, and of a longer one (for `SceneReporter::report_events`, `report_to`,
 -- `follow_to`).
 use Rattle.std.proofs.Common.{◌≡◌, ℕ, true, List, [], ◌∷◌, ◌++◌, reverse, refl, sym, ap, ◌∙◌, subst, append-nil}
-use Rattle.std.proofs.Common.{append_assoc, arith, length, ◌≤◌, ◌⊎◌, None, Result, Ok, Err, inl, inr}
-use Rattle.scenes.proofs.Common.{AllZip, AreWhole, Begins, configuration_for, decider_for, Failed, Fault, fault_at_call}
-use Rattle.scenes.proofs.Common.{first_refused, HasAtLeast, HasAtMost, HasBeginning, HasFirstCalls, Io, is_some}
-use Rattle.scenes.proofs.Common.{IsCallOf, Meaning, OfCalls, Options, OutOfMemory, OutputNotLoaded, ParsedLines, Prints}
-use Rattle.scenes.proofs.Common.{PrintsFollowed, Records, report, ReportCall, Reported, RetriedSuccess, reverse-append}
-use Rattle.scenes.proofs.Common.{RunOutcome, SceneConfig, SceneEvent, StandAtOneCall, Stops, store_for, stored}
-use Rattle.scenes.proofs.Common.{stored_text, StoreFailed, StoreIo, Text, text, WriteEventError, WriteFailed}
+use Rattle.std.proofs.Common.{append_assoc, arith, length, ◌≤◌, ◌⊎◌, None, inl, inr}
+use Rattle.scenes.proofs.Common.{Begins, Failed, fault_at_call}
+use Rattle.scenes.proofs.Common.{HasAtLeast, HasAtMost, HasBeginning, HasFirstCalls, Io, is_some}
+use Rattle.scenes.proofs.Common.{Meaning, OfCalls, Options, OutOfMemory, OutputNotLoaded, ParsedLines, Prints}
+use Rattle.scenes.proofs.Common.{PrintsFollowed, Records, report, ReportCall, RetriedSuccess, reverse-append}
+use Rattle.scenes.proofs.Common.{RunOutcome, SceneConfig, StandAtOneCall, Stops, store_for, stored}
+use Rattle.scenes.proofs.Common.{StoreFailed, StoreIo, Text, text, WriteEventError, WriteFailed}
 use Rattle.scenes.proofs.Common.{WriterLaws}
 use Rattle.writers.specs.declared.write_str.WriteFault.TheVariants.{Device, Memory as RefusedMemory}
 use Rattle.console_reporter.specs.Names.{HasFront, Side, error_for, Report}
 use Rattle.reporter_state.specs.{Refusals.refusal_in, declared.faults.WriteEventError.TheVariants.Memory}
-use Rattle.scenes.{specs.Prints.AreBegun, specs.Prints.IsStop, proofs.lemmas.Refusals.zip_both}
+use Rattle.scenes.{specs.Prints.AreBegun, specs.Prints.IsStop}
 
 -- of a text a beginning was accepted, as `HasBeginning` says it
 abbrev pub Begun : {S : Type 0} → Meaning S → Type 0 → S → Text → S → Type 0
@@ -104,22 +104,6 @@ module _ {S : Type 0} {m : Meaning S} (laws : WriterLaws m) (texts : List Report
       whole = ap (λ x. x ++ u) f.whole ∙ append_assoc f.front f.rest u;
       accepted = f.accepted;
     }))
-
-    longer_texts : (calls more : List ReportCall) (rest : Text) → texts (calls ++ more) ≡ texts calls ++ rest
-        → (a b : S)
-        → HasBeginning m texts OfOwn OfOther calls a b → HasBeginning m texts OfOwn OfOther (calls ++ more) a b
-    longer_texts calls more rest is a b h = record {
-      begun = subst (λ t. Begun m OfOwn a t b) (sym is) (begun_longer a b (texts calls) rest h.begun);
-      own = λ failed. subst (λ t. m.stops a t Device b) (sym is)
-          (laws.stops_within a b (texts calls) rest Device (h.own failed));
-      whole = λ other. let w = h.whole other in record {
-        first = w.first;
-        rest = w.rest ++ more;
-        is = ap (λ cs. cs ++ more) w.is ∙ append_assoc w.first w.rest more;
-        accepted = w.accepted;
-        delivered = w.delivered;
-      };
-    }
 
     -- It had the texts of the first of some calls, and of the text of the next it has this.
     module _ (calls : List ReportCall) (had more : Text) (is : IsNext texts calls had more) (a b c : S)
@@ -384,24 +368,6 @@ none_begun m k options config calls held nothing also delivered stored = (
   λ there. stand_first m k _ _ refl refl calls held nothing also delivered stored,
 )
 
--- the call is among more calls, too
-pub stand_longer : {W T : Type 0} {m : Meaning W} {k : Meaning T} {texts records : List ReportCall → Text}
-    (calls more : List ReportCall) {old new : W × T}
-    → StandAtOneCall m k texts records calls old new → StandAtOneCall m k texts records (calls ++ more) old new
-stand_longer calls more h = record {
-  before = h.before;
-  here = h.here;
-  rest = h.rest ++ more;
-  is = ap (λ cs. cs ++ more) h.is ∙ append_assoc h.before (h.here ++ h.rest) more
-      ∙ ap (λ cs. h.before ++ cs) (append_assoc h.here h.rest more);
-  one = h.one;
-  printed = h.printed;
-  no_more_printed = h.no_more_printed;
-  kept = h.kept;
-  no_more_kept = h.no_more_kept;
-  text_first = h.text_first;
-}
-
 -- and such an error stops a report
 pub is_stop : (options : Options) (n : ℕ) (e : WriteEventError) → refusal_in e ≡ None
     → (e ≡ StoreIo → is_some (store_for options) ≡ true) → IsStop options (fault_at_call n e)
@@ -439,43 +405,3 @@ module _ {W T : Type 0} {m : Meaning W} {k : Meaning T} (laws : WriterLaws m) (o
     whole_texts others _ _ _ calls _ _ h.kept memory_no_store (λ is. h.delivered.1),
     λ there. stand_past laws others calls _ _ _ _ h.printed h.delivered.0 h.kept h.delivered.1,
   ))
-
-  -- what stopped the report of a run stopped that of a longer one whose calls are all accepted
-  pub begins_longer : (config : SceneConfig) (es fs : List SceneEvent) (f : Fault) → Begins m k options old new
-      (record {
-        config = config;
-        events = es;
-      }) f → (more : List ReportCall) → AllZip IsCallOf fs more →
-      ((calls : List ReportCall) → AllZip IsCallOf (es ++ fs) calls → first_refused (decider_for options config) calls ≡
-      None) → Begins m k options old new (record {
-        config = config;
-        events = es ++ fs;
-      }) f
-  begins_longer config es fs f h more of_more accepted =
-      let of_all = zip_both es fs h.calls more h.of_run of_more in
-      let t = front_of_more (report (configuration_for options config)) (text (configuration_for options config))
-      (λ call past. refl) h.calls more in
-      let s = front_of_more (stored (store_for options)) (λ past. stored_text (store_for options))
-      (λ call past. refl) h.calls more in
-      record {
-        calls = h.calls ++ more;
-        of_run = of_all;
-        accepted = accepted (h.calls ++ more) of_all;
-        holds = (
-          h.holds.0,
-          longer_texts laws _ _ _ h.calls more t.rest t.is _ _ h.holds.1,
-          longer_texts others _ _ _
-              h.calls more s.rest s.is _ _ h.holds.2,
-          λ there. stand_longer h.calls more (h.holds.3 there),
-        );
-      }
-
--- how a report ends by two writers it ends by others that have what these have
-pub reported_so : {W T W' T' : Type 0} {m : Meaning W} {k : Meaning T} {m' : Meaning W'} {k' : Meaning T'}
-    {options : Options} {old new : W × T} {old' new' : W' × T'} (run : ParsedLines)
-    → ((calls : List
-    ReportCall) → AreWhole m k options old new run.config calls → AreWhole m' k' options old' new' run.config calls) →
-    ((f : Fault) → Begins m k options old new run f → Begins m' k' options old' new' run f) →
-    (r : Result (Unit {0}) Fault) → Reported m k options old new run r → Reported m' k' options old' new' run r
-reported_so run whole begun (Ok done) h = (calls_so whole h.0, tt)
-reported_so run whole begun (Err f) h = (tt, begun f h.1)

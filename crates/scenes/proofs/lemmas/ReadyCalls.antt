@@ -5,42 +5,24 @@ use Rattle.scenes.proofs.Common.{OutputLoadDecider, refusal_by, report_of, Repor
 use Rattle.std.proofs.Common.{rules, if◌then◌else◌, ◌≡◌, Bool, true, false, List, [], ◌∷◌, ◌++◌, reverse, refl, ap, ◌∙◌}
 use Rattle.std.proofs.Common.{inl, inr, sym, subst}
 use mathlib.Core.List.{reverse_aux}
-use Rattle.scenes.proofs.Common.{stored_of, TestEventKind, unloaded_for, unread, unread_call, AreCallsOf}
-use Rattle.scenes.proofs.Common.{AreReadyCallsOf, IsIsolated, Scene}
+use Rattle.scenes.proofs.Common.{stored_of, TestEventKind, unloaded_for, unread, unread_call, AllZip, IsCallOf}
+use Rattle.scenes.proofs.Common.{IsIsolated, ParsedLines}
 use Rattle.{console_reporter.proofs.lemmas.Isolation.isolated, reporter_state.specs.Unread.is_skipped}
 use Rattle.{run_model.specs.Unloaded.unloaded_kind}
-use Rattle.scenes.specs.Names.{outcome_after_event, run_outcome, ready_if}
+use Rattle.scenes.specs.Names.{AreReadyCallsOf, outcome_after_event, run_outcome, ready_if}
 use Rattle.run_model.specs.declared.event.TestEventKind.TheVariants as kind
 
-module _ (options : Options) (scene : Scene) where
-  -- nothing is left unread
-  pub ready_whole : (calls : List ReportCall) → options.unload_skipped ≡ false → AreCallsOf scene calls
-      → AreReadyCallsOf options scene calls
-  ready_whole calls off of_scene = record {
-    made = calls;
-    of_scene = of_scene;
-    ready = rw off refl;
-    isolated = (
-      λ config is. refl,
-      λ config is. refl,
-      λ config is. refl,
-      λ config is. refl,
-      λ accepted. accepted,
-      refl,
-      λ i. refl,
-    );
-  }
-
-  -- what is skipped is left unread
-  pub ready_unread : (made calls : List ReportCall) → options.unload_skipped ≡ true → AreCallsOf scene made
-      → calls ≡ unread (decider_for options scene.config) made → AreReadyCallsOf options scene calls
-  ready_unread made calls on of_scene left = record {
-    made = made;
-    of_scene = of_scene;
-    ready = left ∙ rw on refl;
-    isolated = subst (IsIsolated (decider_for options scene.config) made) (sym left)
-        (isolated (decider_for options scene.config) made);
-  }
+-- calls of a run of which what is skipped is left unread
+pub ready_unread : (options : Options) (run : ParsedLines) (made calls : List ReportCall)
+    → options.unload_skipped ≡ true → AllZip IsCallOf run.events made
+    → calls ≡ unread (decider_for options run.config) made → AreReadyCallsOf options run calls
+ready_unread options run made calls on of_run left = record {
+  made = made;
+  of_run = of_run;
+  ready = left ∙ rw on refl;
+  isolated = subst (IsIsolated (decider_for options run.config) made) (sym left)
+      (isolated (decider_for options run.config) made);
+}
 
 -- what a run has come to does not depend on output
 unloaded_outcome : (before : RunOutcome) (k : TestEventKind)

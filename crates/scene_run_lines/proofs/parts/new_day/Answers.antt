@@ -6,8 +6,8 @@ use Rattle.std.specs.{Bool.Decides, Int.is_in_range, Option.option_map, Result.r
 use mir.Syntax.{Width}
 use Rattle.jiff_core.specs.Calendar.{days_in_month, IsBetween, IsDate, IsYear}
 use Rattle.jiff_core.specs.{Date.IsYmd, declared.civil.date.Date.Date}
-use Rattle.scene_events.specs.Moments.{Day, day_of}
-use Rattle.scene_run_lines.specs.Parts.{checked_day, is_day}
+use Rattle.scene_fields.specs.Calls.{Day}
+use Rattle.scene_run_lines.specs.Parts.{checked_day, day_of, is_day}
 use Rattle.scene_run_lines.proofs.parts.new_day.Goals as goal
 
 -- of a month with this many days

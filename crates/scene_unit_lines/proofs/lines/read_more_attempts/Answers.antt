@@ -1,4 +1,4 @@
-use Rattle.std.proofs.Common.{◌≡◌, ℕ, suc, ◌-◌, ◌+◌, ◌/◌, ◌^◌, ◌<◌, true, false, Result, Ok, nat_lt, ap, refl, sym, ◌∙◌}
+use Rattle.std.proofs.Common.{◌≡◌, ℕ, suc, ◌-◌, ◌+◌, ◌/◌, ◌^◌, ◌<◌, true, false, Result, nat_lt, refl, sym, ◌∙◌}
 use Rattle.std.proofs.Common.{arith}
 use Rattle.std.proofs.lemmas.{Bool.Decides.nat_tests, Result.err_from_is_err_and}
 use Rattle.scene_fields.specs.Fields.{Line, Place, Fails, goes_on}
@@ -43,4 +43,5 @@ pub returns : goal.returns
 unfolding attempts_from
 returns c =
     let none : (c.len.result / 8 + 2) - c.loop-number.number ≡ 0 = omega (arith, c.loop-number-test.false) in
-    sym (rw none at c.loop-number.invariant) ∙ ap (λ a. Ok (a, c.loop-number.fields)) (sym c.in_ok-with_last.ensures)
+    rw (c.with_last.ensures.earlier, c.with_last.ensures.last, c.with_last.ensures.flaky)
+    (sym (rw none at c.loop-number.invariant))

@@ -1,5 +1,6 @@
-use Rattle.std.proofs.Common.{◌≡◌, None, ap, get_or, refl, rules}
+use Rattle.std.proofs.Common.{◌≡◌, ◌∙◌, None, ap, get_or, refl, rules}
 use Rattle.scenes.{proofs.Common.device, proofs.Common.OutOfMemory, specs.Prints.AreBegun}
+use Rattle.scenes.specs.Names.{configuration_for, lines_of}
 use Rattle.scenes.proofs.lemmas.PlainReports.{alone_stops, configured_so, untouched}
 use Rattle.scenes.proofs.lemmas.{Devices.alone_whole, Devices.whole_here, Prints.moved}
 use Rattle.scenes.proofs.plain.write_calls.Goals as goal
@@ -22,8 +23,9 @@ returns-in-Ok-ran-clause-ok g c =
     let last = c.run_report-ran.new.writer in
     let ends = c.run_report-ran.ensures in
     let ran = rw c.in-Ok-ran.is at ends in
-    let is = configured_so c.args.options.now c.args.scene.now.config None c.requires.no_store c.in-Ok.builder
-    c.in-Ok.ensures.ok in
+    let is = configured_so c.args.options.now c.config-config.result.now None c.requires.no_store c.in-Ok.builder
+    c.in-Ok.ensures.ok
+    ∙ ap (configuration_for c.args.options.now) c.config-config.ensures.config in
     let back : c.into_inner-writer.result.0 ≡ last.writer = search rules in
     λ held. rw (← out.0, back)
     (alone_whole c.args.options.now c.requires.no_store _ _ held c.args.scene.now.config c.args.calls.now
@@ -38,8 +40,10 @@ returns-clause-err g c =
     let stop = c.in-Err-ran.stop in
     let ends = c.run_report-ran.ensures in
     let ran = rw c.in-Err-ran.is at ends in
-    let number = get_or c.args.scene.now.lines.items stop.position 0 in
-    let is = configured_so options config None c.requires.no_store c.in-Ok.builder c.in-Ok.ensures.ok in
+    let number = get_or (lines_of c.args.scene.now) stop.position 0 in
+    let is = configured_so options c.config-config.result.now None c.requires.no_store c.in-Ok.builder
+    c.in-Ok.ensures.ok
+    ∙ ap (configuration_for options) c.config-config.ensures.config in
     let back : c.into_inner-writer.result.0 ≡ last.writer = search rules in
     λ held. rw (c.fault_of_stop.ensures, ← out.0, back)
     (alone_stops options config c.args.calls.now c.requires.accepted number stop.position stop.fault _ is ran.refused

@@ -1,5 +1,6 @@
-use Rattle.std.proofs.Common.{◌≡◌, Some, ap, get_or, refl, rules}
-use Rattle.scenes.{specs.Names.device, proofs.Common.is_some, proofs.Common.OutOfMemory, specs.Prints.AreBegun}
+use Rattle.std.proofs.Common.{◌≡◌, ◌∙◌, Some, ap, get_or, refl, rules}
+use Rattle.scenes.{proofs.Common.is_some, proofs.Common.OutOfMemory, specs.Prints.AreBegun}
+use Rattle.scenes.specs.Names.{configuration_for, device, lines_of}
 use Rattle.scenes.{proofs.lemmas.Devices.whole_here, proofs.lemmas.Prints.moved}
 use Rattle.scenes.proofs.lemmas.PlainReports.{both_stop, configured_so, untouched}
 use Rattle.scenes.proofs.plain.write_calls_and_records.Goals as goal
@@ -34,8 +35,9 @@ returns-in-Ok-ran-clause-ok g c =
     let store_last = c.run_report_with_store-ran.new.store_writer in
     let ends = c.run_report_with_store-ran.ensures in
     let ran = rw c.in-Ok-ran.is at ends in
-    let is = configured_so c.args.options.now c.args.scene.now.config (Some c.args.store) c.requires.store
-    c.in-Ok.builder c.in-Ok.ensures.ok in
+    let is = configured_so c.args.options.now c.config-config.result.now (Some c.args.store) c.requires.store
+    c.in-Ok.builder c.in-Ok.ensures.ok
+    ∙ ap (configuration_for c.args.options.now) c.config-config.ensures.config in
     let back : c.into_inner-writer-2.result.0 ≡ last.writer = search rules in
     let stored : c.into_inner-store_writer.result.0 ≡ store_last.writer = search rules in
     rw (← out.0, ← records.0, back, stored) (record {
@@ -56,8 +58,10 @@ returns-clause-err g c =
     let stop = c.in-Err-ran.stop in
     let ends = c.run_report_with_store-ran.ensures in
     let ran = rw c.in-Err-ran.is at ends in
-    let number = get_or c.args.scene.now.lines.items stop.position 0 in
-    let is = configured_so options config (Some c.args.store) c.requires.store c.in-Ok.builder c.in-Ok.ensures.ok in
+    let number = get_or (lines_of c.args.scene.now) stop.position 0 in
+    let is = configured_so options c.config-config.result.now (Some c.args.store) c.requires.store c.in-Ok.builder
+    c.in-Ok.ensures.ok
+    ∙ ap (configuration_for options) c.config-config.ensures.config in
     let back : c.into_inner-writer-2.result.0 ≡ last.writer = search rules in
     let stored : c.into_inner-store_writer.result.0 ≡ store_last.writer = search rules in
     rw (c.fault_of_stop.ensures, ← out.0, ← records.0, back, stored)

@@ -1,0 +1,30 @@
+use Rattle.std.proofs.Common.{◌≡◌, false, refl, sym, ap, ◌∙◌, Some}
+use Rattle.{scene_fields.proofs.lemmas.Utf8.utf8_passes, scene_fields.proofs.lemmas.Utf8.utf8_fails}
+use Rattle.scene_reader.specs.Names.{before_next, field_texts, is_passed_over, none_noted, split_on, with_stored}
+use Rattle.scene_reader.proofs.lemmas.Passes.{passed_over, read_bad, read_none, read_words, stopped}
+use Rattle.scene_reader.specs.SceneTexts.ParsedLine.{NoEvent}
+use Rattle.scene_reader.proofs.reader.LinesRead.pass_recorded_line.Goals as goal
+
+pub returns-then-is_passed_over : goal.returns-then-is_passed_over
+returns-then-is_passed_over g c =
+    let passed = sym c.is_passed_over.ensures ∙ c.if-is_passed_over.true in
+    passed_over _ _ _ _ _ NoEvent _ c.args.self.now _ _
+    (ap with_stored (read_none (Some none_noted) (before_next c.args.self.now) _ passed)) (refl, refl) refl refl
+    c.pass_over.ensures.before c.pass_over.ensures.next c.pass_over.ensures.err
+
+pub returns-in_default : goal.returns-in_default
+returns-in_default g c =
+    let some = sym c.is_passed_over.ensures ∙ c.if-is_passed_over.false in
+    let bad = utf8_fails _ c.in_default.ensures.cases.0 in
+    stopped _ _ _ _ _ _ _ _ c.fault.ensures
+    (ap with_stored (read_bad (Some none_noted) (before_next c.args.self.now) _ some bad))
+
+pub returns : goal.returns
+returns g c =
+    let line = c.args.line.now in
+    let some : is_passed_over line ≡ false = sym c.is_passed_over.ensures ∙ c.if-is_passed_over.false in
+    let good = utf8_passes line c.in-Ok.ensures.cases.1 in
+    let left = ap field_texts c.as_slice.ensures.value ∙ c.in_ok-split_fields.ensures
+    ∙ ap (split_on 9) c.in-Ok.ensures.cases.0 in
+    rw (read_words (Some none_noted) (before_next c.args.self.now) line _ some good left)
+    (rw c.recorded-fields.ensures at c.pass_fields.ensures)

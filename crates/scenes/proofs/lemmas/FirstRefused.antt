@@ -1,0 +1,227 @@
+-- The first call that is refused, of lines that a sink takes which takes no call behind it (for `gather`,
+-- `read_judged`).
+use Rattle.std.proofs.Common.{◌≡◌, ◌⊎◌, ℕ, ◌+◌, true, false, List, [], ◌∷◌, ◌++◌, Option, None, Some, Ok, Err, Result}
+use Rattle.std.proofs.Common.{length, refl, sym, ap, ◌∙◌, subst, append_assoc, append-nil, arith, inl, inr}
+use Rattle.{std.proofs.Math.Seq.get_or-append_seam, std.proofs.lemmas.Slice.Zip.AllZip-long}
+use Rattle.scenes.proofs.Common.{AllRead, AllZip, all_append, Fault, IsCallOf}
+use Rattle.scenes.proofs.Common.{length-append, Line, LineFault, line_value, lines_before, lines_with, nat_lt}
+use Rattle.scenes.proofs.Common.{nat_tests}
+use Rattle.scenes.proofs.Common.{no_lines, Options, OutOfMemory, ParsedLines, ReportCall, RunLine, SceneEvent}
+use Rattle.scenes.proofs.Common.{with_line}
+use Rattle.scene_reader.proofs.lemmas.Tellings.{all_told, noted_append}
+use Rattle.scene_reader.specs.Names.{call_by_names, event_lines, line_here, line_read, ParsedLine}
+use Rattle.scene_reader.specs.Names.{PlacedOutput, Takes}
+use Rattle.scene_reader.specs.SceneTexts.{ConfigLine, EventLine, NoEvent}
+use Rattle.scenes.specs.Judged.{AreRefusedLines, IsRunAccepted, IsRunRefused, Refuses}
+use Rattle.scenes.specs.Judged.{IsFirstRefused, RefusesEvent}
+use Rattle.scenes.specs.Read.{AllTaken, IsGiven}
+use Rattle.scenes.{proofs.Common.StaysConfigured, proofs.lemmas.Refusals.zip_both}
+
+pub not_less : (k : ℕ) → nat_lt k k ≡ false
+not_less k = grind (arith, nat_tests)
+
+-- a line adds its number to those of events where it says one
+one_noted : (n : ℕ) (before : ParsedLines) (value : ParsedLine)
+    → length (with_line before value).events
+    ≡ length before.events + length (line_here n before (with_line before value))
+one_noted n before NoEvent = rw (not_less (length before.events)) (omega arith)
+one_noted n before (ConfigLine c) = rw (not_less (length before.events)) (omega arith)
+one_noted n before (EventLine e) =
+    let more = length-append before.events (e ∷ []) in
+    let less : nat_lt (length before.events) (length (before.events ++ e ∷ [])) ≡ true = grind
+    (arith, nat_tests, more) in
+    rw less (omega (arith, more))
+
+-- the line of an event is noted
+event_noted : (n : ℕ) (before : ParsedLines) (line : RunLine) (e : SceneEvent)
+    → line_value (lines_before before) line ≡ Ok (EventLine e) → event_lines n before (line ∷ []) ≡ n ∷ []
+unfolding event_lines line_read
+event_noted n before line e says =
+    let more = length-append before.events (e ∷ []) in
+    let less : nat_lt (length before.events) (length (before.events ++ e ∷ [])) ≡ true = grind
+    (arith, nat_tests, more) in
+    rw (says, less) refl
+
+with_noted : (n : ℕ) (before mid : ParsedLines) (value : Result ParsedLine LineFault) → lines_with before value ≡ Ok mid
+    → length mid.events ≡ length before.events + length (line_here n before mid)
+with_noted n before mid (Ok value) is =
+    let same : with_line before value ≡ mid = cc in
+    subst (λ m. length m.events ≡ length before.events + length (line_here n before m)) same (one_noted n before value)
+with_noted n before mid (Err f) is = absurd (cc)
+
+-- lines note as many numbers as they say events
+pub read_noted : (n : ℕ) (before after : ParsedLines) (lines : List RunLine) → AllRead before lines after
+    → length after.events ≡ length before.events + length (event_lines n before lines)
+unfolding event_lines line_read
+read_noted n before after [] h = rw h (omega arith)
+read_noted n before after (line ∷ lines) h =
+    let one = with_noted n before h.0 (line_value (lines_before before) line) h.1 in
+    let more = read_noted (n + 1) h.0 after lines h.2 in
+    rw h.1 (omega
+    (arith, one, more, length-append (line_here n before h.0) (event_lines (n + 1) h.0 lines)))
+
+-- where these are all lines, its fault is that of the text
+pub refused_lines : (options : Options) (all : List RunLine) (run : ParsedLines) (fault : Fault)
+    → AllRead no_lines all run → IsFirstRefused options all run fault → AreRefusedLines options all fault
+refused_lines options all run fault read h = record {
+  run = run;
+  spelled = all_told 1 no_lines all run read;
+  refused = subst (IsRunRefused options run (event_lines 1 no_lines all)) (sym h.is) (record {
+    front = h.front;
+    call = h.call;
+    rest = h.rest;
+    of_run = h.of_run;
+    accepted = h.accepted;
+    refused = h.refused;
+    number = sym
+        (rw (h.numbers, ← h.place) (get_or-append_seam h.earlier h.number h.later 0));
+  });
+}
+
+module _ (options : Options) (done : List RunLine) (run : ParsedLines) (read : AllRead no_lines done run)
+    (line : RunLine) where
+  -- what is noted of one line more
+  abbrev next : ℕ
+  next = 1 + length done
+
+  noted : event_lines 1 no_lines (done ++ line ∷ []) ≡ event_lines 1 no_lines done ++ event_lines next run (line ∷ [])
+  noted = noted_append 1 next no_lines done run (line ∷ []) refl read
+
+  -- one line more that says no event
+  later_none : (fault : Fault) → IsFirstRefused options done run fault
+      → IsFirstRefused options (done ++ line ∷ []) run fault
+  later_none fault h = record {
+    front = h.front;
+    call = h.call;
+    rest = h.rest;
+    of_run = h.of_run;
+    accepted = h.accepted;
+    number = h.number;
+    f = h.f;
+    refused = h.refused;
+    is = h.is;
+    earlier = h.earlier;
+    later = h.later ++ event_lines next run (line ∷ []);
+    numbers = noted ∙ ap (λ ns. ns ++ event_lines next run (line ∷ [])) h.numbers
+        ∙ append_assoc h.earlier (h.number ∷ h.later) (event_lines next run (line ∷ []));
+    place = h.place;
+  }
+
+  module _ (e : SceneEvent) (call : ReportCall) (of_event : IsCallOf e call) where
+    -- or one that does
+    later_one : (fault : Fault) → IsFirstRefused options done run fault
+        → IsFirstRefused options (done ++ line ∷ []) (with_line run (EventLine e)) fault
+    later_one fault h = record {
+      front = h.front;
+      call = h.call;
+      rest = h.rest ++ call ∷ [];
+      of_run = subst (AllZip IsCallOf (run.events ++ e ∷ [])) (append_assoc h.front (h.call ∷ h.rest) (call ∷ []))
+          (zip_both run.events (e ∷ []) (h.front ++ h.call ∷ h.rest) (call ∷ []) h.of_run (of_event, tt));
+      accepted = h.accepted;
+      number = h.number;
+      f = h.f;
+      refused = h.refused;
+      is = h.is;
+      earlier = h.earlier;
+      later = h.later ++ event_lines next run (line ∷ []);
+      numbers = noted ∙ ap (λ ns. ns ++ event_lines next run (line ∷ [])) h.numbers
+          ∙ append_assoc h.earlier (h.number ∷ h.later) (event_lines next run (line ∷ []));
+      place = h.place;
+    }
+
+    -- which is the first that is refused
+    first_here : line_value (lines_before run) line ≡ Ok (EventLine e) → IsRunAccepted options run → (f : LineFault)
+        → Refuses options run.config call f
+        → IsFirstRefused options (done ++ line ∷ []) (with_line run (EventLine e)) (Line next f)
+    first_here says accepted f refused = record {
+      front = accepted.calls;
+      call = call;
+      rest = [];
+      of_run = zip_both run.events (e ∷ []) accepted.calls (call ∷ []) accepted.of_run (of_event, tt);
+      accepted = accepted.accepted;
+      number = next;
+      f = f;
+      refused = refused;
+      is = refl;
+      earlier = event_lines 1 no_lines done;
+      later = [];
+      numbers = noted ∙ ap (λ ns. event_lines 1 no_lines done ++ ns) (event_noted next run line e says);
+      place =
+          let many = AllZip-long IsCallOf run.events accepted.calls accepted.of_run in
+          let noted = read_noted 1 no_lines run done read in
+          omega (arith, many, noted);
+    }
+
+-- A sink that takes calls as long as none was refused, and then holds the fault of the line of the first that was.
+pub record IsJudge {K : Type 0} (takes : Takes K) (file : List ℕ) (refused : K → Option Fault) (options : Options)
+    (Good : ParsedLines → K → Type 0) : Type 0 where
+  pub accepts : (run : ParsedLines) (k : K) → Good run k → IsRunAccepted options run
+  pub takes_one : (n : ℕ) (run : ParsedLines) (k next : K) (stored : List PlacedOutput) (call : ReportCall)
+      → Good run k → refused k ≡ None → takes k file n stored call (Ok tt) next
+      → ((refused next ≡ None) × Good (with_line run (EventLine (call_by_names call))) next)
+      ⊎ ((f : LineFault) × (refused next ≡ Some (Line n f)) × RefusesEvent options run.config (call_by_names call) f)
+  pub stays : (n : ℕ) (k next : K) (stored : List PlacedOutput) (call : ReportCall) (fault : Fault)
+      → refused k ≡ Some fault → takes k file n stored call (Ok tt) next → refused next ≡ Some fault
+  pub stops : (n : ℕ) (run : ParsedLines) (k next : K) (stored : List PlacedOutput) (call : ReportCall) (fault : Fault)
+      → ((refused k ≡ None) × Good run k) ⊎ ((x : Fault) × (refused k ≡ Some x))
+      → takes k file n stored call (Err fault) next → fault ≡ OutOfMemory
+
+module _ {K : Type 0} {takes : Takes K} {file : List ℕ} {refused : K → Option Fault} {options : Options}
+    {Good : ParsedLines → K → Type 0} (judge : IsJudge takes file refused options Good) where
+  -- what it holds of these lines, which are this run
+  abbrev pub Judged : List RunLine → ParsedLines → K → Type 0
+  Judged lines run k = ((refused k ≡ None) × Good run k)
+      ⊎ ((fault : Fault) × (refused k ≡ Some fault) × IsFirstRefused options lines run fault)
+
+  judged_none : (done : List RunLine) (run : ParsedLines) → AllRead no_lines done run → (line : RunLine) (k next : K)
+      → next ≡ k → Judged done run k → Judged (done ++ line ∷ []) run next
+  judged_none done run read line k next same (inl good) = rw same (inl good)
+  judged_none done run read line k next same (inr (fault, is, first)) = rw same
+      (inr (fault, is, later_none options done run read line fault first))
+
+  judged_event : (done : List RunLine) (run : ParsedLines) → AllRead no_lines done run → (line : RunLine)
+      (e : SceneEvent) → line_value (lines_before run) line ≡ Ok (EventLine e) → (k next : K)
+      → IsGiven takes file (1 + length done) (EventLine e) k (Ok tt) next → Judged done run k
+      → Judged (done ++ line ∷ []) (with_line run (EventLine e)) next
+  judged_event done run read line e says k next (stored, (call, is, taken)) (inl (none, good)) = elim
+      (judge.takes_one (1 + length done) run k next stored call good none taken) [
+        | inl (still, goes_on) ↦ inl (still, subst (λ x. Good (with_line run (EventLine x)) next) is goes_on)
+        | inr (f, holds, refuses) ↦
+            inr (
+              Line (1 + length done) f,
+              holds,
+              first_here options done run read line e refuses.call (refuses.of_event ∙ is) says
+                  (judge.accepts run k good) f refuses.refused,
+            )
+      ]
+  judged_event done run read line e says k next (stored, (call, is, taken)) (inr (fault, holds, first)) = inr (
+    fault,
+    judge.stays (1 + length done) k next stored call fault holds taken,
+    later_one options done run read line e call is fault first,
+  )
+
+  judged_one : (done : List RunLine) (run : ParsedLines) → AllRead no_lines done run → (line : RunLine)
+      (value : ParsedLine) → line_value (lines_before run) line ≡ Ok value → (with_line run value).config ≡ run.config
+      → (k next : K) → IsGiven takes file (1 + length done) value k (Ok tt) next → Judged done run k
+      → Judged (done ++ line ∷ []) (with_line run value) next
+  judged_one done run read line NoEvent says kept k next given h = judged_none done run read line k next given.1.0 h
+  judged_one done run read line (ConfigLine c) says kept k next given h = rw kept
+      (judged_none done run read line k next given.1.0 h)
+  judged_one done run read line (EventLine e) says kept k next given h = judged_event done run read line e says k next
+      given h
+
+  -- lines behind others were taken
+  pub judged : (done lines : List RunLine) (run last : ParsedLines) (n : ℕ) (k after : K) → n ≡ 1 + length done
+      → AllRead no_lines done run → StaysConfigured run lines → AllTaken takes file n run k lines last after
+      → Judged done run k → Judged (done ++ lines) last after
+  unfolding line_read
+  judged done [] run last n k after place read stays taken h = rw (append-nil done, ← taken.0, ← taken.1) h
+  judged done (line ∷ lines) run last n k after place read stays taken h =
+      let kept = stays taken.0 taken.2 in
+      let one = judged_one done run read line taken.0 taken.2 kept.0 k taken.1
+      (subst (λ i. IsGiven takes file i taken.0 k (Ok tt) taken.1) place taken.3) h in
+      let here = all_append no_lines done run (line ∷ []) (with_line run taken.0) read
+      (with_line run taken.0, rw taken.2 refl, refl) in
+      subst (λ ls. Judged ls last after) (append_assoc done (line ∷ []) lines)
+      (judged (done ++ line ∷ []) lines (with_line run taken.0) last (n + 1) taken.1 after
+      (omega (arith, place, length-append done (line ∷ []))) here kept.1 taken.4 one)

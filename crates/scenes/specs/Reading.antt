@@ -1,0 +1,27 @@
+-- A `Reading`: what was read of a run, and the lines that are at hand.
+use Rattle.std.specs.Prelude.{◌≡◌, ℕ, List, [], Bool, true, false, None, Result, IfErr, OnOk}
+use Rattle.{command_line.specs.declared.fault.Fault.Fault, scenes.specs.declared.read.Reading.Reading}
+use Rattle.scene_reader.specs.Names.{before_next, lines_before, no_lines, ParsedLines, RunLine}
+use Rattle.scenes.specs.Read.{AreLeft, HasConfigured, IsBegin, left_at, StopsConfiguring}
+
+-- the texts of the lines at hand
+abbrev pub at_hand : Reading → List (List ℕ)
+at_hand r = left_at r.piece.items r.next
+
+-- nothing was read
+pub record IsNothingRead (r : Reading) : Type 0 where
+  pub before : before_next r.read ≡ lines_before no_lines
+  pub next : r.read.next ≡ 1
+  pub none : r.next ≡ None
+
+-- lines are at hand, if any is left; or none is, but for an empty one at the end
+abbrev pub IsFilled : (List (List ℕ) → List RunLine → Type 0) → List RunLine → Reading → Bool → Type 0
+IsFilled Left lines r true = Left (at_hand r) lines
+IsFilled Left lines r false = AreLeft lines [] × Left (at_hand r) lines × Left [] []
+
+-- what configures the report was read, and no event; or a fault stopped that
+pub record IsConfigured (file : List ℕ) (all : List RunLine)
+    (Left : List (List ℕ) → ParsedLines → List RunLine → Type 0) (result : Result (Unit {0}) Fault) (r : Reading) : Type
+    0 where
+  pub ok : OnOk result (HasConfigured all (λ run lines. Left (at_hand r) run lines × IsBegin run lines) r.read)
+  pub err : IfErr result (StopsConfiguring file all)
