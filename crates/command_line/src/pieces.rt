@@ -1,7 +1,7 @@
 //! Reads a file in pieces of whole lines, so that only one piece is in memory at a time.
 
 ghost use Rattle.std.specs.Prelude.{◌≡◌, ℕ, List, Some, IfOk, IfErr};
-ghost use Rattle.std.specs.{Io.Buffered.reader_buffer, Io.Buffered.reader_remaining, Option.ForSome};
+ghost use Rattle.std.specs.Io.Buffered.{reader_buffer, reader_remaining};
 ghost use Rattle.command_line.specs.Pieces.{IsBehind, IsFeed, IsNextPiece, IsUnread};
 
 use crate::fault::Fault;
@@ -10,7 +10,8 @@ use run_model::memory::OutOfMemory;
 use std::io::{BufRead, BufReader, ErrorKind, Read};
 
 /// Replaces `piece` by the next lines: all whole lines that the reader has buffered, or one line that is longer than
-/// its buffer. The last line feed is left out. It returns false at the end of the file.
+/// its buffer. The last line feed is left out. At the end of the file it returns false, and the piece is what follows
+/// the last line feed.
 ///
 /// # Errors
 ///
@@ -21,8 +22,8 @@ pub fn next_piece<'a, R: Read>(
     piece: &mut Vec<u8>,
 ) -> Result<bool, Fault<'a>>
     ensures piece { IfOk result
-        (λ has_line. (text : List ℕ) → reader_remaining R.remaining reader.old ≡ Some text
-        → IsNextPiece text has_line piece.new.items (reader_remaining R.remaining reader.new)) }
+        (λ is_ended. (text : List ℕ) → reader_remaining R.remaining reader.old ≡ Some text
+        → IsNextPiece text is_ended piece.new.items (reader_remaining R.remaining reader.new)) }
     ensures err { IfErr result (IsUnread file.now) }
 {
     piece.clear();
@@ -32,11 +33,11 @@ pub fn next_piece<'a, R: Read>(
             Err(error) if error.kind() == ErrorKind::Interrupted => continue,
             Err(error) => return Err(Fault::CannotRead { file }.by_kind(error.kind())),
         }
-        match take_at_hand(reader, piece)? {
+        match take_buffered(reader, piece)? {
             Chunk::Lines => return Ok(true),
             Chunk::Part => {}
             // The end of the file.
-            Chunk::Nothing => return Ok(!piece.is_empty()),
+            Chunk::Nothing => return Ok(false),
         }
     }
     Err(Fault::CannotRead { file })
@@ -54,7 +55,7 @@ enum Chunk {
 }
 
 // Takes the whole lines that the reader has buffered, or else its whole buffer.
-fn take_at_hand<R: Read>(
+fn take_buffered<R: Read>(
     reader: &mut BufReader<R>,
     piece: &mut Vec<u8>,
 ) -> Result<Chunk, OutOfMemory>
@@ -63,31 +64,31 @@ fn take_at_hand<R: Read>(
         → IsBehind taken (reader_buffer reader.old) text piece.old.items piece.new.items (reader_remaining
         R.remaining reader.new)) }
 {
-    let at_hand = reader.buffer();
-    match end_of_lines(!piece.is_empty(), at_hand) {
+    let buffered = reader.buffer();
+    match end_of_lines(!piece.is_empty(), buffered) {
         Some(at) => {
-            piece.extend_from_slice(&at_hand[..at])?;
+            piece.extend_from_slice(&buffered[..at])?;
             reader.consume(at + 1);
             Ok(Chunk::Lines)
         }
-        None if at_hand.is_empty() => Ok(Chunk::Nothing),
+        None if buffered.is_empty() => Ok(Chunk::Nothing),
         None => {
-            let count = at_hand.len();
-            piece.extend_from_slice(at_hand)?;
+            let count = buffered.len();
+            piece.extend_from_slice(buffered)?;
             reader.consume(count);
             Ok(Chunk::Part)
         }
     }
 }
 
-// The line feed that a piece ends before: the last one at hand, or the first if the piece is the beginning of a line. A
-// line that is longer than what is read at once is so a piece by itself.
-fn end_of_lines(is_begun: bool, at_hand: &[u8]) -> Option<usize>
-    ensures { ForSome result (IsFeed at_hand.now) }
+// The line feed that a piece ends before: the last buffered one, or the first if the piece is the beginning of a line.
+// A line that is longer than what is read at once is so a piece by itself.
+fn end_of_lines(is_begun: bool, buffered: &[u8]) -> Option<usize>
+    ensures { IsFeed buffered.now result }
 {
     if is_begun {
-        memchr(b'\n', at_hand)
+        memchr(b'\n', buffered)
     } else {
-        memrchr(b'\n', at_hand)
+        memrchr(b'\n', buffered)
     }
 }

@@ -1,5 +1,5 @@
 -- The state of a unit, in the lines of its response.
-use Rattle.std.specs.Prelude.{ℕ, Bool, false, Option, None, Some, [], ◌++◌, codes, nat_lt, if◌then◌else◌, refl}
+use Rattle.std.specs.Prelude.{ℕ, Bool, false, Option, None, Some, [], ◌++◌, codes, nat_le, if◌then◌else◌, refl}
 use Rattle.styled_text.specs.Names.{decimal, is_some, option_map, HasNoEscape, seconds, plain, Text}
 use Rattle.run_model.specs.{Names.terminate_reason_text, Names.NextestRunMode, Names.Nanos}
 use Rattle.run_model.specs.{declared.info.UnitTerminateMethod.TheVariants.Signal}
@@ -110,8 +110,8 @@ leak_note mode u pid waiting remaining =
 
 -- `leak_note`, from one second on
 unfoldable pub exiting_note : NextestRunMode → InfoUnit → ℕ → ℕ → ℕ → Fixed Lines
-exiting_note mode u pid waiting remaining = choice (nat_lt waiting 1000000000) none
-    (leak_note mode u pid waiting remaining)
+exiting_note mode u pid waiting remaining = choice (nat_le 1000000000 waiting)
+    (leak_note mode u pid waiting remaining) none
 
 -- a process that has ended, and whose handles are waited for
 unfoldable pub exiting_line : NextestRunMode → InfoUnit → Option ExecutionResultDescription → ℕ → Option Nanos

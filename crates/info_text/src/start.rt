@@ -9,7 +9,7 @@ use styled_text::text::{Number, Seconds, Toned};
 use text_parts::bar::BarLine;
 use text_parts::settings::Settings;
 use text_parts::stats_text::{Progress, failure_style};
-use writers::text::{Unless, WriteText};
+use writers::text::{When, WriteText};
 use writers::write_str::{WriteFault, WriteStr};
 
 /// Writes how many units are asked, which are those that run, with the counts of the run.
@@ -31,11 +31,16 @@ pub fn write_info_started<W: WriteStr>(
 {
     let styles = &settings.styles;
     let word = Toned(failure_style(styles, stats), "info");
+    let progress = Progress {
+        styles,
+        stats,
+        running: total,
+    };
     (
         BarLine(settings.theme_characters),
         word,
         ": ",
-        Progress(styles, stats, total),
+        progress,
         (" in ", Seconds(elapsed.0), "s\n"),
     )
         .write_to(w)
@@ -67,6 +72,6 @@ pub fn write_info_finished<W: WriteStr>(
         Number(styles.count, missing as u128),
         " responses\n",
     );
-    let note = Unless(missing == 0, note);
+    let note = When(missing != 0, note);
     (note, BarLine(settings.theme_characters)).write_to(w)
 }

@@ -17,7 +17,7 @@ use styled_text::text::{Number, Seconds, Toned};
 use text_parts::info_result::InfoResult;
 use text_parts::settings::Settings;
 use unit_report::formatters::DisplayUnitKind;
-use writers::text::{Decimal, Unless, WriteText};
+use writers::text::{Decimal, When, WriteText};
 use writers::write_str::{WriteFault, WriteStr};
 
 /// What the lines of a state need to know of its unit.
@@ -186,7 +186,7 @@ impl UnitStart<'_> {
             Seconds(remaining.0),
             "s\n",
         );
-        Unless(waited.0 < 1_000_000_000, note).write_to(w)
+        When(waited.0 >= 1_000_000_000, note).write_to(w)
     }
 
     // Why a process is terminated, and how.
@@ -250,7 +250,12 @@ impl UnitStart<'_> {
             (exited_text self.now.settings.now.mode self.now.unit outcome.now time_taken.0 slow_after))
             result w.new }
     {
-        let info = InfoResult(&self.settings.styles, slow_after.is_some(), outcome);
+        let is_slow = slow_after.is_some();
+        let info = InfoResult {
+            styles: &self.settings.styles,
+            is_slow,
+            outcome,
+        };
         (*self, info, TakenEnd(time_taken, slow_after)).write_to(w)
     }
 
@@ -267,7 +272,11 @@ impl UnitStart<'_> {
             result w.new }
     {
         let styles = &self.settings.styles;
-        let info = InfoResult(styles, was_slow, previous);
+        let info = InfoResult {
+            styles,
+            is_slow: was_slow,
+            outcome: previous,
+        };
         let waits = Toned(styles.count, "waiting");
         (*self, info, ", currently ", waits, " before next attempt\n").write_to(w)
     }
@@ -377,7 +386,12 @@ impl WriteText for TentativeInfo<'_> {
     fn write_to<W: WriteStr>(&self, w: &mut W) -> Result<(), WriteFault> {
         match self.outcome {
             None => (Toned(self.styles.fail, "failed"), " with unknown status").write_to(w),
-            Some(outcome) => InfoResult(self.styles, self.is_slow, outcome).write_to(w),
+            Some(outcome) => InfoResult {
+                styles: self.styles,
+                is_slow: self.is_slow,
+                outcome,
+            }
+            .write_to(w),
         }
     }
 }

@@ -1,7 +1,7 @@
 pub mod Captured
 pub mod Events
+pub mod Loads
 pub mod Names
-pub mod NextLines
 pub mod Outputs
 pub mod ReadAt
 pub mod Runs

@@ -2,13 +2,12 @@
 //!
 //! A recorded run is a scene in which a field of a captured stream may be a reference to its bytes in a second file.
 //! `read_at` is what those are read from, and `outputs` loads the bytes that a reference names, none but those.
-//! `events` asks the decider about an event, and puts the outputs that it needs into it. `lines` reads the next line of
-//! a run, and loads the outputs of its call before a sink takes it. `runs` is the run as a source of lines, which
-//! `scenes` follows as it follows a scene.
+//! `events` asks the decider about an event, and puts the outputs that it needs into it. `loading` does so before a
+//! sink takes the call of a line. `runs` is the run as a source of lines, which `scenes` follows as it follows a scene.
 #![tactic(auto)]
 
 mod events;
-mod lines;
+mod loading;
 mod outputs;
 mod read_at;
 mod runs;

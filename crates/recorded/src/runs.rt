@@ -6,9 +6,10 @@ ghost use Rattle.recorded.specs.Names.{counted, lines_inline, lines_replayed, ne
 ghost use Rattle.recorded.specs.Names.{ended_lines, line_replayed, scene_spelled};
 ghost use Rattle.scenes.specs.Names.{StopsBy, OfLines, OfText, Begins, Prints, PrintsFollowed, device};
 
-use super::lines::{Loading, next_line};
+use super::loading::Loading;
 use super::outputs::RecordedOutputs;
 use super::read_at::ReadAt;
+use command_line::pieces::next_piece;
 use run_model::memory::OutOfMemory;
 use scene_reader::reader::{CallSink, LinesRead};
 use scenes::args::Options;
@@ -140,8 +141,9 @@ impl<'o, R: Read, O: ReadAt + Drop> RunSource for RecordedRun<'o, R, O> {
       refl,
     ) };
 
+    // What follows the last line feed is no line.
     fn next_piece<'a>(&mut self, file: &'a str, piece: &mut Vec<u8>) -> Result<bool, Fault<'a>> {
-        next_line(file, &mut self.reader, piece)
+        next_piece(file, &mut self.reader, piece)
     }
 
     fn pass_line<'a, 't, K: CallSink>(

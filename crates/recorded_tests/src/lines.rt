@@ -189,53 +189,58 @@ fn loads_outputs(rt: HostRuntime) -> Result<(), Fail> {
     Ok(())
 }
 
+// References behind the end of the outputs, and to bytes with another sum.
+const PAST: &str = "\\@8:7:ee2a98c236301c76";
+
+const OTHER: &str = "\\@0:7:ee2a98c236301c76";
+
+// The form of an output and its two fields, which stream is damaged and how, and how many bytes are read.
+const DAMAGED: [(&str, &str, &str, StreamField, LoadFault, u64); 5] = [
+    (
+        "split",
+        PAST,
+        PASSED,
+        StreamField::First,
+        LoadFault::PastEnd,
+        0,
+    ),
+    (
+        "split",
+        PASSED,
+        PAST,
+        StreamField::Second,
+        LoadFault::PastEnd,
+        7,
+    ),
+    (
+        "split",
+        OTHER,
+        PAST,
+        StreamField::First,
+        LoadFault::WrongSum,
+        7,
+    ),
+    (
+        "split",
+        "-",
+        OTHER,
+        StreamField::Second,
+        LoadFault::WrongSum,
+        7,
+    ),
+    (
+        "comb",
+        OTHER,
+        "-",
+        StreamField::First,
+        LoadFault::WrongSum,
+        7,
+    ),
+];
+
 #[test]
 fn reports_which_stream_is_damaged(rt: HostRuntime) -> Result<(), Fail> {
-    let past = "\\@8:7:ee2a98c236301c76";
-    let other = "\\@0:7:ee2a98c236301c76";
-    let rows = [
-        (
-            "split",
-            past,
-            PASSED,
-            StreamField::First,
-            LoadFault::PastEnd,
-            0,
-        ),
-        (
-            "split",
-            PASSED,
-            past,
-            StreamField::Second,
-            LoadFault::PastEnd,
-            7,
-        ),
-        (
-            "split",
-            other,
-            past,
-            StreamField::First,
-            LoadFault::WrongSum,
-            7,
-        ),
-        (
-            "split",
-            "-",
-            other,
-            StreamField::Second,
-            LoadFault::WrongSum,
-            7,
-        ),
-        (
-            "comb",
-            other,
-            "-",
-            StreamField::First,
-            LoadFault::WrongSum,
-            7,
-        ),
-    ];
-    for (form, first, second, stream, fault, count) in rows {
+    for (form, first, second, stream, fault, count) in DAMAGED {
         let output = StoredOutput::read(form, first, second).ok_or("an output")?;
         let mut outputs = RecordedOutputs::new(Metered::new(OUTPUTS))?;
         let loaded = outputs.load_output(rt.alloc(), &output);

@@ -91,7 +91,7 @@ pub extern "C" fn norigully_report(
     };
     let length = report.len();
     let status = if length <= out.len() {
-        out[..length].copy_from_slice(report.as_slice());
+        out[..length].copy_from_slice(report.as_bytes());
         WRITTEN
     } else {
         TOO_LONG

@@ -1,7 +1,7 @@
 //! The report of a scene in memory, and the options of C as those of the program `report`.
 
-ghost use Rattle.std.specs.Prelude.{◌≡◌, ◌↔◌, [], IfSome, IfOk, IfErr, None, Some};
-ghost use Rattle.scenes.specs.Names.{OfText, Prints, device};
+ghost use Rattle.std.specs.Prelude.{◌≡◌, ◌↔◌, [], IfSome, IfOk, IfErr, None, Some, string_bytes};
+ghost use Rattle.scenes.specs.Names.{OfText, Prints, device, store_for};
 ghost use Rattle.report_c.specs.Reported.{AsksFor, IsUnreported, read_fault_of, level_numbered};
 
 use crate::NorigullyOptions;
@@ -9,9 +9,8 @@ use run_model::level::StatusLevel;
 use scene_fields::fault::ReadFault;
 use scenes::args::Options;
 use scenes::fault::Fault;
-use scenes::report::report_scene;
+use scenes::report::report_text;
 use std::alloc::Global;
-use std::io;
 
 /// The same options as those of the program `report`, with no file; None if there is no such status level.
 pub fn options_of(options: &NorigullyOptions) -> Option<Options<'static>>
@@ -55,20 +54,14 @@ fn read_level(number: u32) -> Option<StatusLevel>
 /// # Errors
 ///
 /// The first line that is wrong or whose event is refused, or `OutOfMemory`.
-pub fn report_of(alloc: Global, options: &Options<'_>, text: &[u8]) -> Result<Vec<u8>, ReadFault>
-    ensures report { IfOk result
-        (λ report. OfText text.now (Prints device device options.now (Some [], None) (Some report.items, None))) }
+pub fn report_of(alloc: Global, options: &Options<'_>, text: &[u8]) -> Result<String, ReadFault>
+    requires no_store { store_for options.now ≡ None }
+    ensures report { IfOk result (λ report. OfText text.now
+        (Prints device device options.now (Some [], None) (Some (string_bytes report), None))) }
     ensures fault { IfErr result (IsUnreported options.now text.now) }
 {
-    let (outcome, report, _unstored) = report_scene(
-        alloc,
-        options,
-        text,
-        Vec::new(alloc),
-        io::sink(),
-    );
-    match outcome {
-        Ok(()) => Ok(report),
+    match report_text(alloc, options, text) {
+        Ok(report) => Ok(report),
         Err(fault) => Err(read_fault_of(&fault)),
     }
 }

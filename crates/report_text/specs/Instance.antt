@@ -40,7 +40,7 @@ stress_prefix s (Some i) = plain (codes "[") ++ (stress_text s i ++ plain (codes
 unfoldable pub counter_text : DisplayCounterIndex → Text
 counter_text (Counter current total) =
     plain (codes "(")
-    ++ (styled style.Plain (right_in (length (decimal total)) (decimal current))
+    ++ (plain (right_in (length (decimal total)) (decimal current))
     ++ (plain (codes "/") ++ (plain (decimal total) ++ plain (codes ")"))))
 counter_text (Padded character width) =
     plain (codes "(")

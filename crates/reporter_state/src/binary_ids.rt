@@ -1,69 +1,16 @@
 //! The ids of the binaries whose tests are kept.
 
 ghost use Rattle.std.specs.Prelude.{◌≡◌, IfOk};
-ghost use Rattle.styled_text.specs.Names.{slice_cmp, nat_cmp};
 
+use run_model::boxed::Shared;
 use run_model::memory::OutOfMemory;
 use run_model::name::RustBinaryId;
 use std::alloc::Global;
-use std::cmp::Ordering;
-use std::marker::Model;
-use std::rc::Rc;
 
 // How many of the last ids are searched for one to share.
 const REMEMBERED: usize = 8;
 
-/// The id of a kept test's binary, which the kept tests of that binary share: a run has few binaries. Contracts see its
-/// text.
-#[derive(Drop)]
-pub struct KeptBinaryId {
-    shared: Rc<RustBinaryId>,
-}
-
-impl Model for KeptBinaryId {
-    ghost use Rattle.std.specs.Prelude.{List, ℕ};
-
-    ghost Value = { List ℕ };
-
-    ghost view = { λ kept. kept.shared.value };
-}
-
-impl KeptBinaryId {
-    // Copies the id.
-    fn copy_of(alloc: Global, id: &RustBinaryId) -> Result<KeptBinaryId, OutOfMemory>
-        ensures { IfOk result (λ kept. kept ≡ id.now) }
-    {
-        let id = RustBinaryId::new(alloc, id.as_str())?;
-        Ok(KeptBinaryId {
-            shared: Rc::new(alloc, id)?,
-        })
-    }
-
-    // Another owner of this id. It allocates nothing.
-    fn share(&self) -> Result<KeptBinaryId, OutOfMemory>
-        ensures { IfOk result (λ kept. kept ≡ self.now) }
-    {
-        Ok(KeptBinaryId {
-            shared: self.shared.clone()?,
-        })
-    }
-
-    /// The id.
-    pub fn get(&self) -> &RustBinaryId
-        ensures { result.now ≡ self.now }
-    {
-        &self.shared
-    }
-
-    /// Compares the bytes of the texts.
-    pub fn compare(&self, other: &KeptBinaryId) -> Ordering
-        ensures { result ≡ slice_cmp nat_cmp self.now other.now }
-    {
-        self.get().cmp(other.get())
-    }
-}
-
-/// The ids that were kept last, for the next tests of their binaries.
+/// The ids that were kept last, for the next tests of their binaries: a run has few binaries.
 ///
 /// ```
 /// let mut ids = KeptBinaryIds::new(alloc);
@@ -72,7 +19,7 @@ impl KeptBinaryId {
 /// ```
 #[derive(Drop)]
 pub struct KeptBinaryIds {
-    last: Vec<KeptBinaryId>,
+    last: Vec<Shared<RustBinaryId>>,
 }
 
 impl KeptBinaryIds {
@@ -88,19 +35,23 @@ impl KeptBinaryIds {
     /// # Errors
     ///
     /// Memory was refused.
-    pub fn keep(&mut self, alloc: Global, id: &RustBinaryId) -> Result<KeptBinaryId, OutOfMemory>
+    pub fn keep(
+        &mut self,
+        alloc: Global,
+        id: &RustBinaryId,
+    ) -> Result<Shared<RustBinaryId>, OutOfMemory>
         ensures { IfOk result (λ kept. kept ≡ id.now) }
     {
         for known in &self.last {
             if known.get() == id {
-                return known.share();
+                return Ok(known.try_clone()?);
             }
         }
-        let kept = KeptBinaryId::copy_of(alloc, id)?;
+        let kept = Shared::new(alloc, RustBinaryId::new(alloc, id.as_str())?)?;
         if self.last.len() == REMEMBERED {
             self.last.clear();
         }
-        self.last.push(kept.share()?)?;
+        self.last.push(kept.try_clone()?)?;
         Ok(kept)
     }
 }

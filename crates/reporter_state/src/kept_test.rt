@@ -3,10 +3,11 @@
 ghost use Rattle.std.specs.Prelude.{◌≡◌, IfOk};
 ghost use Rattle.reporter_state.specs.Names.{instance_key, kept_test, key_cmp};
 
-use crate::binary_ids::{KeptBinaryId, KeptBinaryIds};
+use crate::binary_ids::KeptBinaryIds;
 use report_text::helpers::DisplayCounterIndex;
+use run_model::boxed::Shared;
 use run_model::memory::OutOfMemory;
-use run_model::name::{TestCaseName, TestInstanceId};
+use run_model::name::{RustBinaryId, TestCaseName, TestInstanceId};
 use run_model::stress::StressIndex;
 use std::alloc::Global;
 use std::cmp::Ordering;
@@ -34,7 +35,7 @@ pub struct KeptTest {
 /// The names of a kept test. The id is shared by the tests of its binary.
 #[derive(Drop)]
 pub struct KeptInstance {
-    binary_id: KeptBinaryId,
+    binary_id: Shared<RustBinaryId>,
     test_name: TestCaseName,
 }
 
@@ -101,7 +102,8 @@ impl KeptInstance {
         ensures { result ≡ key_cmp (instance_key self.now) (instance_key other.now) }
     {
         self.binary_id
-            .compare(&other.binary_id)
+            .get()
+            .cmp(other.binary_id.get())
             .then_with(|| self.test_name.cmp(&other.test_name))
     }
 }

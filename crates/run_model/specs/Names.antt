@@ -6,8 +6,9 @@ unfoldable pub use Rattle.run_model.specs.Decoded.{decoded_text}
 pub use Rattle.run_model.specs.Events.{run_finished, run_started, test_attempt_failed_will_retry, test_finished}
 pub use Rattle.run_model.specs.Events.{test_skipped}
 pub use Rattle.run_model.specs.Infos.{has_valid_output, terminate_reason_text}
-pub use Rattle.run_model.specs.Outputs.{Part, combined_part, has_errors, has_loaded_output, is_loaded, stderr_part}
-pub use Rattle.run_model.specs.Outputs.{stdout_part, subslice_value}
+pub use Rattle.run_model.specs.Outputs.{Subslice, combined_slice, has_errors, has_loaded_output, is_loaded}
+pub use Rattle.run_model.specs.Outputs.{stderr_slice}
+pub use Rattle.run_model.specs.Outputs.{stdout_slice, subslice_value}
 pub use Rattle.run_model.specs.Recorded.{recorded_attempt, recorded_attempts, recorded_execution, recorded_kind}
 pub use Rattle.run_model.specs.Recorded.{recorded_member, recorded_output, recorded_script}
 pub use Rattle.run_model.specs.Stats.{final_stats_of, final_stats_of_run, has_failures, planned_stats, stress_stats_of}

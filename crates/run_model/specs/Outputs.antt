@@ -11,41 +11,41 @@ use Rattle.run_model.specs.declared.output.ChildOutputDescription.TheVariants as
 use Rattle.run_model.specs.declared.output.HighlightStream.TheVariants.{Stdout, Stderr, Combined}
 
 -- a part of some bytes: where it starts, and its own bytes
-pub record Part : Type 0 where
+pub record Subslice : Type 0 where
   pub start : ℕ
   pub bytes : List ℕ
 
 -- its start, and the bytes that it points to
-abbrev pub subslice_value : Option ByteSubslice → Option Part
+abbrev pub subslice_value : Option ByteSubslice → Option Subslice
 subslice_value o = option_map (λ (s : ByteSubslice). record { start = s.start; bytes = s.slice.now }) o
 
-abbrev pub highlighted_part : Highlight → Part
-highlighted_part h = record { start = h.start; bytes = h.slice }
+abbrev pub highlighted_slice : Highlight → Subslice
+highlighted_slice h = record { start = h.start; bytes = h.slice }
 
 -- the part, if the highlight is in the stream
-abbrev pub stdout_in : HighlightStream → Highlight → Option Part
-stdout_in Stdout h = Some (highlighted_part h)
+abbrev pub stdout_in : HighlightStream → Highlight → Option Subslice
+stdout_in Stdout h = Some (highlighted_slice h)
 stdout_in Stderr h = None
 stdout_in Combined h = None
 
-abbrev pub stderr_in : HighlightStream → Highlight → Option Part
+abbrev pub stderr_in : HighlightStream → Highlight → Option Subslice
 stderr_in Stdout h = None
-stderr_in Stderr h = Some (highlighted_part h)
+stderr_in Stderr h = Some (highlighted_slice h)
 stderr_in Combined h = None
 
-abbrev pub combined_in : HighlightStream → Highlight → Option Part
+abbrev pub combined_in : HighlightStream → Highlight → Option Subslice
 combined_in Stdout h = None
 combined_in Stderr h = None
-combined_in Combined h = Some (highlighted_part h)
+combined_in Combined h = Some (highlighted_slice h)
 
-abbrev pub stdout_part : Highlight → Option Part
-stdout_part h = stdout_in h.stream h
+abbrev pub stdout_slice : Highlight → Option Subslice
+stdout_slice h = stdout_in h.stream h
 
-abbrev pub stderr_part : Highlight → Option Part
-stderr_part h = stderr_in h.stream h
+abbrev pub stderr_slice : Highlight → Option Subslice
+stderr_slice h = stderr_in h.stream h
 
-abbrev pub combined_part : Highlight → Option Part
-combined_part h = combined_in h.stream h
+abbrev pub combined_slice : Highlight → Option Subslice
+combined_slice h = combined_in h.stream h
 
 -- there is a result, and it is no success
 abbrev pub is_known_failure : Option ExecutionResultDescription → Bool

@@ -5,6 +5,7 @@
 #![tactic(auto)]
 
 pub mod call;
+mod decode;
 pub mod event;
 pub mod info;
 mod load;

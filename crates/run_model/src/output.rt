@@ -4,13 +4,13 @@ ghost use Rattle.std.specs.Prelude.{◌≡◌, [], length, ◌==◌, is_ok, true
 ghost use Rattle.{std.specs.Cow.cow_str_bytes, std.specs.Cow.IsOwnedStr};
 ghost use Rattle.{std.specs.Str.encode_utf8_all, bstr.specs.Utf8.lossy_chars};
 ghost use Rattle.run_model.specs.Names.{execution_with_output, silent_execution, decoded_text};
-ghost use Rattle.run_model.specs.Names.{subslice_value, stdout_part, stderr_part, combined_part, has_errors};
+ghost use Rattle.run_model.specs.Names.{subslice_value, stdout_slice, stderr_slice, combined_slice, has_errors};
 ghost use Rattle.run_model.specs.Names.{has_loaded_output};
 ghost use Rattle.run_model.specs.Names.{is_loaded, recorded_execution, recorded_member, recorded_output};
 ghost use Rattle.run_model.specs.Names.{unloaded_output};
 
+use crate::decode::push_lossy;
 use crate::status::ExecutionResultDescription;
-use bstr::ByteSlice;
 use bytes::{ByteStr, Bytes};
 use run_names::abort::DescriptionText;
 use run_names::boxed::Boxed;
@@ -104,7 +104,7 @@ impl CapturedText {
         ensures { IfOk result (λ c. c ≡ bytes) }
     {
         let mut text = String::new(alloc);
-        bytes.as_slice().to_str_lossy_into(&mut text)?;
+        push_lossy(bytes.as_slice(), &mut text)?;
         // A copy: the block of a large line is up to four times as large.
         let bytes = Bytes::copy_from_slice(alloc, bytes.as_slice())?;
         Ok(CapturedText {
@@ -729,7 +729,7 @@ pub struct ByteSubslice<'a> {
 impl Highlight {
     /// The part, if it is in standard output.
     pub fn stdout_subslice(&self) -> Option<ByteSubslice<'_>>
-        ensures { subslice_value result ≡ stdout_part self.now }
+        ensures { subslice_value result ≡ stdout_slice self.now }
     {
         match self.stream {
             HighlightStream::Stdout => Some(self.subslice()),
@@ -739,7 +739,7 @@ impl Highlight {
 
     /// The part, if it is in standard error.
     pub fn stderr_subslice(&self) -> Option<ByteSubslice<'_>>
-        ensures { subslice_value result ≡ stderr_part self.now }
+        ensures { subslice_value result ≡ stderr_slice self.now }
     {
         match self.stream {
             HighlightStream::Stderr => Some(self.subslice()),
@@ -749,7 +749,7 @@ impl Highlight {
 
     /// The part, if it is in streams that were captured together.
     pub fn combined_subslice(&self) -> Option<ByteSubslice<'_>>
-        ensures { subslice_value result ≡ combined_part self.now }
+        ensures { subslice_value result ≡ combined_slice self.now }
     {
         match self.stream {
             HighlightStream::Combined => Some(self.subslice()),

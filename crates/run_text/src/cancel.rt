@@ -7,9 +7,9 @@ ghost use Rattle.{writers.specs.Writer.Puts, report_words.specs.Parts.paint};
 use crate::running::{Running, ShownRunning};
 use run_model::level::CancelReason;
 use styled_text::style::Styles;
-use styled_text::text::{Right, Toned};
+use styled_text::text::{Aligned, Painted, Toned};
 use text_parts::settings::Settings;
-use writers::text::{Unless, When, WriteText};
+use writers::text::{When, WriteText};
 use writers::write_str::{WriteFault, WriteStr};
 
 /// Writes that the run is about to be cancelled, why, and how many setup scripts or tests still run.
@@ -38,8 +38,12 @@ pub fn write_begin_cancel<W: WriteStr>(
         setup_scripts: setup_scripts_running,
         tests: running,
     };
-    let word = Right(12, settings.styles.fail, "Cancelling");
-    let still = StillRunning(settings, ends_at_once(reason), running);
+    let word = Painted(settings.styles.fail, Aligned(12, "Cancelling"));
+    let still = StillRunning {
+        settings,
+        is_terminating: ends_at_once(reason),
+        running,
+    };
     (word, Reason(&settings.styles, reason), still, "\n").write_to(w)
 }
 
@@ -64,8 +68,12 @@ pub fn write_begin_kill<W: WriteStr>(
         setup_scripts: setup_scripts_running,
         tests: running,
     };
-    let word = Right(12, settings.styles.fail, "Killing");
-    let still = StillRunning(settings, false, running);
+    let word = Painted(settings.styles.fail, Aligned(12, "Killing"));
+    let still = StillRunning {
+        settings,
+        is_terminating: false,
+        running,
+    };
     (word, Reason(&settings.styles, reason), still, "\n").write_to(w)
 }
 
@@ -95,24 +103,32 @@ impl WriteText for Reason<'_> {
     }
 }
 
-// How many still run, if any; the flag says that they are terminated.
+// How many still run, if any, and whether they are terminated.
 #[derive(Clone, Copy)]
-struct StillRunning<'a>(&'a Settings, bool, Running);
+struct StillRunning<'a> {
+    settings: &'a Settings,
+    is_terminating: bool,
+    running: Running,
+}
 
 impl WriteText for StillRunning<'_> {
-    ghost text = { λ s. paint s.0.now.styles (still_running s.0.now.mode s.1 s.2) };
+    ghost text = { λ s. paint s.settings.now.styles (still_running s.settings.now.mode s.is_terminating s.running) };
 
     #[tactic(auto, unfolding(crate::specs::Cancel::still_running, crate::specs::Cancel::terminating_at_once, crate::specs::Cancel::terminating_words))]
     fn write_to<W: WriteStr>(&self, w: &mut W) -> Result<(), WriteFault> {
-        let StillRunning(settings, is_terminating, running) = *self;
-        let styles = &settings.styles;
+        let styles = &self.settings.styles;
         let terminating = ("immediately ", Toned(styles.fail, "terminating"), " ");
+        let running = ShownRunning {
+            styles,
+            mode: self.settings.mode,
+            running: self.running,
+        };
         let still = (
             ": ",
-            When(is_terminating, terminating),
-            ShownRunning(styles, settings.mode, running),
+            When(self.is_terminating, terminating),
+            running,
             " still running",
         );
-        Unless(running.is_none(), still).write_to(w)
+        When(!self.running.is_none(), still).write_to(w)
     }
 }

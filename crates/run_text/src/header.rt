@@ -9,7 +9,7 @@ use jiff::civil::{Date, DateTime, Time};
 use run_model::replay::ReplayHeader;
 use styled_text::numbers::digit_str;
 use styled_text::style::Styles;
-use styled_text::text::{Right, Toned};
+use styled_text::text::{Aligned, Painted, Toned};
 use writers::text::WriteText;
 use writers::write_str::{WriteFault, WriteStr, write_strs};
 
@@ -33,11 +33,15 @@ pub fn write_replay_header<W: WriteStr>(
 ) -> Result<(), WriteFault>
     ensures { Puts W.meaning w.old (paint styles.now (replay_header_text header.now)) result w.new }
 {
-    let run_id = ShownRunId(styles, &header.unique_prefix, &header.run_id);
-    let replaying = Right(12, styles.pass, "Replaying");
+    let run_id = ShownRunId {
+        styles,
+        unique_prefix: &header.unique_prefix,
+        run_id: &header.run_id,
+    };
+    let replaying = Painted(styles.pass, Aligned(12, "Replaying"));
     let replaying = (replaying, " recorded run ", run_id, "\n");
     let started = (
-        Right(12, styles.pass, "Started"),
+        Painted(styles.pass, Aligned(12, "Started")),
         " ",
         StartedAt(header.started_at),
         "  status: ",

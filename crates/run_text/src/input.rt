@@ -5,7 +5,7 @@ ghost use Rattle.{writers.specs.Writer.Puts, report_words.specs.Parts.paint, run
 use run_model::stats::RunStats;
 use run_model::time::Nanos;
 use styled_text::style::Styles;
-use styled_text::text::{Number, Right};
+use styled_text::text::{Aligned, Number, Painted};
 use text_parts::stats_text::{Progress, failure_style};
 use unit_report::formatters::DisplayBracketedHhMmSs;
 use writers::text::WriteText;
@@ -38,11 +38,15 @@ pub fn write_input_enter<W: WriteStr>(
         ": ",
     );
     (
-        Right(12, failure_style(styles, stats), "Running"),
+        Painted(failure_style(styles, stats), Aligned(12, "Running")),
         " ",
         DisplayBracketedHhMmSs(elapsed),
         finished,
-        Progress(styles, stats, running),
+        Progress {
+            styles,
+            stats,
+            running,
+        },
         "\n",
     )
         .write_to(w)

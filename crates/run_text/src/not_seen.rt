@@ -8,9 +8,9 @@ use report_text::helpers::plural::tests_str;
 use run_model::name::OwnedTestInstanceId;
 use run_model::not_seen::NotSeen;
 use styled_text::style::Styles;
-use styled_text::text::{Number, Right};
+use styled_text::text::{Aligned, Number, Painted};
 use text_parts::settings::Settings;
-use writers::text::{Unless, WriteText};
+use writers::text::{When, WriteText};
 use writers::write_str::{WriteFault, WriteStr};
 
 /// Writes how many outstanding tests were not seen, if any, and those that are listed.
@@ -60,7 +60,7 @@ fn write_note<W: WriteStr>(
     }
     let (mode, styles) = (settings.mode, &settings.styles);
     let start = (
-        Right(12, styles.skip, "Note"),
+        Painted(styles.skip, Aligned(12, "Note")),
         " ",
         Number(styles.count, total as u128),
         " outstanding ",
@@ -78,7 +78,7 @@ fn write_note<W: WriteStr>(
     );
     start.write_to(w)?;
     write_listed(w, styles, listed)?;
-    Unless(remaining == 0, more).write_to(w)
+    When(remaining != 0, more).write_to(w)
 }
 
 fn write_listed<W: WriteStr>(

@@ -6,9 +6,9 @@ ghost use Rattle.styled_text.specs.Names.{Puts, styled, right_in};
 ghost use Rattle.report_words.specs.Parts.{paint};
 
 use crate::running::{Running, ShownRunning};
-use styled_text::text::{Right, Toned};
+use styled_text::text::{Aligned, Painted, Toned};
 use text_parts::settings::Settings;
-use writers::text::{Unless, WriteText};
+use writers::text::{When, WriteText};
 use writers::write_str::{WriteFault, WriteStr};
 
 /// Writes that the run is paused, and how many setup scripts or tests run.
@@ -70,12 +70,12 @@ fn write_pause<W: WriteStr>(
         tests: running,
     };
     let styles = &settings.styles;
-    let now = (
-        ": ",
-        ShownRunning(styles, settings.mode, running),
-        " running",
-    );
-    let now = Unless(running.is_none(), now);
+    let shown = ShownRunning {
+        styles,
+        mode: settings.mode,
+        running,
+    };
+    let now = When(!running.is_none(), (": ", shown, " running"));
     let cause = (" due to ", Toned(styles.count, "signal"), now, "\n");
-    (Right(12, styles.pass, word), cause).write_to(w)
+    (Painted(styles.pass, Aligned(12, word)), cause).write_to(w)
 }

@@ -13,22 +13,30 @@ use writers::write_str::{WriteFault, WriteStr};
 /// A run's id, with its unique prefix if that is known.
 ///
 /// ```
-/// ShownRunId(&styles, &None, &Uuid::from_u128(1)).write_to(&mut out)?;
+/// let run_id = Uuid::from_u128(1);
+/// ShownRunId { styles: &styles, unique_prefix: &None, run_id: &run_id }.write_to(&mut out)?;
 /// assert_eq!(out.as_str(), "00000000-0000-0000-0000-000000000001");
 /// ```
 #[derive(Clone, Copy)]
-pub struct ShownRunId<'a>(
-    pub &'a Styles,
-    pub &'a Option<ShortestRunIdPrefix>,
-    pub &'a Uuid,
-);
+pub struct ShownRunId<'a> {
+    /// The styles of its two parts.
+    pub styles: &'a Styles,
+    /// The prefix that no other run's id has, if it is known.
+    pub unique_prefix: &'a Option<ShortestRunIdPrefix>,
+    /// The id.
+    pub run_id: &'a Uuid,
+}
 
 impl WriteText for ShownRunId<'_> {
-    ghost text = { λ r. paint r.0.now (id_text r.1.now r.2.now) };
+    ghost text = { λ r. paint r.styles.now (id_text r.unique_prefix.now r.run_id.now) };
 
     #[tactic(auto, unfolding(crate::specs::RunId::id_text))]
     fn write_to<W: WriteStr>(&self, w: &mut W) -> Result<(), WriteFault> {
-        let ShownRunId(styles, unique_prefix, run_id) = *self;
+        let ShownRunId {
+            styles,
+            unique_prefix,
+            run_id,
+        } = *self;
         match unique_prefix {
             None => {
                 let mut buffer = Uuid::encode_buffer();

@@ -35,30 +35,34 @@ impl Running {
 ///
 /// ```
 /// let running = Running { setup_scripts: 0, tests: 3 };
-/// ShownRunning(&styles, NextestRunMode::Test, running).write_to(&mut out)?;
+/// ShownRunning { styles: &styles, mode: NextestRunMode::Test, running }.write_to(&mut out)?;
 /// assert_eq!(out.as_str(), "3 tests");
 /// ```
 #[derive(Clone, Copy)]
-pub struct ShownRunning<'a>(pub &'a Styles, pub NextestRunMode, pub Running);
+pub struct ShownRunning<'a> {
+    /// The styles of the numbers.
+    pub styles: &'a Styles,
+    /// Whether tests are benchmarks.
+    pub mode: NextestRunMode,
+    /// How many run.
+    pub running: Running,
+}
 
 impl WriteText for ShownRunning<'_> {
-    ghost text = { λ r. paint r.0.now (running_text r.1 r.2) };
+    ghost text = { λ r. paint r.styles.now (running_text r.mode r.running) };
 
     #[tactic(auto, unfolding(crate::specs::Running::running_text, crate::specs::Running::number_running))]
     fn write_to<W: WriteStr>(&self, w: &mut W) -> Result<(), WriteFault> {
-        let ShownRunning(
-            styles,
-            mode,
-            Running {
-                setup_scripts,
-                tests,
-            },
-        ) = *self;
+        let style = self.styles.count;
+        let Running {
+            setup_scripts,
+            tests,
+        } = self.running;
         if setup_scripts == 0 {
-            let number = Number(styles.count, tests as u128);
-            ((number, " "), tests_str(mode, tests)).write_to(w)
+            let number = Number(style, tests as u128);
+            ((number, " "), tests_str(self.mode, tests)).write_to(w)
         } else {
-            let number = Number(styles.count, setup_scripts as u128);
+            let number = Number(style, setup_scripts as u128);
             ((number, " "), setup_scripts_str(setup_scripts)).write_to(w)
         }
     }

@@ -14,13 +14,13 @@ use run_model::output::LiveSpec;
 use run_model::status::{ExecutionResultDescription, LeakTimeoutResult, SetupScriptExecuteStatus};
 use run_model::time::Nanos;
 use styled_text::style::{Style, Styles};
-use styled_text::text::{Painted, Right, RightJoined};
+use styled_text::text::{Aligned, Painted};
 use text_parts::attempt_output::write_setup_script_execute_status;
 use text_parts::result_words::spaced_short_status_str;
 use text_parts::script::{ScriptInstance, ShownScript};
 use text_parts::settings::Settings;
 use unit_report::formatters::{DisplayBracketedDuration, DisplaySlowDuration};
-use writers::text::{When, WriteText};
+use writers::text::{Decimal, When, WriteText};
 use writers::write_str::{WriteFault, WriteStr};
 
 /// Writes that a setup script has started. `index` is its index among all, from 0.
@@ -50,7 +50,7 @@ pub fn write_setup_script_started<W: WriteStr>(
         result w.new }
 {
     let counter = ScriptCounter(index, total);
-    let word = Right(12, styles.pass, "SETUP");
+    let word = Painted(styles.pass, Aligned(12, "SETUP"));
     (word, " ", counter, ShownScript(styles, &script), "\n").write_to(w)
 }
 
@@ -63,11 +63,8 @@ impl WriteText for ScriptCounter {
 
     #[tactic(auto, unfolding(crate::specs::SetupScript::script_counter))]
     fn write_to<W: WriteStr>(&self, w: &mut W) -> Result<(), WriteFault> {
-        let mut number = Buffer::new();
-        let mut count = Buffer::new();
-        let number = number.format(self.0 as u128 + 1);
-        let count = count.format(self.1);
-        ("[", RightJoined(9, "", number, "/", count), "] ").write_to(w)
+        let (number, count) = (Decimal(self.0 as u128 + 1), Decimal(self.1 as u128));
+        ("[", Aligned(9, (number, "/", count)), "] ").write_to(w)
     }
 }
 
@@ -125,9 +122,9 @@ impl WriteText for SlowScriptWord<'_> {
     #[tactic(auto, unfolding(crate::specs::SetupScript::slow_script_words))]
     fn write_to<W: WriteStr>(&self, w: &mut W) -> Result<(), WriteFault> {
         if self.1 {
-            self.0.fail.write_right(w, 12, "TERMINATING")
+            Painted(self.0.fail, Aligned(12, "TERMINATING")).write_to(w)
         } else {
-            self.0.skip.write_right(w, 12, "SETUP SLOW")
+            Painted(self.0.skip, Aligned(12, "SETUP SLOW")).write_to(w)
         }
     }
 }
@@ -175,7 +172,7 @@ impl WriteText for ScriptStatus<'_> {
         let mut signal = Buffer::new();
         let word = spaced_short_status_str(outcome, &mut signal);
         let style = script_status_style(styles, outcome);
-        Painted(style, RightJoined(12, "", "SETUP", word.front, word.back)).write_to(w)
+        Painted(style, Aligned(12, ("SETUP", word.front, word.back))).write_to(w)
     }
 }
 

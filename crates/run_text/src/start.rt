@@ -11,7 +11,7 @@ use run_model::event::TestCounts;
 use run_model::name::ProfileName;
 use run_model::run_id::ShortestRunIdPrefix;
 use styled_text::style::Styles;
-use styled_text::text::{Number, Right, Toned};
+use styled_text::text::{Aligned, Number, Painted, Toned};
 use text_parts::bar::BarLine;
 use text_parts::settings::Settings;
 use unit_report::formatters::write_skip_counts;
@@ -47,29 +47,45 @@ pub fn write_run_started<W: WriteStr>(
 {
     let (mode, styles) = (settings.mode, &settings.styles);
     let run_id = (
-        Right(12, styles.pass, "Nextest run"),
+        Painted(styles.pass, Aligned(12, "Nextest run")),
         " ID ",
-        ShownRunId(styles, unique_prefix, run_id),
+        ShownRunId {
+            styles,
+            unique_prefix,
+            run_id,
+        },
         " with nextest profile: ",
         Toned(styles.count, profile_name.as_str()),
         "\n",
     );
-    let counted = TestsAndBinaries(styles, mode, test_list);
-    let starting = Right(12, styles.pass, "Starting");
+    let counted = TestsAndBinaries {
+        styles,
+        mode,
+        counts: test_list,
+    };
+    let starting = Painted(styles.pass, Aligned(12, "Starting"));
     let starting = (starting, " ", counted, Skipped(settings, test_list), "\n");
     (BarLine(settings.theme_characters), run_id, starting).write_to(w)
 }
 
 // How many tests and binaries there are.
 #[derive(Clone, Copy)]
-struct TestsAndBinaries<'a>(&'a Styles, NextestRunMode, &'a TestCounts);
+struct TestsAndBinaries<'a> {
+    styles: &'a Styles,
+    mode: NextestRunMode,
+    counts: &'a TestCounts,
+}
 
 impl WriteText for TestsAndBinaries<'_> {
-    ghost text = { λ c. paint c.0.now (test_counts_text c.1 c.2.now) };
+    ghost text = { λ c. paint c.styles.now (test_counts_text c.mode c.counts.now) };
 
     #[tactic(auto, unfolding(crate::specs::Start::test_counts_text))]
     fn write_to<W: WriteStr>(&self, w: &mut W) -> Result<(), WriteFault> {
-        let TestsAndBinaries(styles, mode, counts) = *self;
+        let TestsAndBinaries {
+            styles,
+            mode,
+            counts,
+        } = *self;
         let binaries = Number(styles.count, counts.listed_binary_count as u128);
         (
             Number(styles.count, counts.run_count as u128),

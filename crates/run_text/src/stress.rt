@@ -14,7 +14,7 @@ use run_model::stress::{StressCount, StressProgress, StressRemaining};
 use run_model::time::Nanos;
 use std::num::NonZeroU32;
 use styled_text::style::Styles;
-use styled_text::text::{Number, Painted, Right};
+use styled_text::text::{Aligned, Number, Painted};
 use text_parts::bar::BarLine;
 use text_parts::settings::Settings;
 use unit_report::formatters::DisplayBracketedDuration;
@@ -46,14 +46,22 @@ pub fn write_stress_sub_run_started<W: WriteStr>(
     let styles = &settings.styles;
     let elapsed = (
         " (",
-        Clock(styles, progress.elapsed(), DurationRounding::Floor),
+        Clock {
+            styles,
+            duration: progress.elapsed(),
+            rounding: DurationRounding::Floor,
+        },
         OfTime(styles, progress),
         " elapsed so far",
     );
     let line = (
-        Right(12, styles.pass, "Stress test"),
+        Painted(styles.pass, Aligned(12, "Stress test")),
         " ",
-        Iteration(styles, progress, progress.completed() as u128 + 1),
+        Iteration {
+            styles,
+            progress,
+            number: progress.completed() as u128 + 1,
+        },
         elapsed,
         Remaining(styles, progress.remaining()),
         ")\n",
@@ -63,14 +71,22 @@ pub fn write_stress_sub_run_started<W: WriteStr>(
 
 // The number of an iteration, and the planned number if that is known.
 #[derive(Clone, Copy)]
-struct Iteration<'a>(&'a Styles, &'a StressProgress, u128);
+struct Iteration<'a> {
+    styles: &'a Styles,
+    progress: &'a StressProgress,
+    number: u128,
+}
 
 impl WriteText for Iteration<'_> {
-    ghost text = { λ i. paint i.0.now (iteration_text i.1.now i.2) };
+    ghost text = { λ i. paint i.styles.now (iteration_text i.progress.now i.number) };
 
     #[tactic(auto, unfolding(crate::specs::Stress::iteration_text))]
     fn write_to<W: WriteStr>(&self, w: &mut W) -> Result<(), WriteFault> {
-        let Iteration(styles, progress, number) = *self;
+        let Iteration {
+            styles,
+            progress,
+            number,
+        } = *self;
         (
             "iteration ",
             Number(styles.count, number),
@@ -114,7 +130,12 @@ impl WriteText for OfTime<'_> {
     fn write_to<W: WriteStr>(&self, w: &mut W) -> Result<(), WriteFault> {
         match self.1 {
             StressProgress::Time { total, .. } => {
-                ("/", Clock(self.0, *total, DurationRounding::Floor)).write_to(w)
+                let clock = Clock {
+                    styles: self.0,
+                    duration: *total,
+                    rounding: DurationRounding::Floor,
+                };
+                ("/", clock).write_to(w)
             }
             StressProgress::Count { .. } => Ok(()),
         }
@@ -123,13 +144,21 @@ impl WriteText for OfTime<'_> {
 
 // Hours, minutes and seconds as a number.
 #[derive(Clone, Copy)]
-struct Clock<'a>(&'a Styles, Nanos, DurationRounding);
+struct Clock<'a> {
+    styles: &'a Styles,
+    duration: Nanos,
+    rounding: DurationRounding,
+}
 
 impl WriteText for Clock<'_> {
-    ghost text = { λ c. styled c.0.now.count (clock_text (whole_seconds c.2 c.1.0)) };
+    ghost text = { λ c. styled c.styles.now.count (clock_text (whole_seconds c.rounding c.duration.0)) };
 
     fn write_to<W: WriteStr>(&self, w: &mut W) -> Result<(), WriteFault> {
-        let Clock(styles, duration, rounding) = *self;
+        let Clock {
+            styles,
+            duration,
+            rounding,
+        } = *self;
         Painted(styles.count, FormattedHhMmSs { duration, rounding }).write_to(w)
     }
 }
@@ -149,7 +178,11 @@ impl WriteText for Remaining<'_> {
             None | Some(StressRemaining::Infinite) => Ok(()),
             Some(StressRemaining::Count(count)) => write_count_left(w, styles, count),
             Some(StressRemaining::Time(time)) => {
-                let clock = Clock(styles, time, DurationRounding::Ceiling);
+                let clock = Clock {
+                    styles,
+                    duration: time,
+                    rounding: DurationRounding::Ceiling,
+                };
                 (", ", clock, " remaining").write_to(w)
             }
         }
@@ -190,12 +223,20 @@ pub fn write_stress_sub_run_finished<W: WriteStr>(
     let mode = settings.mode;
     let style = outcome_style(styles, sub_stats.summarize_final());
     (
-        Right(12, style, "Stress test"),
+        Painted(style, Aligned(12, "Stress test")),
         " ",
         DisplayBracketedDuration(sub_elapsed),
-        Iteration(styles, progress, progress.completed() as u128),
+        Iteration {
+            styles,
+            progress,
+            number: progress.completed() as u128,
+        },
         ": ",
-        RunCounts(styles, mode, sub_stats),
+        RunCounts {
+            styles,
+            mode,
+            stats: sub_stats,
+        },
     )
         .write_to(w)
 }

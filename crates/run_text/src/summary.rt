@@ -3,21 +3,23 @@
 ghost use Rattle.std.specs.Prelude.{◌≡◌};
 ghost use Rattle.{writers.specs.Writer.Puts, report_words.specs.Parts.paint, report_words.specs.Parts.style_of};
 ghost use Rattle.run_text.specs.Summary.{cancelled_due_to, last_number, of_total, outcome_tone, run_counts_text};
-ghost use Rattle.run_text.specs.Summary.{run_finished_text, stress_outcome_tone, summary_tone};
+ghost use Rattle.run_text.specs.Summary.{run_finished_text, stress_counts_text, stress_outcome_tone, summary_tone};
 
 use report_text::helpers::plural::{iterations_str, tests_plural_if};
 use run_model::config::NextestRunMode;
-use run_model::stats::{FinalRunStats, RunFinishedStats, RunStats, StressFinalRunStats};
+use run_model::stats::{
+    FinalRunStats, RunFinishedStats, RunStats, StressFinalRunStats, StressRunStats,
+};
 use run_model::stress::StressIndex;
 use run_model::time::Nanos;
 use std::num::NonZeroU32;
 use styled_text::style::{Style, Styles};
-use styled_text::text::{Number, Right, Toned};
+use styled_text::text::{Aligned, Number, Painted, Toned};
 use text_parts::bar::BarLine;
 use text_parts::settings::Settings;
 use text_parts::stats_text::{Counted, Counts};
 use unit_report::formatters::DisplayBracketedDuration;
-use writers::text::{Unless, WriteText};
+use writers::text::{When, WriteText};
 use writers::write_str::{WriteFault, WriteStr};
 
 /// Writes the end of a run before its entries: how long it took and its counts.
@@ -25,7 +27,7 @@ use writers::write_str::{WriteFault, WriteStr};
 /// # Errors
 ///
 /// The writer's fault. It has accepted a prefix of the text.
-#[tactic(auto, unfolding(crate::specs::Summary::run_finished_text, crate::specs::Summary::summary_line, crate::specs::Summary::stress_counts_text, crate::specs::Summary::iterations_run_text, crate::specs::Summary::failed_iterations))]
+#[tactic(auto, unfolding(crate::specs::Summary::run_finished_text, crate::specs::Summary::summary_line))]
 pub fn write_run_finished<W: WriteStr>(
     w: &mut W,
     settings: &Settings,
@@ -39,56 +41,79 @@ pub fn write_run_finished<W: WriteStr>(
 {
     let styles = &settings.styles;
     let bar = BarLine(settings.theme_characters);
-    let word = Right(12, summary_style(styles, run_stats), "Summary");
+    let word = Painted(summary_style(styles, run_stats), Aligned(12, "Summary"));
     let duration = DisplayBracketedDuration(elapsed);
     match run_stats {
         RunFinishedStats::Single(stats) => {
-            let mode = settings.mode;
-            (bar, word, " ", duration, RunCounts(styles, mode, stats)).write_to(w)
-        }
-        RunFinishedStats::Stress(stats) => {
-            let run = (
-                Number(styles.count, stats.completed.current as u128),
-                OfTotal(styles, stats.completed.total),
-                " stress run ",
-                iterations_str(last_number(&stats.completed)),
-                ": ",
-            );
-            let passed = Counted(styles, styles.pass, stats.success_count as usize, "passed");
-            let failed = Counted(styles, styles.fail, stats.failed_count as usize, "failed");
-            let failed = Unless(stats.failed_count == 0, (", ", failed));
-            let counts = (
-                run,
-                passed,
-                failed,
-                CancelledDueTo(styles, stats.last_final_stats),
-                "\n",
-            );
+            let counts = RunCounts {
+                styles,
+                mode: settings.mode,
+                stats,
+            };
             (bar, word, " ", duration, counts).write_to(w)
         }
+        RunFinishedStats::Stress(stats) => {
+            (bar, word, " ", duration, StressCounts(styles, stats)).write_to(w)
+        }
+    }
+}
+
+// The iterations of a stress run, and how they ended.
+#[derive(Clone, Copy)]
+struct StressCounts<'a>(&'a Styles, &'a StressRunStats);
+
+impl WriteText for StressCounts<'_> {
+    ghost text = { λ c. paint c.0.now (stress_counts_text c.1.now) };
+
+    #[tactic(auto, unfolding(crate::specs::Summary::stress_counts_text, crate::specs::Summary::iterations_run_text, crate::specs::Summary::failed_iterations))]
+    fn write_to<W: WriteStr>(&self, w: &mut W) -> Result<(), WriteFault> {
+        let StressCounts(styles, stats) = *self;
+        let run = (
+            Number(styles.count, stats.completed.current as u128),
+            OfTotal(styles, stats.completed.total),
+            " stress run ",
+            iterations_str(last_number(&stats.completed)),
+            ": ",
+        );
+        let passed = Counted::new(styles, styles.pass, stats.success_count as usize, "passed");
+        let failed = Counted::new(styles, styles.fail, stats.failed_count as usize, "failed");
+        let failed = When(stats.failed_count != 0, (", ", failed));
+        let cancelled = CancelledDueTo(styles, stats.last_final_stats);
+        (run, passed, failed, cancelled, "\n").write_to(w)
     }
 }
 
 /// How many tests ran, and the counts.
 ///
 /// ```
-/// RunCounts(&styles, NextestRunMode::Test, &stats).write_to(&mut out)?;
+/// RunCounts { styles: &styles, mode: NextestRunMode::Test, stats: &stats }.write_to(&mut out)?;
 /// assert_eq!(out.as_str(), "1 test run: 1 passed, 0 skipped\n");
 /// ```
 #[derive(Clone, Copy)]
-pub struct RunCounts<'a>(pub &'a Styles, pub NextestRunMode, pub &'a RunStats);
+pub struct RunCounts<'a> {
+    /// The styles of the counts.
+    pub styles: &'a Styles,
+    /// Whether tests are benchmarks.
+    pub mode: NextestRunMode,
+    /// The counts.
+    pub stats: &'a RunStats,
+}
 
 impl WriteText for RunCounts<'_> {
-    ghost text = { λ c. paint c.0.now (run_counts_text c.1 c.2.now) };
+    ghost text = { λ c. paint c.styles.now (run_counts_text c.mode c.stats.now) };
 
     #[tactic(auto, unfolding(crate::specs::Summary::run_counts_text, crate::specs::Summary::initial_count_text))]
     fn write_to<W: WriteStr>(&self, w: &mut W) -> Result<(), WriteFault> {
-        let RunCounts(styles, mode, stats) = *self;
+        let RunCounts {
+            styles,
+            mode,
+            stats,
+        } = *self;
         let is_plural = !(stats.finished_count == 1 && stats.initial_run_count == 1);
         let initial = ("/", Number(styles.count, stats.initial_run_count as u128));
         (
             Number(styles.count, stats.finished_count as u128),
-            Unless(stats.finished_count == stats.initial_run_count, initial),
+            When(stats.finished_count != stats.initial_run_count, initial),
             " ",
             tests_plural_if(mode, is_plural),
             " run: ",

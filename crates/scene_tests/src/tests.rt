@@ -335,58 +335,73 @@ const fn keeping(
     })
 }
 
+// Every option that stands alone, and a level.
+const ALL: Options<'static> = Options {
+    show_counter: true,
+    is_replay: true,
+    unload_skipped: true,
+    status_level: StatusLevel::Skip,
+    ..IN_COLOUR
+};
+
+// The words of a command line, and the options that they are.
+const WORDS: [(&[&str], Options<'static>); 7] = [
+    (&["FILE"], OPTIONS),
+    (&["--color", "FILE"], IN_COLOUR),
+    (
+        &["--color", "--color"],
+        Options {
+            file: "--color",
+            ..IN_COLOUR
+        },
+    ),
+    (
+        &[
+            "--level",
+            "skip",
+            "--color",
+            "--counter",
+            "--replay",
+            "--unload",
+            "FILE",
+        ],
+        ALL,
+    ),
+    (
+        &[
+            "--unload",
+            "--replay",
+            "--counter",
+            "--color",
+            "--level",
+            "skip",
+            "FILE",
+        ],
+        ALL,
+    ),
+    (
+        &["--level", "none", "--level"],
+        Options {
+            status_level: StatusLevel::None,
+            file: "--level",
+            ..OPTIONS
+        },
+    ),
+    (&["--store", "out", "FILE"], STORING),
+];
+
 #[test]
 fn takes_options_in_any_order(rt: HostRuntime) -> Result<(), Fail> {
-    let all = Options {
-        show_counter: true,
-        is_replay: true,
-        unload_skipped: true,
-        status_level: StatusLevel::Skip,
-        ..IN_COLOUR
-    };
-    let lines: [(&[&str], Options<'static>); 10] = [
-        (&["FILE"], OPTIONS),
-        (&["--color", "FILE"], IN_COLOUR),
-        (
-            &["--color", "--color"],
-            Options {
-                file: "--color",
-                ..IN_COLOUR
-            },
-        ),
-        (
-            &[
-                "--level",
-                "skip",
-                "--color",
-                "--counter",
-                "--replay",
-                "--unload",
-                "FILE",
-            ],
-            all,
-        ),
-        (
-            &[
-                "--unload",
-                "--replay",
-                "--counter",
-                "--color",
-                "--level",
-                "skip",
-                "FILE",
-            ],
-            all,
-        ),
-        (
-            &["--level", "none", "--level"],
-            Options {
-                status_level: StatusLevel::None,
-                file: "--level",
-                ..OPTIONS
-            },
-        ),
-        (&["--store", "out", "FILE"], STORING),
+    for (texts, options) in WORDS {
+        let args = words_of(rt.alloc(), texts)?;
+        assert!(rt; words(args.as_slice()) == Some(options));
+    }
+    Ok(())
+}
+
+#[test]
+fn takes_options_of_the_store_in_any_order(rt: HostRuntime) -> Result<(), Fail> {
+    let rows: [(&[&str], Options<'static>); 3] = [
         (
             &["--store", "--color", "--store"],
             Options {
@@ -416,7 +431,7 @@ fn takes_options_in_any_order(rt: HostRuntime) -> Result<(), Fail> {
             },
         ),
     ];
-    for (texts, options) in lines {
+    for (texts, options) in rows {
         let args = words_of(rt.alloc(), texts)?;
         assert!(rt; words(args.as_slice()) == Some(options));
     }

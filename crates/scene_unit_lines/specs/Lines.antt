@@ -19,7 +19,7 @@ use Rattle.scene_fields.specs.{Values.flag_in, Values.flaky_in, Values.stress_in
 use Rattle.{scene_fields.specs.declared.fault.LineFault.TheVariants.WrongNumberOfFields}
 use Rattle.{scene_unit_lines.specs.Parts.state_in, scene_unit_lines.specs.Parts.state_with}
 use Rattle.{scene_unit_lines.specs.Parts.result_or_none_in, scene_unit_lines.specs.Parts.highlight_in}
-use Rattle.scene_unit_lines.specs.declared.lines.{Answer.Answer, Script.Script}
+use Rattle.scene_unit_lines.specs.declared.lines.{Answer.Answer, ScriptFields.ScriptFields}
 use Rattle.run_model.specs.declared.output.ChildExecutionOutputDescription.TheVariants as wrote
 use Rattle.run_model.specs.declared.output.ChildOutputDescription.TheVariants as streams
 use Rattle.run_model.specs.declared.event.TestEventKind.TheVariants as event
@@ -234,7 +234,7 @@ skip_line_fields = do
   says (event_at 0 (event.TestSkipped stress_index test))
 
 -- which script it is: its id, the program, and the program's arguments
-unfoldable pub script_fields : Line Script
+unfoldable pub script_fields : Line ScriptFields
 script_fields = do
   script_id ← field text_in
   program ← field text_in

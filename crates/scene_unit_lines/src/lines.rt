@@ -406,7 +406,7 @@ pub fn read_setup_done<'n>(alloc: Global, fields: &mut Fields<'_>) -> CallResult
 
 // Which script it is.
 #[derive(Drop)]
-struct Script {
+struct ScriptFields {
     script_id: ScriptId,
     program: ProgramName,
     args: CommandLine,
@@ -414,10 +414,10 @@ struct Script {
 
 // Reads which script it is: its id, the program, and the program's arguments.
 #[tactic(auto, unfolding(crate::specs::Lines::script_fields))]
-fn read_script(alloc: Global, fields: &mut Fields<'_>) -> Line<Script>
+fn read_script(alloc: Global, fields: &mut Fields<'_>) -> Line<ScriptFields>
     ensures { Gives (λ s. s) fields.old result fields.new script_fields }
 {
-    Ok(Script {
+    Ok(ScriptFields {
         script_id: fields.try_read(|field| read_name(alloc, field))?,
         program: fields.try_read(|field| read_name(alloc, field))?,
         args: fields.try_read(|field| read_command_line(alloc, field))?,
@@ -487,11 +487,9 @@ fn read_answer(alloc: Global, fields: &mut Fields<'_>) -> Line<Answer>
     ensures { Gives (λ a. a) fields.old result fields.new answer_fields }
 {
     let (state, outcome) = read_unit_state(alloc, fields)?;
-    let output = read_output(alloc, fields, outcome)?;
-    Ok(Answer {
-        state: Shared::new(alloc, state)?,
-        output: Boxed::new(alloc, output)?,
-    })
+    let state = Shared::new(alloc, state)?;
+    let output = Boxed::new(alloc, read_output(alloc, fields, outcome)?)?;
+    Ok(Answer { state, output })
 }
 
 // Reads what a unit is doing, and how the attempt ended.

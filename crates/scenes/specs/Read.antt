@@ -29,7 +29,7 @@ pub record AtLine (all : List RunLine) (run : ParsedLines) (lines : List RunLine
   pub place : number ≡ length front + 1
   pub tells : AllRead no_lines front run
 
--- the lines of the next piece are at hand now; or there is none, and no line is left, but for an empty one at the end
+-- the lines of the next piece are buffered now; or there is none, and no line is left, but for an empty one at the end
 abbrev pub HasNext : List ℕ → (List (List ℕ) → List RunLine → Type 0) → List RunLine → Bool → Type 0
 HasNext piece Left lines true = Left (split_on 10 piece) lines
 HasNext piece Left lines false = AreLeft lines [] × Left [] lines × Left [] []
@@ -122,7 +122,7 @@ pub record PassesAll {K : Type 0} (takes : Takes K) (file : List ℕ) (Done : Pa
   pub ok : OnOk result ((last : ParsedLines) × AllTaken takes file n run given lines last after × Done last [])
   pub err : IfErr result (λ fault. StopsTaking takes file n run lines given fault after)
 
--- the texts of the lines at hand
+-- the texts of the buffered lines
 abbrev pub left_at : List ℕ → Option ℕ → List (List ℕ)
 left_at piece None = []
 left_at piece (Some at) = split_on 10 (drop at piece)

@@ -86,10 +86,17 @@ impl HeldCall {
     ) -> Result<(), Fault<'a>>
         ensures { LendsCall K.takes file.now number (held_event self.now) sink.old result sink.new }
     {
-        let kind = self.kind.get().lent(alloc)?;
-        let elapsed = self.elapsed;
-        let mut call = ReportCall::Event(TestEvent { elapsed, kind });
+        let mut call = self.call(alloc)?;
         sink.take(alloc, file, number, &[], &mut call)
+    }
+
+    fn call(&self, alloc: Global) -> Result<ReportCall<'_>, OutOfMemory>
+        ensures { IfOk result (λ call. call_by_names call ≡ held_event self.now) }
+    {
+        Ok(ReportCall::Event(TestEvent {
+            elapsed: self.elapsed,
+            kind: self.kind.get().lent(alloc)?,
+        }))
     }
 }
 

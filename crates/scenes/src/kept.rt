@@ -6,10 +6,10 @@ ghost use Rattle.std.specs.{Io.Buffered.reader_remaining};
 ghost use Rattle.scene_reader.specs.Names.{before_next, lines_before, ParsedLines, plain_line, RunLine, text_lines};
 ghost use Rattle.scenes.specs.Kept.{AreKept, AreKeptAs, HoldsLine, IsHeldLine, KeepsAll, KeepsSome};
 ghost use Rattle.scenes.specs.Read.{AreLeftBehind, PassesAll, PassesNext, PassesSome};
-ghost use Rattle.scenes.specs.Reading.{at_hand};
+ghost use Rattle.scenes.specs.Reading.{buffered};
 
 use crate::held_call::{HeldCall, Holding};
-use crate::read::{NoMoreLines, Reading, SceneSource, is_large_line, pass_lines};
+use crate::read::{NoMoreLines, Reading, SceneSource, has_large_output, pass_lines};
 use command_line::fault::Fault;
 use scene_reader::reader::{CallSink, LinesRead};
 use std::alloc::Global;
@@ -41,7 +41,7 @@ pub(crate) fn keep<'a, R: Read, K: CallSink>(
     sink: &mut K,
 ) -> Result<KeptRun, Fault<'a>>
     ensures { (run : ParsedLines) (lines : List RunLine) → before_next reading.old.read ≡ lines_before run
-        → AreLeftBehind (at_hand reading.old) (reader_remaining R.remaining source.old.reader) lines
+        → AreLeftBehind (buffered reading.old) (reader_remaining R.remaining source.old.reader) lines
         → KeepsAll K.takes file.now reading.old.read run lines sink.old result sink.new }
 {
     let begin = read_so_far(alloc, &reading.read);
@@ -89,7 +89,7 @@ fn keep_text<'a, K: CallSink>(
     ensures { (run : ParsedLines) → before_next read.old ≡ lines_before run
         → KeepsSome K.takes file.now read.old.next run (text_lines text.items) sink.old result read.new sink.new }
 {
-    if has_outputs(text.as_slice()) && is_large_line(text.as_slice()) {
+    if has_large_output(text.as_slice()) {
         return match hold_line(alloc, file, read, text, sink) {
             Ok(held) => Ok(KeptLines::Call(held)),
             Err(fault) => Err(fault),
@@ -99,11 +99,6 @@ fn keep_text<'a, K: CallSink>(
         Ok(()) => Ok(KeptLines::Text(text)),
         Err(fault) => Err(fault),
     }
-}
-
-// Whether a line is of an event that has outputs.
-fn has_outputs(line: &[u8]) -> bool {
-    line.starts_with(b"done\t") || line.starts_with(b"retry\t") || line.starts_with(b"setupdone\t")
 }
 
 // Reads a line whose call is held, and has the sink take it.

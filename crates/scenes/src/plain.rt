@@ -26,9 +26,9 @@ pub(crate) fn refused_call(
 ) -> Option<Fault<'static>>
     ensures { result ≡ fault_of_first decider.now (lines_of scene.now) calls.now }
 {
-    let place = first_refused(decider, calls)?;
-    let error = decider.refusal(calls.get(place)?)?;
-    Some(fault_at_call(scene.line_of(place), error))
+    let index = first_refused(decider, calls)?;
+    let error = decider.refusal(calls.get(index)?)?;
+    Some(fault_at_call(scene.line_of(index), error))
 }
 
 /// Writes the report of calls of a scene to a device, without records, and gives the device back. None of them may be

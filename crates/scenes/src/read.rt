@@ -99,7 +99,12 @@ impl<R: Read> RunSource for SceneSource<R> {
     ghost texts = { λ total s text others before lines h. (plain_line text, map plain_line others ++ h.0, h.1, refl) };
 
     fn next_piece<'a>(&mut self, file: &'a str, piece: &mut Vec<u8>) -> Result<bool, Fault<'a>> {
-        next_piece(file, &mut self.reader, piece)
+        let is_ended = next_piece(file, &mut self.reader, piece)?;
+        if is_ended {
+            return Ok(true);
+        }
+        // What follows the last line feed is a line, too.
+        Ok(!piece.is_empty())
     }
 
     #[inline(always)]
@@ -127,7 +132,7 @@ impl<R: Read> RunSource for SceneSource<R> {
     }
 }
 
-/// No lines behind those that are at hand.
+/// No lines behind those that are buffered.
 #[derive(Drop)]
 pub(crate) struct NoMoreLines;
 
@@ -165,18 +170,18 @@ impl RunSource for NoMoreLines {
     }
 }
 
-/// The lines of a run as they are read: those of a piece of it are at hand.
+/// The lines of a run as they are read: those of a piece of it are buffered.
 #[derive(Drop)]
 pub(crate) struct Reading {
     pub(crate) read: LinesRead,
     piece: Vec<u8>,
-    // The place in the piece of the first line at hand.
+    // The place in the piece of the first buffered line.
     next: Option<usize>,
     ghost within: { ForSome next (λ at. at ≤ length piece.items) },
 }
 
 impl Reading {
-    ghost use Rattle.scenes.specs.Reading.{IsConfigured, IsFilled, IsNothingRead, at_hand};
+    ghost use Rattle.scenes.specs.Reading.{IsConfigured, IsFilled, IsNothingRead, buffered};
 
     /// No line was read.
     pub(crate) fn new(alloc: Global) -> Reading
@@ -220,7 +225,7 @@ impl Reading {
         Err(Fault::CannotRead { file })
     }
 
-    // Sees to it that lines are at hand. It returns whether there are any.
+    // Reads lines ahead if none are buffered. It returns whether there are any.
     pub(crate) fn fill<'a, L: RunSource>(
         &mut self,
         file: &'a str,
@@ -228,7 +233,7 @@ impl Reading {
     ) -> Result<bool, Fault<'a>>
         ensures read { self.new.read ≡ self.old.read }
         ensures left { (total : ℕ) (run : ParsedLines) (lines : List RunLine)
-            → L.left total source.old (at_hand self.old) run lines
+            → L.left total source.old (buffered self.old) run lines
             → IfOk result (IsFilled (λ texts. L.left total source.new texts run) lines self.new) }
         ensures fault { IfErr result (IsUnread file.now) }
     {
@@ -247,7 +252,7 @@ impl Reading {
         sink: &mut K,
     ) -> Result<(), Fault<'a>>
         ensures { (total : ℕ) (run : ParsedLines) (lines : List RunLine)
-            → before_next self.old.read ≡ lines_before run → L.left total source.old (at_hand self.old) run lines
+            → before_next self.old.read ≡ lines_before run → L.left total source.old (buffered self.old) run lines
             → PassesAll K.takes file.now (L.left total source.new []) self.old.read.next run lines sink.old result
             sink.new }
     {
@@ -274,8 +279,8 @@ impl Reading {
         sink: &mut K,
     ) -> Result<(), Fault<'a>>
         ensures { (total : ℕ) (run : ParsedLines) (lines : List RunLine)
-            → before_next self.old.read ≡ lines_before run → L.left total source.old (at_hand self.old) run lines
-            → PassesSome K.takes file.now (L.left total source.new (at_hand self.new)) self.old.read.next run lines
+            → before_next self.old.read ≡ lines_before run → L.left total source.old (buffered self.old) run lines
+            → PassesSome K.takes file.now (L.left total source.new (buffered self.new)) self.old.read.next run lines
             sink.old result self.new.read sink.new }
     {
         for _turn in 0..u64::MAX {
@@ -284,7 +289,7 @@ impl Reading {
                 Ok(false) => return Ok(()),
                 Err(fault) => return Err(fault),
             }
-            if self.next == Some(0) && is_large_line(&self.piece) {
+            if self.next == Some(0) && has_large_output(&self.piece) {
                 return Ok(());
             }
             match self.pass_piece(alloc, file, source, sink) {
@@ -295,9 +300,9 @@ impl Reading {
         Err(Fault::CannotRead { file })
     }
 
-    /// Takes the text of the lines at hand. None at hand count as refused memory.
+    /// Takes the text of the buffered lines. If there are none, it reports refused memory.
     pub(crate) fn take_text(&mut self, alloc: Global) -> Result<Vec<u8>, OutOfMemory>
-        ensures text { IfOk result (λ text. at_hand self.old ≡ split_on 10 text.items) }
+        ensures text { IfOk result (λ text. buffered self.old ≡ split_on 10 text.items) }
         ensures none { OnOk result (self.new.next ≡ None) }
         ensures read { self.new.read ≡ self.old.read }
     {
@@ -319,8 +324,8 @@ impl Reading {
         sink: &mut K,
     ) -> Result<(), Fault<'a>>
         ensures { (total : ℕ) (run : ParsedLines) (lines : List RunLine)
-            → before_next self.old.read ≡ lines_before run → L.left total source.old (at_hand self.old) run lines
-            → PassesSome K.takes file.now (L.left total source.new (at_hand self.new)) self.old.read.next run lines
+            → before_next self.old.read ≡ lines_before run → L.left total source.old (buffered self.old) run lines
+            → PassesSome K.takes file.now (L.left total source.new (buffered self.new)) self.old.read.next run lines
             sink.old result self.new.read sink.new }
     {
         let Some(at) = self.next else {
@@ -335,8 +340,20 @@ impl Reading {
     }
 }
 
-/// Whether a piece is one line with a large field.
-pub(crate) fn is_large_line(piece: &[u8]) -> bool
+/// Whether a piece is one line of an event that has outputs, with a large field.
+pub(crate) fn has_large_output(piece: &[u8]) -> bool
+    ensures { OnTrue result (split_on 10 piece.now ≡ piece.now ∷ []) }
+{
+    has_outputs(piece) && is_large_line(piece)
+}
+
+// Whether a line is of an event that has outputs.
+fn has_outputs(line: &[u8]) -> bool {
+    line.starts_with(b"done\t") || line.starts_with(b"retry\t") || line.starts_with(b"setupdone\t")
+}
+
+// Whether a piece is one line with a large field.
+fn is_large_line(piece: &[u8]) -> bool
     ensures { OnTrue result (split_on 10 piece.now ≡ piece.now ∷ []) }
 {
     piece.len() >= LARGE && has_large_field(piece) && memchr(b'\n', piece).is_none()

@@ -7,7 +7,7 @@ ghost use Rattle.std.specs.Prelude.{◌≡◌, ◌⊎◌, ℕ, List, None, Optio
 ghost use Rattle.scenes.specs.Judged.{fault_in_memory};
 ghost use Rattle.scenes.specs.Names.{Begins, IsFaultOfLines, IsJudgeFault, IsRefusal, IsUnread, OfLines};
 ghost use Rattle.scenes.specs.Gathered.{HasGathered, IsGatheredRun, Texts};
-ghost use Rattle.scenes.specs.{Kept.IsKeptRun, Read.AreLeftBehind, Reading.at_hand};
+ghost use Rattle.scenes.specs.{Kept.IsKeptRun, Read.AreLeftBehind, Reading.buffered};
 ghost use Rattle.std.specs.{Io.Buffered.reader_remaining};
 ghost use Rattle.scenes.specs.Names.{IsRefusedText, IsRejected};
 ghost use Rattle.std.specs.Prelude.{[], string_bytes};
@@ -29,6 +29,7 @@ use console_reporter::imp::Store;
 use console_reporter::write_str::TextBuffer;
 use std::alloc::{AllocError, Global};
 use std::io::{Read, Write};
+use std::mem;
 
 /// Reads a scene to its end, judges it, and writes its report to a device and its records to a second one, if the
 /// options ask for them. It gives both devices back: the whole way from a file's bytes to those of both texts. A scene
@@ -91,6 +92,41 @@ pub fn report_gathered<'a, R: Read + Drop, W: Write>(
     (outcome, writer)
 }
 
+/// The report of a scene as [`report_gathered`] writes it, in memory.
+///
+/// # Errors
+///
+/// The fault of the first line that has one, the line of the first call that is refused, that the file cannot be read,
+/// or that memory is refused.
+pub fn report_text<'a, R: Read + Drop>(
+    alloc: Global,
+    options: &Options<'a>,
+    reader: R,
+) -> Result<String, Fault<'a>>
+    requires no_store { store_for options.now ≡ None }
+    ensures report { (text : List ℕ) → R.remaining reader ≡ Some text
+        → IfOk result (λ report. OfText text
+        (Prints device device options.now (Some [], None) (Some (string_bytes report), None))) }
+    ensures fault { (text : List ℕ) → R.remaining reader ≡ Some text
+        → IfErr result (IsRefusal options.now (text_lines text)) }
+{
+    let mut text = String::new(alloc);
+    let GatheredRun {
+        mut reporter,
+        mut rest,
+    } = match gather(alloc, options, reader, &mut text) {
+        Ok(run) => run,
+        Err(fault) => return Err(fault),
+    };
+    match rest.pass_to(alloc, options.file, &mut reporter) {
+        Ok(()) => {}
+        // The lines were read before, and none is refused.
+        Err(_) => return Err(Fault::OutOfMemory),
+    }
+    let (report, _store) = reporter.into_parts(options);
+    Ok(mem::replace(report, String::new(alloc)))
+}
+
 /// A run without a refused call: the report of its first lines is gathered, and the others are kept.
 #[derive(Drop)]
 struct GatheredRun<'w> {
@@ -143,11 +179,11 @@ fn keep_rest<'a, 'w, R: Read>(
     gathering: Gathering<'w, String, String>,
 ) -> Result<GatheredRun<'w>, Fault<'a>>
     ensures run { (start : Texts) (all : List RunLine) → string_bytes start.0 ≡ []
-        → HasGathered options.now start all (λ run lines. AreLeftBehind (at_hand reading.old)
+        → HasGathered options.now start all (λ run lines. AreLeftBehind (buffered reading.old)
         (reader_remaining R.remaining source.old.reader) lines) reading.old.read gathering.entry
         → IfOk result (IsGatheredRun options.now all) }
     ensures fault { (start : Texts) (all : List RunLine) → string_bytes start.0 ≡ []
-        → HasGathered options.now start all (λ run lines. AreLeftBehind (at_hand reading.old)
+        → HasGathered options.now start all (λ run lines. AreLeftBehind (buffered reading.old)
         (reader_remaining R.remaining source.old.reader) lines) reading.old.read gathering.entry
         → IfErr result (IsRefusal options.now all) }
 {
@@ -224,10 +260,7 @@ pub fn read_judged<'a, R: Read + Drop>(
         Ok(()) => {}
         Err(fault) => return Err(fault),
     }
-    let mut judge = match decider_of(alloc, options, &reading.read.config) {
-        Ok(decider) => Judge::new(decider),
-        Err(fault) => return Err(fault),
-    };
+    let mut judge = Judge::new(decider_of(options, &reading.read.config));
     let kept = match keep(alloc, options.file, &mut reading, &mut source, &mut judge) {
         Ok(kept) => kept,
         Err(fault) => return Err(fault),
@@ -339,7 +372,7 @@ pub fn judge<'a, R: Read + Drop>(
     ensures accepted { IfOk result (λ scene. OfText scene.text (IsRunAccepted options.now)) }
 {
     let scene = read_whole(alloc, options, reader)?;
-    let decider = decider_of(alloc, options, scene.config())?;
+    let decider = decider_of(options, scene.config());
     let calls = scene.calls(alloc, options)?;
     let refused = refused_call(&decider, &scene, calls.as_slice());
     drop(calls);
@@ -410,10 +443,7 @@ fn write_scene<W: Write, S: Write>(
         Err(fault) => return (Err(fault), writer, store_writer),
     };
     let calls = all.as_slice();
-    let decider = match decider_of(alloc, options, config) {
-        Ok(decider) => decider,
-        Err(fault) => return (Err(fault), writer, store_writer),
-    };
+    let decider = decider_of(options, config);
     if let Some(fault) = refused_call(&decider, scene, calls) {
         return (Err(fault), writer, store_writer);
     }

@@ -14,23 +14,37 @@ use console_reporter::imp::{
 use run_model::config::CompiledDefaultFilter;
 use scene_run_lines::config::SceneConfig;
 use std::alloc::Global;
+use text_parts::settings::overrides_for;
 
-/// What decides which output the scene's reporter needs and which events it refuses.
-///
-/// # Errors
-///
-/// `OutOfMemory`.
-pub fn decider_of(
-    alloc: Global,
-    options: &Options<'_>,
-    config: &SceneConfig,
-) -> Result<OutputLoadDecider, Fault<'static>>
-    ensures ok { IfOk result (λ decider. decider ≡ decider_for options.now config.now) }
-    ensures err { IfErr result (λ fault. fault ≡ Fault.OutOfMemory) }
+/// What decides which output the scene's reporter needs and which events it refuses. It allocates nothing.
+pub fn decider_of(options: &Options<'_>, config: &SceneConfig) -> OutputLoadDecider
+    ensures { result ≡ decider_for options.now config.now }
 {
-    let builder = builder_of(alloc, options, config)?;
+    let Surroundings {
+        is_terminal,
+        is_ci,
+        ..
+    } = surroundings_of(config);
+    let resolved = display_of(options, config).resolve(is_terminal, is_ci);
+    let overrides = overrides_for(
+        config.no_capture,
+        config.success_output,
+        config.failure_output,
+    );
     let store = options.store.map(|store| store.config);
-    Ok(builder.output_load_decider(surroundings_of(config), store))
+    OutputLoadDecider::new(resolved.status_levels.status_level, overrides, store)
+}
+
+// What the options and the scene ask of the display.
+fn display_of(options: &Options<'_>, config: &SceneConfig) -> DisplayConfig
+    ensures { result ≡ (builder_for options.now config.now).display_config }
+{
+    DisplayConfig::with_overrides(
+        progress_for(options),
+        config.no_capture,
+        options.status_level,
+        config.final_status_level,
+    )
 }
 
 /// What the scene says of where its report goes: to no terminal, and from no build machine.
@@ -60,12 +74,7 @@ pub fn builder_of(
     Ok(DisplayReporterBuilder {
         mode: config.mode,
         default_filter: CompiledDefaultFilter::for_default_config(alloc)?,
-        display_config: DisplayConfig::with_overrides(
-            progress_for(options),
-            config.no_capture,
-            options.status_level,
-            config.final_status_level,
-        ),
+        display_config: display_of(options, config),
         run_count: config.run_count,
         success_output: config.success_output,
         failure_output: config.failure_output,

@@ -89,10 +89,10 @@ impl Scene {
     }
 
     /// The line of the event with this index, from 1; 0 if there is no such event.
-    pub fn line_of(&self, place: usize) -> u64
-        ensures { result ≡ get_or (event_lines 1 no_lines (text_lines self.now.text)) place 0 }
+    pub fn line_of(&self, index: usize) -> u64
+        ensures { result ≡ get_or (event_lines 1 no_lines (text_lines self.now.text)) index 0 }
     {
-        match self.events.get(place) {
+        match self.events.get(index) {
             Some(event) => event.number,
             None => 0,
         }
@@ -117,7 +117,7 @@ impl Scene {
         if !options.unload_skipped {
             return Ok(calls);
         }
-        let decider = decider_of(alloc, options, &self.config)?;
+        let decider = decider_of(options, &self.config);
         unload_skipped(&decider, calls.as_mut_slice());
         Ok(calls)
     }

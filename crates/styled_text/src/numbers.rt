@@ -81,23 +81,10 @@ pub(crate) fn write_spaces<W: WriteStr>(w: &mut W, count: usize) -> Result<(), W
 
 /// How many characters the text has.
 #[tactic(auto, using(std::proofs::lemmas::Str::chars_from_encodes))]
-fn char_count(text: &str) -> usize
+pub(crate) fn char_count(text: &str) -> usize
     ensures { result ≡ length (chars text.now) }
 {
     text.chars().count()
-}
-
-/// Writes a text right-aligned in the given number of columns, one for each character.
-///
-/// # Errors
-///
-/// The writer's fault. It has accepted a prefix of the text.
-#[tactic(auto, unfolding(crate::specs::Texts::right_in))]
-pub fn write_right<W: WriteStr>(w: &mut W, columns: usize, text: &str) -> Result<(), WriteFault>
-    ensures { Puts W.meaning w.old (right_in columns text.now) result w.new }
-{
-    write_spaces(w, columns.saturating_sub(char_count(text)))?;
-    w.write_str(text)
 }
 
 /// Writes nanoseconds as seconds with three decimals, right-aligned in eight columns, between brackets, and a space.
@@ -246,22 +233,4 @@ fn write_decimals<W: WriteStr>(w: &mut W, thousandths: u32) -> Result<(), WriteF
     ];
     // These four are ASCII.
     w.write_str(unsafe { str::from_utf8_unchecked(&digits) })
-}
-
-// The columns that remain after four texts.
-#[tactic(auto, using(crate::proofs::lemmas::Decimals::joined_columns))]
-pub(crate) fn columns_left(
-    columns: usize,
-    first: &str,
-    second: &str,
-    third: &str,
-    fourth: &str,
-) -> usize
-    ensures { result ≡ columns - length (chars (first.now ++ (second.now ++ (third.now ++ fourth.now)))) }
-{
-    columns
-        .saturating_sub(char_count(first))
-        .saturating_sub(char_count(second))
-        .saturating_sub(char_count(third))
-        .saturating_sub(char_count(fourth))
 }

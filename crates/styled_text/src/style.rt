@@ -4,10 +4,9 @@
 //! kinds of report.
 
 ghost use Rattle.std.specs.Prelude.{◌≡◌, true};
-ghost use Rattle.styled_text.specs.Names.{decimal, right_in, style_prefix, style_suffix, styled, styles_of};
+ghost use Rattle.styled_text.specs.Names.{decimal, style_prefix, style_suffix, styled, styles_of};
 ghost use Rattle.styled_text.specs.Names.{list_styles_of, Puts};
 
-use crate::numbers::write_right;
 use itoa::Buffer;
 use writers::write_str::{WriteFault, WriteStr};
 
@@ -133,33 +132,6 @@ impl Style {
         }
         w.write_str(self.prefix())?;
         w.write_str(buffer.format(number))?;
-        w.write_str(self.suffix())
-    }
-
-    /// Writes a text right-aligned in the given number of columns.
-    ///
-    /// ```
-    /// Style::Plain.write_right(&mut out, 12, "PASS")?;
-    /// assert_eq!(out.as_str(), "        PASS");
-    /// ```
-    ///
-    /// # Errors
-    ///
-    /// The writer's fault. It has accepted a prefix of the text.
-    #[tactic(auto, unfolding(crate::specs::Style::styled))]
-    pub fn write_right<W: WriteStr>(
-        self,
-        w: &mut W,
-        columns: usize,
-        text: &str,
-    ) -> Result<(), WriteFault>
-        ensures { Puts W.meaning w.old (styled self (right_in columns text.now)) result w.new }
-    {
-        if self == Style::Plain {
-            return write_right(w, columns, text);
-        }
-        w.write_str(self.prefix())?;
-        write_right(w, columns, text)?;
         w.write_str(self.suffix())
     }
 }

@@ -1,12 +1,13 @@
 //! Texts in styles, right-aligned and indented, as values.
 
-ghost use Rattle.std.specs.Prelude.{◌≡◌, ◌++◌, true, false};
-ghost use Rattle.styled_text.specs.Names.{decimal, indent, seconds, plain, styled, right_in, Puts};
+ghost use Rattle.std.specs.Prelude.{◌≡◌, ◌++◌, ◌-◌, ℕ, List, chars, length, true, false};
+ghost use Rattle.styled_text.specs.Names.{IsUtf8, decimal, indent, seconds, plain, styled, right_in, Puts};
 
 use crate::indenter::indented;
-use crate::numbers::{columns_left, write_seconds, write_spaces};
+use crate::numbers::{char_count, write_seconds, write_spaces};
 use crate::style::Style;
-use writers::text::WriteText;
+use itoa::Buffer;
+use writers::text::{Decimal, WriteText};
 use writers::write_str::{WriteFault, WriteStr};
 
 /// A text in a style.
@@ -59,44 +60,81 @@ impl WriteText for Number {
     }
 }
 
-/// A text right-aligned in the given number of columns, with the padding inside the style.
-#[derive(Clone, Copy, Debug)]
-pub struct Right<'a>(pub usize, pub Style, pub &'a str);
+/// A text whose characters are counted before it is written.
+pub trait CountedText: WriteText {
+    /// Its characters.
+    ghost words: { Self → List ℕ };
 
-impl WriteText for Right<'_> {
-    ghost text = { λ r. styled r.1 (right_in r.0 r.2.now) };
+    /// What its characters leave of this number of columns.
+    fn columns_left(&self, columns: usize) -> usize
+        ensures text { Self.text self.now ≡ words self.now }
+        ensures utf8 { IsUtf8 (words self.now) }
+        ensures left { result ≡ columns - length (chars (words self.now)) };
+}
 
-    fn write_to<W: WriteStr>(&self, w: &mut W) -> Result<(), WriteFault> {
-        self.1.write_right(w, self.0, self.2)
+impl CountedText for &str {
+    ghost words = { λ t. t.now };
+
+    #[tactic(auto, unfolding(writers::specs::Texts::plain))]
+    fn columns_left(&self, columns: usize) -> usize {
+        columns.saturating_sub(char_count(self))
     }
 }
 
-/// Four texts joined, right-aligned in the given number of columns, one for each character.
+impl CountedText for Decimal {
+    ghost words = { λ d. decimal d.0 };
+
+    #[tactic(auto, unfolding(writers::specs::Texts::plain))]
+    fn columns_left(&self, columns: usize) -> usize {
+        columns.saturating_sub(char_count(Buffer::new().format(self.0)))
+    }
+}
+
+impl<A: CountedText, B: CountedText> CountedText for (A, B) {
+    ghost words = { λ t. A.words t.0 ++ B.words t.1 };
+
+    #[tactic(auto, using(crate::proofs::lemmas::Decimals::both_laws))]
+    fn columns_left(&self, columns: usize) -> usize {
+        self.1.columns_left(self.0.columns_left(columns))
+    }
+}
+
+impl<A: CountedText, B: CountedText, C: CountedText> CountedText for (A, B, C) {
+    ghost words = { λ t. A.words t.0 ++ (B.words t.1 ++ C.words t.2) };
+
+    #[tactic(auto, using(crate::proofs::lemmas::Decimals::both_laws))]
+    fn columns_left(&self, columns: usize) -> usize {
+        let left = self.1.columns_left(self.0.columns_left(columns));
+        self.2.columns_left(left)
+    }
+}
+
+impl<A: CountedText, B: CountedText, C: CountedText, D: CountedText> CountedText for (A, B, C, D) {
+    ghost words = { λ t. A.words t.0 ++ (B.words t.1 ++ (C.words t.2 ++ D.words t.3)) };
+
+    #[tactic(auto, using(crate::proofs::lemmas::Decimals::both_laws))]
+    fn columns_left(&self, columns: usize) -> usize {
+        let left = self.1.columns_left(self.0.columns_left(columns));
+        self.3.columns_left(self.2.columns_left(left))
+    }
+}
+
+/// A text right-aligned in the given number of columns, one for each character.
 ///
 /// ```
-/// RightJoined(12, "TRY ", "2", " ", "FAIL").write_to(&mut out)?;
+/// Aligned(12, ("TRY ", Decimal(2), " ", "FAIL")).write_to(&mut out)?;
 /// assert_eq!(out.as_str(), "  TRY 2 FAIL");
 /// ```
-#[derive(Clone, Copy, Debug)]
-pub struct RightJoined<'a>(
-    pub usize,
-    pub &'a str,
-    pub &'a str,
-    pub &'a str,
-    pub &'a str,
-);
+#[derive(Clone, Copy, Debug, Drop)]
+pub struct Aligned<T>(pub usize, pub T);
 
-impl WriteText for RightJoined<'_> {
-    ghost text = { λ r. right_in r.0 (r.1.now ++ (r.2.now ++ (r.3.now ++ r.4.now))) };
+impl<T: CountedText> WriteText for Aligned<T> {
+    ghost text = { λ a. right_in a.0 (T.words a.1) };
 
     #[tactic(auto, unfolding(crate::specs::Texts::right_in))]
     fn write_to<W: WriteStr>(&self, w: &mut W) -> Result<(), WriteFault> {
-        let RightJoined(columns, first, second, third, fourth) = *self;
-        write_spaces(w, columns_left(columns, first, second, third, fourth))?;
-        w.write_str(first)?;
-        w.write_str(second)?;
-        w.write_str(third)?;
-        w.write_str(fourth)
+        write_spaces(w, self.1.columns_left(self.0))?;
+        self.1.write_to(w)
     }
 }
 

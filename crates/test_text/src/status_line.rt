@@ -18,14 +18,14 @@ use run_model::status::{
 };
 use run_model::time::Nanos;
 use styled_text::style::{Style, Styles};
-use styled_text::text::{Painted, RightJoined, Toned};
+use styled_text::text::{Aligned, Painted, Toned};
 use text_parts::abort_line::write_abort_line;
 use text_parts::instance::{CountedInstance, write_instance};
 use text_parts::result_words::{
     is_plain_success, spaced_short_status_str, status_str, success_str,
 };
 use unit_report::formatters::DisplayBracketedDuration;
-use writers::text::WriteText;
+use writers::text::{Decimal, WriteText};
 use writers::write_str::{WriteFault, WriteStr};
 
 /// Where the line of a finished test is shown.
@@ -179,9 +179,9 @@ fn write_success_word<W: WriteStr>(
         _ => {
             let word = success_str(is_slow, outcome);
             if is_plain_success(is_slow, outcome) {
-                styles.pass.write_right(w, 12, word)?;
+                Painted(styles.pass, Aligned(12, word)).write_to(w)?;
             } else {
-                styles.skip.write_right(w, 12, word)?;
+                Painted(styles.skip, Aligned(12, word)).write_to(w)?;
             }
             " ".write_to(w)
         }
@@ -224,13 +224,16 @@ fn write_flaky_word<W: WriteStr>(
         FlakyResult::Fail => (styles.fail, "FLKY-FL "),
     };
     match kind {
-        StatusLineKind::Intermediate => Try(style, retry_data.attempt, "PASS").write_to(w),
+        StatusLineKind::Intermediate => Try {
+            style,
+            attempt: retry_data.attempt,
+            word: "PASS",
+        }
+        .write_to(w),
         StatusLineKind::Final => {
-            let mut attempt = Buffer::new();
-            let mut total = Buffer::new();
-            let attempt = attempt.format(retry_data.attempt);
-            let total = total.format(retry_data.total_attempts);
-            Painted(style, RightJoined(12, label, attempt, "/", total)).write_to(w)
+            let attempt = Decimal(retry_data.attempt as u128);
+            let total = Decimal(retry_data.total_attempts as u128);
+            Painted(style, Aligned(12, (label, attempt, "/", total))).write_to(w)
         }
     }
 }
@@ -289,13 +292,11 @@ fn write_other_failure<W: WriteStr>(
     let mut signal = Buffer::new();
     if attempt == 1 {
         let word = status_str(failed, &mut signal);
-        return Painted(styles.fail, RightJoined(12, "", "", word.front, word.back)).write_to(w);
+        return Painted(styles.fail, Aligned(12, (word.front, word.back))).write_to(w);
     }
     let word = spaced_short_status_str(failed, &mut signal);
-    let mut number = Buffer::new();
-    let number = number.format(attempt);
-    let words = RightJoined(12, "TRY ", number, word.front, word.back);
-    Painted(styles.fail, words).write_to(w)
+    let words = ("TRY ", Decimal(attempt as u128), word.front, word.back);
+    Painted(styles.fail, Aligned(12, words)).write_to(w)
 }
 
 #[tactic(auto, unfolding(crate::specs::StatusLine::flaky_failure_line))]

@@ -17,13 +17,13 @@ use run_model::status::{ExecuteStatus, ExecutionResultDescription, RetryData};
 use run_model::stress::StressIndex;
 use run_model::time::Nanos;
 use styled_text::style::Style;
-use styled_text::text::{Painted, RightJoined};
+use styled_text::text::{Aligned, Painted};
 use text_parts::attempt_output::write_test_execute_status;
 use text_parts::instance::InstanceEnd;
 use text_parts::result_words::spaced_short_status_str;
 use text_parts::settings::Settings;
 use unit_report::formatters::{DisplayBracketedDuration, DisplayDurationBy};
-use writers::text::{Unless, WriteText};
+use writers::text::{Decimal, When, WriteText};
 use writers::write_str::{WriteFault, WriteStr};
 
 /// Writes that an attempt has failed and is retried, if such attempts are shown: its line, its output if
@@ -65,8 +65,13 @@ pub fn write_attempt_failed<W: WriteStr>(
     let styles = &settings.styles;
     let end = InstanceEnd(styles, &test);
     let retry_data = run_status.retry_data;
+    let word = AttemptWord {
+        style: styles.retry,
+        attempt: retry_data.attempt,
+        failed: &run_status.result,
+    };
     let line = (
-        AttemptWord(styles.retry, retry_data.attempt, &run_status.result),
+        word,
         " ",
         DisplayBracketedDuration(run_status.time_taken),
         end,
@@ -79,24 +84,25 @@ pub fn write_attempt_failed<W: WriteStr>(
         DisplayDurationBy(delay_before_next_attempt),
         end,
     );
-    Unless(delay_before_next_attempt.0 == 0, delay).write_to(w)
+    When(delay_before_next_attempt.0 != 0, delay).write_to(w)
 }
 
 // How an attempt ended, after its number.
 #[derive(Clone, Copy)]
-struct AttemptWord<'a>(Style, u32, &'a ExecutionResultDescription);
+struct AttemptWord<'a> {
+    style: Style,
+    attempt: u32,
+    failed: &'a ExecutionResultDescription,
+}
 
 impl WriteText for AttemptWord<'_> {
-    ghost text = { λ a. styled a.0 (right_in 12 (attempt_words a.1 (short_word a.2.now))) };
+    ghost text = { λ a. styled a.style (right_in 12 (attempt_words a.attempt (short_word a.failed.now))) };
 
     fn write_to<W: WriteStr>(&self, w: &mut W) -> Result<(), WriteFault> {
-        let AttemptWord(style, attempt, failed) = *self;
         let mut signal = Buffer::new();
-        let word = spaced_short_status_str(failed, &mut signal);
-        let mut number = Buffer::new();
-        let number = number.format(attempt);
-        let words = RightJoined(12, "TRY ", number, word.front, word.back);
-        Painted(style, words).write_to(w)
+        let word = spaced_short_status_str(self.failed, &mut signal);
+        let words = ("TRY ", Decimal(self.attempt as u128), word.front, word.back);
+        Painted(self.style, Aligned(12, words)).write_to(w)
     }
 }
 
@@ -139,10 +145,8 @@ impl WriteText for DelayWord {
 
     fn write_to<W: WriteStr>(&self, w: &mut W) -> Result<(), WriteFault> {
         let DelayWord(style, retry_data) = *self;
-        let mut next = Buffer::new();
-        let mut total = Buffer::new();
-        let next = next.format(retry_data.attempt as u64 + 1);
-        let total = total.format(retry_data.total_attempts);
-        Painted(style, RightJoined(12, "DELAY ", next, "/", total)).write_to(w)
+        let next = Decimal(retry_data.attempt as u128 + 1);
+        let total = Decimal(retry_data.total_attempts as u128);
+        Painted(style, Aligned(12, ("DELAY ", next, "/", total))).write_to(w)
     }
 }

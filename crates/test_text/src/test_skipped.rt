@@ -6,6 +6,7 @@ ghost use Rattle.{test_text.specs.TestSkipped.test_skipped_text};
 use run_model::level::StatusLevel;
 use run_model::name::TestInstanceId;
 use run_model::stress::StressIndex;
+use styled_text::text::{Aligned, Painted};
 use text_parts::instance::{CountedInstance, UntimedEnd};
 use text_parts::settings::Settings;
 use writers::text::WriteText;
@@ -51,6 +52,7 @@ pub fn write_skip_line<W: WriteStr>(
 ) -> Result<(), WriteFault>
     ensures { Puts W.meaning w.old (paint settings.now.styles (skip_line test.entry)) result w.new }
 {
-    settings.styles.skip.write_right(w, 12, "SKIP")?;
-    UntimedEnd(&settings.styles, &test).write_to(w)
+    let styles = &settings.styles;
+    let word = Painted(styles.skip, Aligned(12, "SKIP"));
+    (word, UntimedEnd(styles, &test)).write_to(w)
 }

@@ -13,6 +13,7 @@ use run_model::status::RetryData;
 use run_model::stress::StressIndex;
 use run_model::time::Nanos;
 use styled_text::style::{Style, Styles};
+use styled_text::text::{Aligned, Painted};
 use text_parts::instance::InstanceEnd;
 use text_parts::settings::Settings;
 use unit_report::formatters::DisplaySlowDuration;
@@ -71,9 +72,14 @@ impl WriteText for SlowWord {
     fn write_to<W: WriteStr>(&self, w: &mut W) -> Result<(), WriteFault> {
         let SlowWord(style, attempt) = *self;
         if attempt > 1 {
-            Try(style, attempt, "SLOW").write_to(w)
+            Try {
+                style,
+                attempt,
+                word: "SLOW",
+            }
+            .write_to(w)
         } else {
-            style.write_right(w, 12, "SLOW")
+            Painted(style, Aligned(12, "SLOW")).write_to(w)
         }
     }
 }
@@ -91,9 +97,14 @@ impl WriteText for TerminatingWord<'_> {
         let TerminatingWord(settings, retry_data) = *self;
         let style = terminating_style(&settings.styles, retry_data);
         if has_number(settings, retry_data) {
-            Try(style, retry_data.attempt, "TRMNTG").write_to(w)
+            Try {
+                style,
+                attempt: retry_data.attempt,
+                word: "TRMNTG",
+            }
+            .write_to(w)
         } else {
-            style.write_right(w, 12, "TERMINATING")
+            Painted(style, Aligned(12, "TERMINATING")).write_to(w)
         }
     }
 }

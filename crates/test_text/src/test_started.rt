@@ -10,7 +10,7 @@ use run_model::name::TestInstanceId;
 use run_model::stats::RunStats;
 use run_model::status::RetryData;
 use run_model::stress::StressIndex;
-use styled_text::text::Right;
+use styled_text::text::{Aligned, Painted};
 use text_parts::instance::{CountedInstance, UntimedEnd};
 use text_parts::settings::Settings;
 use writers::text::{When, WriteText};
@@ -47,7 +47,10 @@ pub fn write_test_started<W: WriteStr>(
         instance,
     };
     let styles = &settings.styles;
-    let line = (Right(12, styles.pass, "START"), UntimedEnd(styles, &test));
+    let line = (
+        Painted(styles.pass, Aligned(12, "START")),
+        UntimedEnd(styles, &test),
+    );
     When(settings.shows_starts(), line).write_to(w)?;
     write_command_line(w, settings, command_line)
 }
@@ -73,7 +76,11 @@ pub fn write_test_retry_started<W: WriteStr>(
 {
     let test = settings.padded_instance(stress_index, instance);
     let styles = &settings.styles;
-    let word = Try(styles.retry, retry_data.attempt, "START");
+    let word = Try {
+        style: styles.retry,
+        attempt: retry_data.attempt,
+        word: "START",
+    };
     When(settings.shows_starts(), (word, UntimedEnd(styles, &test))).write_to(w)?;
     write_command_line(w, settings, command_line)
 }
@@ -90,7 +97,7 @@ fn write_command_line<W: WriteStr>(
     if !settings.verbose {
         return Ok(());
     }
-    (Right(20, settings.styles.count, "command"), ": ").write_to(w)?;
+    (Painted(settings.styles.count, Aligned(20, "command")), ": ").write_to(w)?;
     write_shell_words(w, command_line.words())?;
     "\n".write_to(w)
 }

@@ -85,8 +85,12 @@ fn write_unit_execute_status<W: WriteStr>(
     settings
         .unit_output
         .write_child_execution_output(&settings.styles, &spec, output, w)?;
-    // A pass has no such line, so none was slow.
-    let info = InfoResult(&settings.styles, false, outcome);
+    let info = InfoResult {
+        styles: &settings.styles,
+        // A pass has no such line, so none was slow.
+        is_slow: false,
+        outcome,
+    };
     let line = (info_line_start(kind), info, ")\n\n");
     When(show_finished_status_info_line(outcome), line).write_to(w)
 }

@@ -13,21 +13,33 @@ use styled_text::text::Toned;
 use writers::text::WriteText;
 use writers::write_str::{WriteFault, WriteStr};
 
-/// How an attempt ended, as in `failed with exit code 1`; the flag says that it was slow.
+/// How an attempt ended, as in `failed with exit code 1`.
 ///
 /// ```
-/// InfoResult(&styles, false, &ExecutionResultDescription::ExecFail).write_to(&mut out)?;
+/// let outcome = ExecutionResultDescription::ExecFail;
+/// InfoResult { styles: &styles, is_slow: false, outcome: &outcome }.write_to(&mut out)?;
 /// assert_eq!(out.as_str(), "failed to execute");
 /// ```
 #[derive(Clone, Copy)]
-pub struct InfoResult<'a>(pub &'a Styles, pub bool, pub &'a ExecutionResultDescription);
+pub struct InfoResult<'a> {
+    /// The styles of the words.
+    pub styles: &'a Styles,
+    /// Whether it was slow.
+    pub is_slow: bool,
+    /// Its result.
+    pub outcome: &'a ExecutionResultDescription,
+}
 
 impl WriteText for InfoResult<'_> {
-    ghost text = { λ r. paint r.0.now (info_text r.1 r.2.now) };
+    ghost text = { λ r. paint r.styles.now (info_text r.is_slow r.outcome.now) };
 
     #[tactic(auto, unfolding(crate::specs::InfoResult::passed_info, crate::specs::InfoResult::leak_failed_info, crate::specs::InfoResult::exec_fail_info, crate::specs::InfoResult::timeout_info))]
     fn write_to<W: WriteStr>(&self, w: &mut W) -> Result<(), WriteFault> {
-        let InfoResult(styles, is_slow, outcome) = *self;
+        let InfoResult {
+            styles,
+            is_slow,
+            outcome,
+        } = *self;
         match outcome {
             ExecutionResultDescription::Pass if is_slow => styles.skip.write(w, "passed"),
             ExecutionResultDescription::Pass => styles.pass.write(w, "passed"),

@@ -8,7 +8,7 @@ ghost use Rattle.text_parts.specs.StatsText.{passed_notes, progress_message, sum
 use run_model::stats::RunStats;
 use styled_text::style::{Style, Styles};
 use styled_text::text::{Number, Toned};
-use writers::text::{Unless, WriteText};
+use writers::text::{When, WriteText};
 use writers::write_str::{WriteFault, WriteStr};
 
 /// The style of a run, by whether something in it has failed.
@@ -37,8 +37,8 @@ impl WriteText for Counts<'_> {
     #[tactic(auto, unfolding(crate::specs::StatsText::summary_text))]
     fn write_to<W: WriteStr>(&self, w: &mut W) -> Result<(), WriteFault> {
         let Counts(styles, stats) = *self;
-        let passed = Counted(styles, styles.pass, stats.passed, "passed");
-        let skipped = Counted(styles, styles.skip, stats.skipped, "skipped");
+        let passed = Counted::new(styles, styles.pass, stats.passed, "passed");
+        let skipped = Counted::new(styles, styles.skip, stats.skipped, "skipped");
         let notes = PassedNotes(styles, stats);
         (passed, notes, ", ", FailedCounts(styles, stats), skipped).write_to(w)
     }
@@ -46,34 +46,56 @@ impl WriteText for Counts<'_> {
 
 /// How many units run, and all counts.
 #[derive(Clone, Copy)]
-pub struct Progress<'a>(pub &'a Styles, pub &'a RunStats, pub usize);
+pub struct Progress<'a> {
+    /// The styles of the counts.
+    pub styles: &'a Styles,
+    /// The counts.
+    pub stats: &'a RunStats,
+    /// How many units run.
+    pub running: usize,
+}
 
 impl WriteText for Progress<'_> {
-    ghost text = { λ p. paint p.0.now (progress_message p.1.now p.2) };
+    ghost text = { λ p. paint p.styles.now (progress_message p.stats.now p.running) };
 
     #[tactic(auto, unfolding(crate::specs::StatsText::progress_message))]
     fn write_to<W: WriteStr>(&self, w: &mut W) -> Result<(), WriteFault> {
-        let Progress(styles, stats, running) = *self;
-        let running = Counted(styles, styles.pass, running, "running");
-        (running, ", ", Counts(styles, stats)).write_to(w)
+        let styles = self.styles;
+        let running = Counted::new(styles, styles.pass, self.running, "running");
+        (running, ", ", Counts(styles, self.stats)).write_to(w)
     }
 }
 
 /// How many there are, and of what.
 #[derive(Clone, Copy)]
-pub struct Counted<'a>(pub &'a Styles, pub Style, pub usize, pub &'a str);
+pub struct Counted<'a> {
+    styles: &'a Styles,
+    style: Style,
+    count: usize,
+    word: &'a str,
+}
+
+impl<'a> Counted<'a> {
+    /// This many, and their word in a style.
+    pub fn new(styles: &'a Styles, style: Style, count: usize, word: &'a str) -> Counted<'a>
+        ensures { result ≡ record { styles = styles.entry; style = style; count = count; word = word.entry } }
+    {
+        Counted {
+            styles,
+            style,
+            count,
+            word,
+        }
+    }
+}
 
 impl WriteText for Counted<'_> {
-    ghost text = { λ c. paint c.0.now (counted_front c.2) ++ styled c.1 c.3.now };
+    ghost text = { λ c. paint c.styles.now (counted_front c.count) ++ styled c.style c.word.now };
 
     #[tactic(auto, unfolding(crate::specs::StatsText::counted_front))]
     fn write_to<W: WriteStr>(&self, w: &mut W) -> Result<(), WriteFault> {
-        let Counted(styles, style, count, word) = *self;
-        (
-            (Number(styles.count, count as u128), " "),
-            Toned(style, word),
-        )
-            .write_to(w)
+        let number = Number(self.styles.count, self.count as u128);
+        ((number, " "), Toned(self.style, self.word)).write_to(w)
     }
 }
 
@@ -93,10 +115,10 @@ impl WriteText for PassedNotes<'_> {
         let is_first = has_no_slow & has_no_flaky;
         let is_empty = has_no_slow & (has_no_flaky & has_no_leaky);
         (
-            PassedNote(styles, true, stats.passed_slow, "slow"),
-            PassedNote(styles, has_no_slow, stats.flaky, "flaky"),
-            PassedNote(styles, is_first, stats.leaky, "leaky"),
-            Unless(is_empty, ")"),
+            PassedNote::new(styles, true, stats.passed_slow, "slow"),
+            PassedNote::new(styles, has_no_slow, stats.flaky, "flaky"),
+            PassedNote::new(styles, is_first, stats.leaky, "leaky"),
+            When(!is_empty, ")"),
         )
             .write_to(w)
     }
@@ -104,17 +126,36 @@ impl WriteText for PassedNotes<'_> {
 
 // How many of the tests that passed are of a kind, if any: the first note begins with a parenthesis.
 #[derive(Clone, Copy)]
-struct PassedNote<'a>(&'a Styles, bool, usize, &'a str);
+struct PassedNote<'a> {
+    styles: &'a Styles,
+    is_first: bool,
+    count: usize,
+    word: &'a str,
+}
+
+impl<'a> PassedNote<'a> {
+    fn new(styles: &'a Styles, is_first: bool, count: usize, word: &'a str) -> PassedNote<'a>
+        ensures { result ≡ record { styles = styles.entry; is_first = is_first; count = count; word = word.entry } }
+    {
+        PassedNote {
+            styles,
+            is_first,
+            count,
+            word,
+        }
+    }
+}
 
 impl WriteText for PassedNote<'_> {
-    ghost text = { λ n. if n.2 == 0 then [] else paint n.0.now (passed_front n.1 n.2) ++ styled n.0.now.skip n.3.now };
+    ghost text = { λ n. if n.count == 0 then []
+        else paint n.styles.now (passed_front n.is_first n.count) ++ styled n.styles.now.skip n.word.now };
 
     #[tactic(auto, unfolding(crate::specs::StatsText::passed_front, crate::specs::StatsText::counted_front))]
     fn write_to<W: WriteStr>(&self, w: &mut W) -> Result<(), WriteFault> {
-        let PassedNote(styles, is_first, count, word) = *self;
-        let number = Number(styles.count, count as u128);
-        let front = (if is_first { " (" } else { ", " }, (number, " "));
-        Unless(count == 0, (front, Toned(styles.skip, word))).write_to(w)
+        let styles = self.styles;
+        let number = Number(styles.count, self.count as u128);
+        let front = (if self.is_first { " (" } else { ", " }, (number, " "));
+        When(self.count != 0, (front, Toned(styles.skip, self.word))).write_to(w)
     }
 }
 
@@ -135,16 +176,16 @@ impl WriteText for FailedCounts<'_> {
             Toned(styles.skip, "leaky"),
             ")",
         );
-        let failed = Counted(styles, styles.fail, stats.failed, "failed");
-        let exec_failed = Counted(styles, styles.fail, stats.exec_failed, "exec failed");
-        let timed_out = Counted(styles, styles.fail, stats.timed_out, "timed out");
+        let failed = Counted::new(styles, styles.fail, stats.failed, "failed");
+        let exec_failed = Counted::new(styles, styles.fail, stats.exec_failed, "exec failed");
+        let timed_out = Counted::new(styles, styles.fail, stats.timed_out, "timed out");
         (
-            Unless(
-                stats.failed == 0,
-                (failed, Unless(stats.leaky_failed == 0, leaky), ", "),
+            When(
+                stats.failed != 0,
+                (failed, When(stats.leaky_failed != 0, leaky), ", "),
             ),
-            Unless(stats.exec_failed == 0, (exec_failed, ", ")),
-            Unless(stats.timed_out == 0, (timed_out, ", ")),
+            When(stats.exec_failed != 0, (exec_failed, ", ")),
+            When(stats.timed_out != 0, (timed_out, ", ")),
         )
             .write_to(w)
     }

@@ -3,7 +3,7 @@ use Rattle.std.specs.Prelude.{Bool, true, false, not, ◌||◌, ◌==◌, [], �
 use Rattle.std.specs.Prelude.{if◌then◌else◌}
 use Rattle.styled_text.specs.Names.{option_and_then, indent, plain, styled, Text}
 use Rattle.styled_text.specs.declared.style.Styles.{Styles}
-use Rattle.run_model.specs.Names.{MessageAndCauses, Part, stdout_part, stderr_part, combined_part, UnitKind}
+use Rattle.run_model.specs.Names.{MessageAndCauses, Subslice, stdout_slice, stderr_slice, combined_slice, UnitKind}
 use Rattle.run_model.specs.Names.{decoded_text}
 use Rattle.run_model.specs.declared.output.ChildExecutionOutputDescription.{ChildExecutionOutputDescription}
 use Rattle.run_model.specs.declared.output.ChildExecutionOutputDescription.{TheVariants.Output, TheVariants.StartError}
@@ -51,17 +51,18 @@ not_captured_text s name =
     ++ (plain (codes " ") ++ (styled s.skip (codes "not captured") ++ plain (codes ")\n"))))
 
 -- the header of a stream, and the stream below it, indented
-unfoldable pub shown_stream : Styles → Text → OutputHeader → Text → Option Part → Text
+unfoldable pub shown_stream : Styles → Text → OutputHeader → Text → Option Subslice → Text
 shown_stream s margin header bytes highlight =
     header_text header ++ (plain (codes "\n") ++ indent margin true (captured s (decoded_text bytes) highlight))
 
 -- a captured stream is shown unless it is empty; the reporter chooses whether empty ones are shown too
-unfoldable pub present_stream : UnitOutputReporter → Styles → Text → OutputHeader → Text → Option Part → Text
+unfoldable pub present_stream : UnitOutputReporter → Styles → Text → OutputHeader → Text → Option Subslice → Text
 present_stream r s margin header bytes highlight =
     if r.display_empty_outputs || not (length bytes == 0) then shown_stream s margin header bytes highlight else []
 
 -- one of two streams. A replay says that it was not captured
-unfoldable pub stream_text : UnitOutputReporter → Styles → Text → OutputHeader → OutputName → Option Text → Option Part
+unfoldable pub stream_text : UnitOutputReporter → Styles → Text → OutputHeader → OutputName → Option Text
+    → Option Subslice
     → Text
 stream_text r s margin header name None highlight = if is_replay r.displayer_kind then not_captured_text s name else []
 stream_text r s margin header name (Some bytes) highlight = present_stream r s margin header bytes highlight
@@ -70,9 +71,10 @@ stream_text r s margin header name (Some bytes) highlight = present_stream r s m
 unfoldable pub both_streams : UnitOutputReporter → Styles → OutputLayout → Option Text → Option Text → Option Highlight
     → Text
 both_streams r s layout stdout stderr highlight =
-    stream_text r s layout.output_indent layout.stdout_header name.Stdout stdout (option_and_then stdout_part highlight)
+    stream_text r s layout.output_indent layout.stdout_header name.Stdout stdout
+    (option_and_then stdout_slice highlight)
     ++ stream_text r s layout.output_indent layout.stderr_header name.Stderr stderr
-    (option_and_then stderr_part highlight)
+    (option_and_then stderr_slice highlight)
 
 -- two streams. A replay says in one line that neither was captured
 unfoldable pub split_text : UnitOutputReporter → Styles → OutputLayout → Option Text → Option Text → Option Highlight
@@ -87,7 +89,7 @@ unfoldable pub child_output : UnitOutputReporter → Styles → OutputLayout →
     → Text
 child_output r s layout (Split stdout stderr) highlight = split_text r s layout stdout stderr highlight
 child_output r s layout (Combined output) highlight =
-    present_stream r s layout.output_indent layout.combined_header output (option_and_then combined_part highlight)
+    present_stream r s layout.output_indent layout.combined_header output (option_and_then combined_slice highlight)
 child_output r s layout NotLoaded highlight = []
 
 -- an error with its causes, indented below its header

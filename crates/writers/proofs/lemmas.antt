@@ -1,3 +1,4 @@
 pub mod Deliveries
 pub mod Flushes
 pub mod Steps
+pub mod When

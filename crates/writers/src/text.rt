@@ -10,7 +10,7 @@ use itoa::Buffer;
 /// A value that is written as a text, the same each time.
 ///
 /// ```
-/// (Decimal(2), " tests", Unless(is_quiet, ", of which none failed")).write_to(&mut out)?;
+/// (Decimal(2), " tests", When(is_verbose, ", of which none failed")).write_to(&mut out)?;
 /// assert_eq!(out.as_str(), "2 tests, of which none failed");
 /// ```
 pub trait WriteText {
@@ -117,19 +117,6 @@ impl<A: WriteText, B: WriteText, C: WriteText, D: WriteText, E: WriteText, F: Wr
         self.3.write_to(w)?;
         self.4.write_to(w)?;
         self.5.write_to(w)
-    }
-}
-
-/// A text, unless this is true.
-#[derive(Clone, Copy, Debug, Drop)]
-pub struct Unless<T>(pub bool, pub T);
-
-impl<T: WriteText> WriteText for Unless<T> {
-    ghost text = { λ u. if u.0 then [] else T.text u.1 };
-
-    #[inline(always)]
-    fn write_to<W: WriteStr>(&self, w: &mut W) -> Result<(), WriteFault> {
-        if self.0 { Ok(()) } else { self.1.write_to(w) }
     }
 }
 

@@ -5,30 +5,29 @@ use Rattle.scenes.specs.{Names.Options, Names.Fault, Names.HasNext, Names.Passes
 use Rattle.{scenes.specs.Names.LinesRead, scenes.specs.Read.StopsNext}
 use Rattle.{reporter_state.specs.declared.decider.OutputLoadDecider.OutputLoadDecider}
 use Rattle.{scenes.proofs.lemmas.ReadLines.begun_by}
-use Rattle.recorded.proofs.lemmas.{WholeLines.ended_lines-more}
-use Rattle.recorded.specs.Names.{event_replayed, IsNextLine, LoadsCall, counted, before_rest, needed_for}
+use Rattle.recorded.proofs.lemmas.WholeLines.{ended_lines-joined, ended_lines-none}
+use Rattle.recorded.specs.Names.{event_replayed, LoadsCall, counted, before_rest, needed_for}
 use Rattle.recorded.specs.Names.{line_replayed, needed, needed_by, needed_of, ended_lines, IsLeft}
-use Rattle.scene_fields.proofs.lemmas.Cuts.{split_on-lacks}
+use Rattle.{command_line.specs.Pieces.IsNextPiece, scene_fields.specs.Split.Lacks}
 use Rattle.scene_reader.specs.Names.{before_behind, before_next, call_by_names, event_line, IsLineFault, IsTaken}
 use Rattle.scene_reader.specs.Names.{line_value, LineFault, lines_before, LinesBefore, ParsedLine}
 use Rattle.scene_reader.specs.Names.{ParsedLines, PassesValue, PlacedOutput, recorded_line, ReportCall, RunLine}
-use Rattle.scene_reader.specs.Names.{SceneConfig, SceneEvent, split_on, Takes, with_line, with_made}
+use Rattle.scene_reader.specs.Names.{SceneConfig, SceneEvent, Takes, with_line, with_made}
 use Rattle.scene_reader.specs.SceneTexts.{ConfigLine, EventLine, NoEvent}
 use Rattle.command_line.specs.declared.fault.Fault.TheVariants as program
 
--- the next piece is the next line, or there is none
+-- the next piece has the next lines, or there are none
 module _ (total : ℕ) (options : Options) (recorded remaining rest : Option (List ℕ)) (count : ℕ) (piece : List ℕ)
     (before : ParsedLines) (lines : List RunLine)
     (left : IsLeft total options recorded remaining count [] before lines) where
   abbrev LeftOf : List (List ℕ) → List RunLine → Type 0
   LeftOf texts = IsLeft total options recorded rest count texts before
 
-  piece_left : (is_whole : Bool) → ((text : List ℕ) → remaining ≡ Some text → IsNextLine text is_whole piece rest)
-      → HasNext piece LeftOf lines is_whole
+  piece_left : (is_ended : Bool) → ((text : List ℕ) → remaining ≡ Some text → IsNextPiece text is_ended piece rest)
+      → HasNext piece LeftOf lines is_ended
   piece_left true next =
       let h = next left.text left.rest in
-      let same : ended_lines left.text ≡ split_on 10 piece ++ ended_lines h.0 = ap ended_lines h.2
-      ∙ ended_lines-more piece h.0 h.3 ∙ ap (λ ts. ts ++ ended_lines h.0) (sym (split_on-lacks 10 piece h.3)) in
+      let same = ap ended_lines h.2 ∙ ended_lines-joined piece h.0 in
       record {
         all = left.all;
         text = h.0;
@@ -39,22 +38,24 @@ module _ (total : ℕ) (options : Options) (recorded remaining rest : Option (Li
       }
   piece_left false next =
       let h = next left.text left.rest in
-      let none : lines ≡ [] = left.is ∙ ap (map (line_replayed options left.all)) h.0 in
+      let ended = ended_lines-none left.text (subst (Lacks 10) (sym h.0) h.1) in
+      let none : lines ≡ [] = left.is ∙ ap (map (line_replayed options left.all)) ended in
+      let empty = ended_lines-none [] tt in
       let still : LeftOf [] [] = record {
         all = left.all;
-        text = h.1.0;
+        text = [];
         outputs = left.outputs;
-        rest = h.1.1;
-        is = ap (map (line_replayed options left.all)) (sym h.1.2);
+        rest = h.2;
+        is = ap (map (line_replayed options left.all)) (sym empty);
         counts = left.counts
-            ∙ ap (λ ts. counted count (needed options (lines_before before) ts)) (h.0 ∙ sym h.1.2);
+            ∙ ap (λ ts. counted count (needed options (lines_before before) ts)) (ended ∙ sym empty);
       } in
       (inr (none, refl), subst (LeftOf []) (sym none) still, still)
 
   pub pieces_left : (result : Result Bool Fault)
-      → IfOk result (λ is_whole. (text : List ℕ) → remaining ≡ Some text → IsNextLine text is_whole piece rest)
+      → IfOk result (λ is_ended. (text : List ℕ) → remaining ≡ Some text → IsNextPiece text is_ended piece rest)
       → IfOk result (HasNext piece LeftOf lines)
-  pieces_left (Ok is_whole) next = piece_left is_whole next
+  pieces_left (Ok is_ended) next = piece_left is_ended next
   pieces_left (Err fault) next = tt
 
 -- what is before the line after one of this value

@@ -8,7 +8,8 @@ use Rattle.{recorded.proofs.lemmas.MarkedFields.marked}
 use Rattle.std.proofs.Math.Seq.{drop-append-add, get_or-append_seam, take-append_seam}
 use Rattle.std.proofs.lemmas.Str.{IsCharBoundary-after_ascii, IsCharBoundary-before_ascii, IsUtf8-append, IsUtf8-drop}
 use Rattle.std.proofs.lemmas.Str.{IsUtf8-from_ascii, IsUtf8-from_is_utf8, IsUtf8-take, is_utf8-from_IsUtf8}
-use Rattle.recorded.proofs.lemmas.WholeLines.{NoneHas, lacks-append, pieces}
+use Rattle.recorded.proofs.lemmas.WholeLines.{NoneHas, pieces}
+use Rattle.{command_line.proofs.lemmas.Pieces.lacks-append}
 use Rattle.recorded.proofs.lemmas.SpelledBytes.{field_lacks_feed, field_lacks_tab, field_utf8}
 use Rattle.recorded.specs.Names.{ended_lines, without_last, field_spelled, line_spelled, scene_spelled, tabbed}
 use Rattle.recorded.specs.Names.{text_of_lines}
@@ -91,7 +92,7 @@ lacks_parts [] r h = (tt, h.1)
 lacks_parts (c ∷ t) r h = let more = lacks_parts t r h.1 in ((h.0, more.0), more.1)
 
 pub line_lacks_feed : (all t : List ℕ) → Lacks 10 t → Lacks 10 (line_spelled all t)
-line_lacks_feed all t h = line_good all (Lacks 10) lacks_parts (λ t r h k. lacks-append t (9 ∷ r) h (refl, k))
+line_lacks_feed all t h = line_good all (Lacks 10) lacks_parts (λ t r h k. lacks-append 10 t (9 ∷ r) h (refl, k))
     (field_lacks_feed all) t h
 
 -- whether a line is skipped depends on its first field, if that does not change

@@ -13,7 +13,7 @@ use std::fmt;
 use std::fmt::Formatter;
 use styled_text::repeated::write_repeated;
 use styled_text::style::{ListStyles, Style};
-use styled_text::text::{Right, Toned};
+use styled_text::text::{Aligned, Painted, Toned};
 use writers::show_written;
 use writers::text::WriteText;
 use writers::write_str::{WriteFault, WriteStr};
@@ -212,7 +212,12 @@ impl WriteText for DisplayStressIndex {
             Some(total) => {
                 let mut buffer = Buffer::new();
                 let total = buffer.format(total.get());
-                (Right(total.len(), style, number), "/", Toned(style, total)).write_to(w)
+                (
+                    Painted(style, Aligned(total.len(), number)),
+                    "/",
+                    Toned(style, total),
+                )
+                    .write_to(w)
             }
         }
     }
@@ -332,8 +337,7 @@ impl WriteText for DisplayCounterIndex {
                 let current = current_buffer.format(current);
                 let mut total_buffer = Buffer::new();
                 let total = total_buffer.format(total);
-                let current = Right(total.len(), Style::Plain, current);
-                ("(", current, "/", total, ")").write_to(w)
+                ("(", Aligned(total.len(), current), "/", total, ")").write_to(w)
             }
             DisplayCounterIndex::Padded { character, width } => {
                 "(".write_to(w)?;

@@ -369,65 +369,47 @@ pub gathered_kept : (options : Options) (start : Texts) (all : List RunLine)
     × IsGatheredRun options all (record { reporter = g.reporter; rest = r }))
     ⊎ ((fault : Fault) × (after.refused ≡ Some fault) × IsRefusal options all fault))
     × IfErr result (IsRefusal options all)
-gathered_kept options start all Left read g judge after empty f same held result keeps = by f.judged result keeps
+gathered_kept options start all Left read g judge after empty f same held result keeps = by result keeps
   where
-    by : ((g.refused ≡ None) × HasFollowed options start f.run g.reporter)
-        ⊎ ((fault : Fault) × (g.refused ≡ Some fault) × IsFirstRefused options f.at.front f.run fault)
-        → (r : Result KeptRun Fault)
+    begun : Judged (judges options options.file.now) f.at.front f.run judge
+    begun = elim f.judged [
+      | inl (none, good) ↦ inl (
+        held ∙ none,
+        (
+          same ∙ good.0.0,
+          record {
+            calls = good.1.reported.calls;
+            of_run = good.1.reported.of_run;
+            accepted = good.1.reported.accepted;
+          },
+        ),
+      )
+      | inr (fault, is, first) ↦ inr (fault, held ∙ is, first)
+    ]
+
+    by : (r : Result KeptRun Fault)
         → KeepsAll (λ (old : Judge) f. JudgesCall old) options.file.now read f.run f.lines judge r after
         → IfOk r (λ r. ((after.refused ≡ None)
         × IsGatheredRun options all (record { reporter = g.reporter; rest = r }))
         ⊎ ((fault : Fault) × (after.refused ≡ Some fault) × IsRefusal options all fault))
         × IfErr r (IsRefusal options all)
-    by (inl (none, good)) (Ok r) k = (
-      elim (kept_judged options all f.run f.lines read f.at f.before f.stays judge after
-          (inl (
-            held ∙ none,
-            (
-              same ∙ good.0.0,
-              record {
-                calls = good.1.reported.calls;
-                of_run = good.1.reported.of_run;
-                accepted = good.1.reported.accepted;
-              },
-            ),
-          )) (Ok r) k).0 [
-            | inl (accepted, kept) ↦ inl (
-              accepted,
-              record { run = f.run; start = start; empty = empty; gathered = good; kept = kept },
-            )
-            | inr refused ↦ inr refused
-          ],
+    by (Ok r) k = (
+      elim (kept_judged options all f.run f.lines read f.at f.before f.stays judge after begun (Ok r) k).0 [
+        | inl (accepted, kept) ↦ elim f.judged [
+          | inl (none, good) ↦ inl (
+            accepted,
+            record { run = f.run; start = start; empty = empty; gathered = good; kept = kept },
+          )
+          | inr (fault, is, first) ↦ absurd
+              (let wrong = sym (none_refused options f.run f.lines read judge after r k accepted) ∙ held ∙ is in cc)
+        ]
+        | inr refused ↦ inr refused
+      ],
       tt,
     )
-    by (inr (fault, is, first)) (Ok r) k = (
-      elim (kept_judged options all f.run f.lines read f.at f.before f.stays judge after
-          (inr (fault, held ∙ is, first)) (Ok r) k).0 [
-            | inl (accepted, kept) ↦ absurd
-                (let wrong = sym (none_refused options f.run f.lines read judge after r k accepted) ∙ held ∙ is in cc)
-            | inr refused ↦ inr refused
-          ],
+    by (Err e) k = (
       tt,
-    )
-    by (inl (none, good)) (Err e) k = (
-      tt,
-      (kept_judged options all f.run f.lines read f.at f.before f.stays judge after
-          (inl (
-            held ∙ none,
-            (
-              same ∙ good.0.0,
-              record {
-                calls = good.1.reported.calls;
-                of_run = good.1.reported.of_run;
-                accepted = good.1.reported.accepted;
-              },
-            ),
-          )) (Err e) k).1,
-    )
-    by (inr (fault, is, first)) (Err e) k = (
-      tt,
-      (kept_judged options all f.run f.lines read f.at f.before f.stays judge after
-          (inr (fault, held ∙ is, first)) (Err e) k).1,
+      (kept_judged options all f.run f.lines read f.at f.before f.stays judge after begun (Err e) k).1,
     )
 
 -- of the report of a run a beginning was sent to one of two devices; the other one stays as it is

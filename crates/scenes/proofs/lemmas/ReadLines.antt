@@ -2,7 +2,8 @@
 -- `follow_to`).
 use Rattle.std.proofs.Common.{bytes_eq, codes, if◌then◌else◌, ◌≡◌, ℕ, ◌+◌, true, false, Bool, List, [], ◌∷◌, ◌++◌}
 use Rattle.std.proofs.Common.{Result, Ok, Err, length, map, refl, sym, ap, ◌∙◌, subst, arith, append-nil, append_assoc}
-use Rattle.std.proofs.Common.{inl, inr, Option, None, Some, ◌==◌, ◌-◌, ◌<◌, drop, take}
+use Rattle.std.proofs.Common.{inl, inr, Option, None, Some, not, ◌==◌, ◌-◌, ◌<◌, drop, take}
+use Rattle.std.proofs.lemmas.Bool.Decides.{nat_tests}
 use Rattle.scenes.proofs.Common.{AllRead, AtLine, is_begun, length-append, line_value, LineFault, lines_before}
 use Rattle.scenes.proofs.Common.{ParsedLines, RunLine, SceneConfig, SceneEvent, with_line}
 use Rattle.scenes.proofs.Common.{all_append, AreLeft, AreLeftOf, cases_Bool, false≢true, IsNextPiece, map-append}
@@ -29,7 +30,7 @@ onto_more c n [] ys h = absurd (omega (arith, h))
 onto_more c n (x ∷ xs) ys h = refl
 
 -- the lines of two texts that a line feed parts
-split_on_joined : (front back : List ℕ) → split_on 10 (front ++ 10 ∷ back) ≡ split_on 10 front ++ split_on 10 back
+pub split_on_joined : (front back : List ℕ) → split_on 10 (front ++ 10 ∷ back) ≡ split_on 10 front ++ split_on 10 back
 unfolding split_on
 split_on_joined [] back = refl
 split_on_joined (c ∷ t) back = elim (cases_Bool (c == 10)) [
@@ -49,26 +50,44 @@ IsCut left piece remaining = (others : List RunLine) × (left ≡ text_lines pie
 
 cut : (left : List RunLine) (rest piece : List ℕ) (remaining : Option (List ℕ)) → AreLeft left rest
     → IsNextPiece rest true piece remaining → IsCut left piece remaining
-cut left rest piece remaining (inl lines) (more, remains, inl feed) =
+cut left rest piece remaining (inl lines) (more, remains, feed) =
     (text_lines more, lines ∙ ap text_lines feed ∙ lines_joined piece more, (more, remains, inl refl))
-cut left rest piece remaining (inl lines) (more, remains, inr end) =
-    ([], lines ∙ ap text_lines end.0 ∙ sym (append-nil (text_lines piece)), (more, remains, inr (refl, end.1)))
-cut left rest piece remaining (inr none) (more, remains, inl feed) = absurd
+cut left rest piece remaining (inr none) (more, remains, feed) = absurd
     (omega (arith, ap length (sym none.1 ∙ feed), length-append piece (10 ∷ more)))
-cut left rest piece remaining (inr none) (more, remains, inr end) = absurd
-    (omega (arith, ap length (sym none.1 ∙ end.0), end.2))
+
+no_elements : (t : List ℕ) → length t ≡ 0 → t ≡ []
+no_elements [] none = refl
+no_elements (c ∷ t) none = absurd (omega (arith, none))
 
 -- what the next piece of a text has
-pub piece_read : (remaining after : Option (List ℕ)) (piece : List ℕ) (lines : List RunLine) (has : Bool)
-    → AreLeftBehind [] remaining lines
-    → ((text : List ℕ) → remaining ≡ Some text → IsNextPiece text has piece after)
-    → HasNext piece (λ texts. AreLeftBehind texts after) lines has
-piece_read remaining after piece lines true h next = cut lines h.2.0 piece after
-    (subst (λ ls. AreLeft ls h.2.0) (sym h.1) h.2.2) (next h.2.0 h.2.1)
-piece_read remaining after piece lines false h next =
-    let none = next h.2.0 h.2.1 in
-    let last : AreLeft lines [] = subst (AreLeft lines) none.0 (subst (λ ls. AreLeft ls h.2.0) (sym h.1) h.2.2) in
-    (last, (lines, refl, ([], none.1, last)), ([], refl, ([], none.1, inr (refl, refl))))
+module _ (remaining after : Option (List ℕ)) (piece : List ℕ) (lines : List RunLine)
+    (h : AreLeftBehind [] remaining lines) where
+  abbrev Has : Bool → Type 0
+  Has = HasNext piece (λ texts. AreLeftBehind texts after) lines
+
+  left_here : AreLeft lines h.2.0
+  left_here = subst (λ ls. AreLeft ls h.2.0) (sym h.1) h.2.2
+
+  pub ended_read : ((text : List ℕ) → remaining ≡ Some text → IsNextPiece text true piece after) → Has true
+  ended_read next = cut lines h.2.0 piece after left_here (next h.2.0 h.2.1)
+
+  -- the last piece, which is a line unless it is empty
+  pub last_read : (no_byte : Bool) → no_byte ≡ (length piece == 0)
+      → ((text : List ℕ) → remaining ≡ Some text → IsNextPiece text false piece after) → Has (not no_byte)
+  last_read true size next =
+      let last : piece ≡ [] = no_elements piece (grind (arith, nat_tests, size)) in
+      let is = next h.2.0 h.2.1 in
+      let none : AreLeft lines [] = subst (AreLeft lines) (is.0 ∙ last) left_here in
+      (none, (lines, refl, ([], is.2, none)), ([], refl, ([], is.2, inr (refl, refl))))
+  last_read false size next =
+      let is = next h.2.0 h.2.1 in elim left_here [
+        | inl whole ↦ (
+          [],
+          whole ∙ ap text_lines is.0 ∙ sym (append-nil (text_lines piece)),
+          ([], is.2, inr (refl, refl)),
+        )
+        | inr none ↦ absurd (grind (arith, nat_tests, size, ap length (sym none.1 ∙ is.0)))
+      ]
 
 -- what follows the first line of what is left of a piece stands at its end
 joined_more : (line : List ℕ) (parts : List (List ℕ)) → 0 < length parts

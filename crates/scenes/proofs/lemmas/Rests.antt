@@ -1,12 +1,16 @@
--- The rest of a run whose report was gathered so far: it is reported behind what was delivered (for `report_rest`).
-use Rattle.std.proofs.Common.{◌≡◌, ℕ, List, [], Option, None, Result, Ok, Err, IfErr, OnOk, String, inr}
+-- The rest of a run whose report was gathered so far: it is reported behind what was delivered, or in memory (for
+-- `report_rest`, `report_text`).
+use Rattle.std.proofs.Common.{◌≡◌, ◌∙◌, ℕ, List, [], ◌++◌, Option, None, Some, Result, Ok, Err, IfErr, OnOk}
+use Rattle.std.proofs.Common.{String, ap, inr, string_bytes}
 use Rattle.{std.specs.declared.alloc.Global.Global}
 use Rattle.std.specs.Prelude.{⊤}
 use Rattle.scenes.proofs.Common.{Begins, buffer_meaning, device, Fault, Follows, Options, ParsedLines, Prints, RunLine}
-use Rattle.scenes.proofs.Common.{SceneReporter, Store, store_for, string_meaning, Text, TextBuffer, WriteFailed}
+use Rattle.scenes.proofs.Common.{report_of, SceneReporter, Store, store_for, string_meaning, Text, TextBuffer}
+use Rattle.{command_line.specs.declared.fault.Fault.TheVariants.WriteFailed}
 use Rattle.styled_text.specs.Names.{BufferStops, buffer_laws, WriteFault}
 use Rattle.writers.specs.StringWriter.{string_laws}
 use Rattle.scenes.specs.declared.kept.{KeptRun.KeptRun}
+use Rattle.scenes.specs.Gathered.{Texts}
 use Rattle.scenes.specs.{Judged.fault_in_memory, Kept.IsKeptBehind, ParsedScenes.OfLines, Prints.HasReport}
 use Rattle.scenes.specs.{Read.PassesAll, SceneReporter.IsSetFor}
 use Rattle.scenes.proofs.lemmas.{Accepted.stops_in_memory, Gathered.report_lost, Kept.said_again, Prints.calls_so}
@@ -75,3 +79,24 @@ module _ (options : Options) (off : store_for options ≡ None) (all : List RunL
   gathered_lost text has b e lost = said_again all kept.again kept.same
       (stops_in_memory options (contents a.writer, held) (contents b.writer, held) kept.again kept.accepted WriteFailed
       (stopped kept.rest.at (inr (report_lost options off run text has contents a b empty held e lost))))
+
+-- into memory it was reported whole
+pub rest_gathered : (options : Options) (off : store_for options ≡ None) (all : List RunLine) (run : ParsedLines)
+    (r : KeptRun) (kept : IsKeptBehind options all run r) (start : Texts) → string_bytes start.0 ≡ []
+    → (now next : SceneReporter (String Global) (String Global)) → IsSetFor options run.config now
+    → Follows string_meaning string_meaning options start now run
+    → PassesAll (takes string_meaning string_meaning) options.file.now (λ after rest. ⊤) r.begin.next run
+    kept.rest.lines now (Ok tt) next
+    → OfLines all (Prints device device options (Some [], None) (Some (string_bytes next.reporter.writer.now), None))
+rest_gathered options off all run r kept start empty now next set follows passes =
+    let followed = passed_behind string_laws string_laws options start now next kept.again run kept.rest.lines
+    r.begin.next kept.rest.at kept.rest.stays set follows (λ after rest. ⊤) (Ok tt) passes in
+    said_again all kept.again kept.same (record {
+      run = followed.0.run;
+      spelled = followed.0.spelled;
+      holds = calls_so
+          (λ calls h.
+          alone_whole options off _ _ None followed.0.run.config calls
+          (h.0.printed.grown ∙ ap (λ x. x ++ report_of options followed.0.run.config calls) empty))
+          followed.0.holds;
+    })

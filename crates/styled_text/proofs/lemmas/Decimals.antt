@@ -1,10 +1,10 @@
--- Texts of digits and of spaces (for `write_decimals`, `write_seconds_right`, `write_spaces`, `columns_left` and
+-- Texts of digits and of spaces (for `write_decimals`, `write_seconds_right`, `write_spaces`, `CountedText` and
 -- others).
 use Rattle.std.proofs.Common.{◌≡◌, ◌≤◌, inl, inr, sym, ℕ, zero, suc, ◌+◌, ◌-◌, ◌/◌, ◌%◌, ◌^◌, ◌<◌, [], ◌∷◌, ◌++◌}
 use Rattle.std.proofs.Common.{length, ap, ◌∙◌, arith, length-append, append_assoc, codes, lit<, refl, IsUtf8}
 use Rattle.styled_text.specs.Names.{decimal, AllByRecursion, IsAscii, IsUtf8, chars, Text, spaces, right_in}
 use Rattle.styled_text.specs.Names.{digit_column, rounded, last_digits, with_point, seconds}
-use Rattle.std.proofs.lemmas.Str.{chars-IsAscii, IsAscii-append, IsUtf8-from_ascii, chars-append}
+use Rattle.std.proofs.lemmas.Str.{chars-append, chars-IsAscii, IsAscii-append, IsUtf8-append, IsUtf8-from_ascii}
 use Rattle.std.proofs.lemmas.{Bool.cases_lt, Bool.Decides.nat_tests, List.replicate-append-replicate}
 use Rattle.std.proofs.lemmas.Fmt.{IsAscii-decimal_wide, decimal_digit, decimal_step}
 
@@ -150,9 +150,12 @@ spaces-split n k within = let e : n
 pub spaces_first : (n k : ℕ) (t : Text) → t ≡ spaces k → k ≤ n → spaces n ≡ t ++ spaces (n - k)
 spaces_first n k t is within = spaces-split n k within ∙ ap (λ u. u ++ spaces (n - k)) (sym is)
 
--- the characters of four texts
-pub joined_columns : (a b c d : Text) → IsUtf8 a → IsUtf8 b → IsUtf8 c
-    → length (chars (a ++ (b ++ (c ++ d)))) ≡ length (chars a) + (length (chars b)
-    + (length (chars c) + length (chars d)))
-joined_columns a b c d p q r = rw (chars-append a (b ++ (c ++ d)) p, chars-append b (c ++ d) q, chars-append c d r)
-    (simp length-append)
+-- two texts, one behind the other
+pub both_utf8 : (a b : Text) → IsUtf8 a → IsUtf8 b → IsUtf8 (a ++ b)
+both_utf8 = IsUtf8-append
+
+pub both_columns : (n : ℕ) (a b : Text) → IsUtf8 a
+    → n - length (chars a) - length (chars b) ≡ n - length (chars (a ++ b))
+both_columns n a b p = omega (arith, ap length (chars-append a b p), length-append (chars a) (chars b))
+
+pub ruleset both_laws = (both_utf8, both_columns)

@@ -103,61 +103,64 @@ fn every_setting_comes_to_its_row(rt: HostRuntime) {
     }
 }
 
+const SHOW_PROGRESS: ShowProgress = ShowProgress::Auto {
+    suppress_success: true,
+};
+
+const SUPPRESSING: DisplayConfig = DisplayConfig {
+    show_progress: SHOW_PROGRESS,
+    no_capture: false,
+    status_level: None,
+    final_status_level: None,
+    profile_status_level: StatusLevel::Pass,
+    profile_final_status_level: FinalStatusLevel::Flaky,
+};
+
+#[test]
+fn overrides_are_the_levels_of_the_profile_too(rt: HostRuntime) {
+    let (leak, final_pass) = (StatusLevel::Leak, FinalStatusLevel::Pass);
+    let overridden = DisplayConfig::with_overrides(SHOW_PROGRESS, false, leak, final_pass);
+    let expected = DisplayConfig {
+        status_level: Some(leak),
+        final_status_level: Some(final_pass),
+        profile_status_level: leak,
+        profile_final_status_level: final_pass,
+        ..SUPPRESSING
+    };
+    assert!(rt; overridden == expected);
+    let want = resolved(ProgressDisplay::Bar, leak, final_pass);
+    assert!(rt; overridden.resolve(true, false) == want);
+}
+
 #[test]
 fn levels_that_are_asked_for_win(rt: HostRuntime) {
-    let show_progress = ShowProgress::Auto {
-        suppress_success: true,
-    };
-    let suppressing = DisplayConfig {
-        show_progress,
-        no_capture: false,
-        status_level: None,
-        final_status_level: None,
-        profile_status_level: StatusLevel::Pass,
-        profile_final_status_level: FinalStatusLevel::Flaky,
-    };
     let asking_for_all = DisplayConfig {
         status_level: Some(StatusLevel::All),
-        ..suppressing
+        ..SUPPRESSING
     };
     let uncaptured = DisplayConfig {
         show_progress: ShowProgress::Running,
         no_capture: true,
         status_level: Some(StatusLevel::Fail),
-        ..suppressing
+        ..SUPPRESSING
     };
-    let (leak, final_pass) = (StatusLevel::Leak, FinalStatusLevel::Pass);
-    let overridden = DisplayConfig::with_overrides(show_progress, false, leak, final_pass);
-    let expected = DisplayConfig {
-        show_progress,
-        no_capture: false,
-        status_level: Some(leak),
-        final_status_level: Some(final_pass),
-        profile_status_level: leak,
-        profile_final_status_level: final_pass,
-    };
-    assert!(rt; overridden == expected);
-    let (bar, counter) = (ProgressDisplay::Bar, ProgressDisplay::Counter);
+    let (bar, nothing) = (ProgressDisplay::Bar, FinalStatusLevel::None);
     let (pass, flaky) = (StatusLevel::Pass, FinalStatusLevel::Flaky);
-    let nothing = FinalStatusLevel::None;
+    let slow = resolved(bar, StatusLevel::Slow, nothing);
+    let all = resolved(bar, StatusLevel::All, nothing);
     for (config, is_ci, want) in [
+        (SUPPRESSING, false, slow),
         (
-            suppressing,
-            false,
-            resolved(bar, StatusLevel::Slow, nothing),
+            SUPPRESSING,
+            true,
+            resolved(ProgressDisplay::Counter, pass, flaky),
         ),
-        (suppressing, true, resolved(counter, pass, flaky)),
-        (
-            asking_for_all,
-            false,
-            resolved(bar, StatusLevel::All, nothing),
-        ),
+        (asking_for_all, false, all),
         (
             uncaptured,
             false,
             resolved(ProgressDisplay::None, pass, flaky),
         ),
-        (overridden, false, resolved(bar, leak, final_pass)),
     ] {
         assert!(rt; config.resolve(true, is_ci) == want);
     }

@@ -6,7 +6,7 @@ use Rattle.styled_text.specs.Names.{AllByRecursion, flat_map, without_trailing_n
 use Rattle.styled_text.specs.Names.{visible_after, visible, HasNoEscape, highlight_end, indent, plain, styles_of}
 use Rattle.styled_text.specs.Names.{reset_color, style_suffix, Text, onto_first_line, whole_lines, without_end_spaces}
 use Rattle.report_words.specs.Names.{Style, IsColourPair, HoldsIf}
-use Rattle.{std.proofs.lemmas.Bool.cases_Bool, run_model.specs.Names.Part, run_model.specs.Names.decoded_text}
+use Rattle.{std.proofs.lemmas.Bool.cases_Bool, run_model.specs.Names.Subslice, run_model.specs.Names.decoded_text}
 use Rattle.unit_report.specs.Captured.{plain_output, reset_output, highlighted_output, is_valid, highlight_stop}
 use Rattle.unit_report.specs.Captured.{highlighted_by, coloured_output, captured}
 use Rattle.unit_report.specs.{HighlightedLines.body_len, HighlightedLines.highlighted_line}
@@ -162,7 +162,7 @@ ended-parts s front lit back a b d inside = record {
     assoc_five : (p q r x y z : Text) → p ++ (q ++ (r ++ (x ++ (y ++ z)))) ≡ (p ++ (q ++ (r ++ (x ++ y)))) ++ z
     assoc_five p q r x y z = simp append_assoc refl
 
-ended-highlighted : (s : Style) (t : Text) (h : Part) → HasNoEscape t → IsInside t h → is_valid t h ≡ true
+ended-highlighted : (s : Style) (t : Text) (h : Subslice) → HasNoEscape t → IsInside t h → is_valid t h ≡ true
     → IsEndedColour (highlighted_by s t h) (plain_output t)
 ended-highlighted s t h free inside valid =
     let front = take h.start t in let lit = take (highlight_end h.bytes) (drop h.start t) in let back = drop
@@ -178,7 +178,7 @@ ended-highlighted s t h free inside valid =
     (free-drop (highlight_stop h) t free) some)
 
 -- the visible part of a captured output in colour is the plain one
-coloured-captured : (t : Text) (o : Option Part) → HasNoEscape t → HoldsIf (IsInside t) o
+coloured-captured : (t : Text) (o : Option Subslice) → HasNoEscape t → HoldsIf (IsInside t) o
     → IsEndedColour (captured (styles_of true) t o) (captured (styles_of false) t o)
 unfolding captured coloured_output
 coloured-captured t None free inside = ended-reset t free
@@ -188,12 +188,12 @@ coloured-captured t (Some h) free inside = elim (cases_Bool (is_valid t h)) [
 ]
 
 -- the plain one holds no escape character, whatever the output and its highlight are
-plain-captured : (t : Text) (o : Option Part) → HasNoEscape (captured (styles_of false) t o)
+plain-captured : (t : Text) (o : Option Subslice) → HasNoEscape (captured (styles_of false) t o)
 unfolding captured plain_output
 plain-captured t o = free_both (without_trailing_newline (visible t)) (10 ∷ [])
     (free-without_trailing_newline (visible t) (free-visible t)) refl
 
-pub ended-captured : (k : Bool) (bytes : Text) (o : Option Part) → IsPlainStream k o bytes
+pub ended-captured : (k : Bool) (bytes : Text) (o : Option Subslice) → IsPlainStream k o bytes
     → IsEndedColourPair k (captured (styles_of true) (decoded_text bytes) o) (captured (styles_of false)
     (decoded_text bytes) o)
 ended-captured true bytes o h = record {

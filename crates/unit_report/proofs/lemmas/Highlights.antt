@@ -2,14 +2,14 @@
 use Rattle.std.proofs.Common.{◌≡◌, ℕ, true, false, ◌==◌, ◌&&◌, Bool, refl, ◌∙◌, arith, drop, drop-drop}
 use Rattle.unit_report.specs.Captured.{ends_character, highlight_stop, is_valid}
 use Rattle.{std.proofs.lemmas.Bool.Decides.nat_tests, std.proofs.lemmas.Str.IsCharBoundary-from_rest}
-use Rattle.{run_model.specs.Outputs.Part}
+use Rattle.{run_model.specs.Outputs.Subslice}
 use Rattle.styled_text.specs.Names.{starts_with, IsCharBoundary, highlight_end, Text}
 
 boundary-ends : (n : ℕ) (t : Text) → IsCharBoundary t n → ends_character n t ≡ true
 boundary-ends n t (l, b) = grind (arith, nat_tests)
 
 -- a text and a part of it
-module _ (t : Text) (h : Part) where
+module _ (t : Text) (h : Subslice) where
   pub part_absent : starts_with ◌==◌ (drop h.start t) h.bytes ≡ false → is_valid t h ≡ false
   part_absent e = rw e (none (ends_character h.start t))
     where

@@ -3,7 +3,7 @@ use Rattle.std.proofs.Common.{◌≡◌, ℕ, Bool, true, false, refl, List, [],
 use Rattle.styled_text.specs.Names.{AllByRecursion, flat_map, option_and_then, Text, HasNoEscape, styles_of}
 use Rattle.report_words.specs.Names.{Style, Styles, IsColourPair, EndsLine, drawn_given, words, ◌⧺◌, HoldsIf}
 use Rattle.report_words.specs.Names.{IsPlainChain}
-use Rattle.run_model.specs.Names.{MessageAndCauses, Part, stdout_part, stderr_part}
+use Rattle.run_model.specs.Names.{MessageAndCauses, Subslice, stdout_slice, stderr_slice}
 use Rattle.run_model.specs.{declared.output.ChildOutputDescription.ChildOutputDescription}
 use Rattle.run_model.specs.{declared.output.Highlight.Highlight, declared.output.LiveSpec.LiveSpec}
 use Rattle.run_model.specs.declared.output.ChildExecutionOutputDescription.{ChildExecutionOutputDescription}
@@ -83,21 +83,22 @@ colour_pair-not_captured_text k n = search (colour_pairs, free-output_name_text)
 
 module _ (k : Bool) (margin : Text) (free : HasNoEscape margin) (blank : IsBlank margin) (r : UnitOutputReporter)
     (h j : OutputHeader) (header : IsColourPair k (header_text h) (header_text j)) where
-  colour_pair-shown_stream : (bytes : Text) (o : Option Part) → IsPlainStream k o bytes
+  colour_pair-shown_stream : (bytes : Text) (o : Option Subslice) → IsPlainStream k o bytes
       → IsColourPair k (shown_stream (styles_of true) margin h bytes o) (shown_stream (styles_of false) margin j bytes
       o)
   unfolding shown_stream
   colour_pair-shown_stream bytes o p = let shown = colour_pair-indent_ended k margin _ _ free blank
       (ended-captured k bytes o p) in colour_pair-append k _ _ _ _ header (search colour_pairs)
 
-  colour_pair-present_stream : (bytes : Text) (o : Option Part) → IsPlainStream k o bytes
+  colour_pair-present_stream : (bytes : Text) (o : Option Subslice) → IsPlainStream k o bytes
       → IsColourPair k (present_stream r (styles_of true) margin h bytes o) (present_stream r (styles_of false) margin
       j bytes o)
   unfolding present_stream
   colour_pair-present_stream bytes o p = colour_pair-if k _ _ _ _ _ (colour_pair-shown_stream bytes o p)
       (colour_pair-none k)
 
-  colour_pair-stream_text : (n : OutputName) (bytes : Option Text) (o : Option Part) → HoldsIf (IsPlainStream k o) bytes
+  colour_pair-stream_text : (n : OutputName) (bytes : Option Text) (o : Option Subslice)
+      → HoldsIf (IsPlainStream k o) bytes
       → IsColourPair k (stream_text r (styles_of true) margin h n bytes o) (stream_text r (styles_of false) margin j n
       bytes o)
   unfolding stream_text
@@ -107,8 +108,8 @@ module _ (k : Bool) (margin : Text) (free : HasNoEscape margin) (blank : IsBlank
 
 module _ (k : Bool) (r : UnitOutputReporter) (l m : OutputLayout) (layout : IsColourPairOfLayout k l m) where
   colour_pair-both_streams : (stdout stderr : Option Text) (o : Option Highlight)
-      → HoldsIf (IsPlainStream k (option_and_then stdout_part o)) stdout
-      → HoldsIf (IsPlainStream k (option_and_then stderr_part o)) stderr
+      → HoldsIf (IsPlainStream k (option_and_then stdout_slice o)) stdout
+      → HoldsIf (IsPlainStream k (option_and_then stderr_slice o)) stderr
       → IsColourPair k (both_streams r (styles_of true) l stdout stderr o)
       (both_streams r (styles_of false) m stdout stderr o)
   unfolding both_streams

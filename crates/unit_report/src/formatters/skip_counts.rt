@@ -10,7 +10,7 @@ use run_model::config::{CompiledDefaultFilter, CompiledDefaultFilterSection, Nex
 use run_model::event::SkipCounts;
 use styled_text::style::Styles;
 use styled_text::text::{Number, Painted, Toned};
-use writers::text::{Unless, WriteText};
+use writers::text::{When, WriteText};
 use writers::write_str::{WriteFault, WriteStr};
 
 /// Writes what a run skips, between parentheses and after a space; nothing where it skips nothing.
@@ -40,7 +40,12 @@ pub fn write_skip_counts<W: WriteStr>(
 {
     let tests = skipped_tests(mode, skip_counts);
     let binaries = skip_counts.skipped_binaries;
-    let skipped = Skipped(styles, mode, tests, binaries);
+    let skipped = Skipped {
+        styles,
+        mode,
+        tests,
+        binaries,
+    };
     let reason = SkipReason {
         styles,
         mode,
@@ -49,8 +54,8 @@ pub fn write_skip_counts<W: WriteStr>(
         filter: default_filter,
     };
     let word = Toned(styles.skip, "skipped");
-    Unless(
-        tests == 0 && binaries == 0,
+    When(
+        tests != 0 || binaries != 0,
         (" (", skipped, " ", word, reason, ")"),
     )
     .write_to(w)
@@ -110,21 +115,28 @@ fn write_included<W: WriteStr>(w: &mut W, reason: &SkipReason<'_>) -> Result<(),
         filter,
         ..
     } = *reason;
-    let has_no_rerun = counts.skipped_tests_rerun == 0;
     let tests = counts.skipped_tests_default_filter;
     let binaries = counts.skipped_binaries_default_filter;
-    let has_no_filtered = (tests == 0) & (binaries == 0);
-    let is_empty = has_no_rerun & has_no_filtered;
-    let is_one = has_no_rerun | has_no_filtered;
-    let rerun = Tests(styles, mode, counts.skipped_tests_rerun);
-    let filtered = Skipped(styles, mode, tests, binaries);
+    let has_rerun = counts.skipped_tests_rerun != 0;
+    let has_filtered = (tests != 0) | (binaries != 0);
+    let rerun = Tests {
+        styles,
+        mode,
+        count: counts.skipped_tests_rerun,
+    };
+    let filtered = Skipped {
+        styles,
+        mode,
+        tests,
+        binaries,
+    };
     let included = (
         ", including ",
-        Unless(has_no_rerun, (rerun, " that already passed")),
-        Unless(is_one, ", and "),
-        Unless(has_no_filtered, (filtered, ViaFilter(styles, filter))),
+        When(has_rerun, (rerun, " that already passed")),
+        When(has_rerun & has_filtered, ", and "),
+        When(has_filtered, (filtered, ViaFilter(styles, filter))),
     );
-    Unless(is_empty, included).write_to(w)
+    When(has_rerun | has_filtered, included).write_to(w)
 }
 
 // The name of the default filter after " via ".
@@ -163,20 +175,35 @@ fn write_filter_name<W: WriteStr>(
 
 // The numbers of tests and binaries. A number that is 0 is left out.
 #[derive(Clone, Copy)]
-struct Skipped<'a>(&'a Styles, NextestRunMode, usize, usize);
+struct Skipped<'a> {
+    styles: &'a Styles,
+    mode: NextestRunMode,
+    tests: usize,
+    binaries: usize,
+}
 
 impl WriteText for Skipped<'_> {
-    ghost text = { λ s. paint s.0.now (tests_and_binaries s.1 s.2 s.3) };
+    ghost text = { λ s. paint s.styles.now (tests_and_binaries s.mode s.tests s.binaries) };
 
     #[tactic(auto, unfolding(crate::specs::SkipCounts::tests_and_binaries, crate::specs::SkipCounts::binaries_text))]
     fn write_to<W: WriteStr>(&self, w: &mut W) -> Result<(), WriteFault> {
-        let Skipped(styles, mode, tests, binaries) = *self;
+        let Skipped {
+            styles,
+            mode,
+            tests,
+            binaries,
+        } = *self;
         let number = Number(styles.count, binaries as u128);
         let counted = (number, " ", binaries_str(binaries));
+        let first = Tests {
+            styles,
+            mode,
+            count: tests,
+        };
         (
-            Tests(styles, mode, tests),
-            Unless(tests == 0 || binaries == 0, " and "),
-            Unless(binaries == 0, counted),
+            first,
+            When(tests != 0 && binaries != 0, " and "),
+            When(binaries != 0, counted),
         )
             .write_to(w)
     }
@@ -184,15 +211,19 @@ impl WriteText for Skipped<'_> {
 
 // The number of tests, unless it is 0.
 #[derive(Clone, Copy)]
-struct Tests<'a>(&'a Styles, NextestRunMode, usize);
+struct Tests<'a> {
+    styles: &'a Styles,
+    mode: NextestRunMode,
+    count: usize,
+}
 
 impl WriteText for Tests<'_> {
-    ghost text = { λ t. paint t.0.now (tests_text t.1 t.2) };
+    ghost text = { λ t. paint t.styles.now (tests_text t.mode t.count) };
 
     #[tactic(auto, unfolding(crate::specs::SkipCounts::tests_text))]
     fn write_to<W: WriteStr>(&self, w: &mut W) -> Result<(), WriteFault> {
-        let Tests(styles, mode, count) = *self;
-        let number = Number(styles.count, count as u128);
-        Unless(count == 0, (number, " ", tests_str(mode, count))).write_to(w)
+        let number = Number(self.styles.count, self.count as u128);
+        let words = tests_str(self.mode, self.count);
+        When(self.count != 0, (number, " ", words)).write_to(w)
     }
 }

@@ -10,7 +10,7 @@ use run_model::level::CancelReason;
 use run_model::stats::{FinalRunStats, RunStatsFailureKind};
 use styled_text::style::Styles;
 use styled_text::text::{Number, Toned};
-use writers::text::{Unless, WriteText};
+use writers::text::{When, WriteText};
 use writers::write_str::{WriteFault, WriteStr};
 
 /// Writes a warning line about tests that were not run; nothing if all ran, or if a setup script failed.
@@ -96,7 +96,7 @@ fn write_not_run_warning<W: WriteStr>(
         Hint { styles, reason },
         "\n",
     );
-    Unless(not_run == 0, warning).write_to(w)
+    When(not_run != 0, warning).write_to(w)
 }
 
 #[derive(Clone, Copy)]

@@ -6,7 +6,7 @@
 ghost use Rattle.std.specs.Prelude.{◌≡◌, true, false, take, drop, MatchOption};
 ghost use Rattle.{run_model.specs.Outputs.subslice_value, styled_text.specs.Names.highlight_end};
 ghost use Rattle.{styled_text.specs.Names.Puts};
-ghost use Rattle.unit_report.specs.Captured.{captured, coloured_output, highlight_stop, is_valid, part_value};
+ghost use Rattle.unit_report.specs.Captured.{captured, coloured_output, highlight_stop, is_valid, highlight_value};
 ghost use Rattle.unit_report.specs.Captured.{reset_output};
 
 use super::highlighted_lines::write_highlighted_lines;
@@ -65,11 +65,11 @@ fn split_highlight<'a>(
     text: &'a str,
     highlight: ByteSubslice<'_>,
 ) -> Option<(&'a str, &'a str, &'a str)>
-    ensures { MatchOption result (is_valid text.now (part_value highlight.entry) ≡ false)
-        (λ x. (is_valid text.now (part_value highlight.entry) ≡ true)
+    ensures { MatchOption result (is_valid text.now (highlight_value highlight.entry) ≡ false)
+        (λ x. (is_valid text.now (highlight_value highlight.entry) ≡ true)
         × (x.0.now ≡ take highlight.entry.start text.now)
         × (x.1.now ≡ take (highlight_end highlight.entry.slice.now) (drop highlight.entry.start text.now))
-        × (x.2.now ≡ drop (highlight_stop (part_value highlight.entry)) text.now)) }
+        × (x.2.now ≡ drop (highlight_stop (highlight_value highlight.entry)) text.now)) }
 {
     let (front, from) = text.split_at_checked(highlight.start)?;
     if !from.as_bytes().starts_with(highlight.slice) {

@@ -6,7 +6,7 @@ ghost use Rattle.{unit_report.specs.ErrorChain.cause_text, unit_report.specs.Err
 use run_model::abort::DescriptionText;
 use run_model::output::ErrorChain;
 use styled_text::text::IndentLater;
-use writers::text::{Unless, WriteText};
+use writers::text::{When, WriteText};
 use writers::write_str::{WriteFault, WriteStr};
 
 /// The message, and below it each cause on a line of its own.
@@ -27,7 +27,7 @@ impl WriteText for DisplayErrorChain<'_> {
     #[tactic(auto, unfolding(crate::specs::ErrorChain::error_chain_text, crate::specs::ErrorChain::causes_text, writers::specs::Texts::plain))]
     fn write_to<W: WriteStr>(&self, w: &mut W) -> Result<(), WriteFault> {
         let causes = self.0.causes();
-        let below = Unless(causes.is_empty(), ("\n  caused by:", Causes(causes)));
+        let below = When(!causes.is_empty(), ("\n  caused by:", Causes(causes)));
         (self.0.message(), below).write_to(w)
     }
 }

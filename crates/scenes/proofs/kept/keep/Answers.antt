@@ -5,7 +5,7 @@ use Rattle.scenes.specs.declared.kept.{KeptLines.KeptLines}
 use Rattle.scene_reader.specs.Names.{before_next, plain_line, text_lines}
 use Rattle.scenes.specs.Kept.{AreKept, KeepsSome}
 use Rattle.scenes.specs.Read.{AreLeftBehind, left_at}
-use Rattle.scenes.specs.Reading.{at_hand, IsFilled}
+use Rattle.scenes.specs.Reading.{buffered, IsFilled}
 use Rattle.scenes.proofs.lemmas.Kept.{more_kept, none_kept}
 use Rattle.scenes.proofs.lemmas.Taken.{all_passed, next_stopped}
 use Rattle.scenes.proofs.kept.keep.Goals.{In-Ok}
@@ -14,7 +14,7 @@ use Rattle.scenes.proofs.kept.keep.Goals as goal
 
 -- the text that was taken is next
 text_next : (g : given.Over) (c : In-Ok g) (run : ParsedLines) (rest : List RunLine)
-    → AreLeftBehind (at_hand c.loop-turn.reading) (reader_remaining g.R.Read.remaining c.loop-turn.source.reader) rest
+    → AreLeftBehind (buffered c.loop-turn.reading) (reader_remaining g.R.Read.remaining c.loop-turn.source.reader) rest
     → (others : List RunLine) × (rest ≡ text_lines c.in-Ok.text.items ++ others)
     × AreLeftBehind [] (reader_remaining g.R.Read.remaining c.fill.new.source.reader) others
 text_next g c run rest left =

@@ -1,6 +1,6 @@
 use Rattle.std.proofs.Common.{[], ◌≡◌, ◌∙◌, List, ℕ, None, Some, IfErr, OnOk, inl, refl, subst, sym}
 use Rattle.scenes.proofs.Common.{Follows, string_meaning, text_lines}
-use Rattle.scenes.specs.{Gathered.HasGathered, Names.IsRefusal, Names.IsSetFor, Read.AreLeftBehind, Reading.at_hand}
+use Rattle.scenes.specs.{Gathered.HasGathered, Names.IsRefusal, Names.IsSetFor, Read.AreLeftBehind, Reading.buffered}
 use Rattle.scenes.proofs.Common.{reader_remaining}
 use Rattle.scenes.proofs.lemmas.Gathered.{passed_gathered, unconfigured_judged}
 use Rattle.scenes.proofs.report.gather.Given as given
@@ -10,7 +10,7 @@ use Rattle.scenes.proofs.report.gather.Goals as goal
 -- the lines up to the first large one were gathered, or a fault stopped them
 gathered : (g : given.Over) (c : After-pass_small g) (text : List ℕ) → g.R.Read.remaining c.args.reader ≡ Some text
     → OnOk c.pass_small.result (HasGathered c.args.options.now (c.args.text.now, None) (text_lines text)
-    (λ run lines. AreLeftBehind (at_hand c.pass_small.new.self)
+    (λ run lines. AreLeftBehind (buffered c.pass_small.new.self)
     (reader_remaining g.R.Read.remaining c.pass_small.new.source.reader) lines) c.pass_small.new.self.read
     c.pass_small.new.sink)
     × IfErr c.pass_small.result (IsRefusal c.args.options.now (text_lines text))

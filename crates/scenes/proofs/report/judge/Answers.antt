@@ -17,7 +17,7 @@ judged : (g : given.Over) (c : After-refused_call-refused g) (found : Option Fau
     c.as_slice.result.now
     ≡ found
 judged g c found is = subst (λ d. fault_of_first d (lines_of c.in_ok-scene.scene) c.as_slice.result.now ≡ found)
-    (c.in_ok-decider.ensures.ok ∙ ap (decider_for c.args.options.now) c.config.ensures.config)
+    (c.decider_of-decider.ensures ∙ ap (decider_for c.args.options.now) c.config.ensures.config)
     (sym c.refused_call-refused.ensures ∙ is)
 
 refused : (g : given.Over) (c : After-refused_call-refused g) (fault : Fault)

@@ -13,7 +13,7 @@ returns-in-Err-keep-clause-fault g c = λ text known.
     let h = (c.in-Ok-configure.ensures 0 (text_lines text) c.new-reading.ensures
     (_, refl, (text, c.in-Ok.ensures ∙ known, inl refl))).ok in
     let ends = run_judged c.args.options.now (text_lines text) _ c.configure.new.self.read h c.new-judge.result
-    c.keep.new.sink (c.new-judge.ensures.decider ∙ c.in-Ok-decider_of.ensures.ok) c.new-judge.ensures.refused
+    c.keep.new.sink (c.new-judge.ensures.decider ∙ c.decider_of.ensures) c.new-judge.ensures.refused
     c.keep.result (c.keep.ensures h.run h.lines h.before h.left.0) in
     (rw c.in-Err-keep.is at ends).1
 
@@ -22,7 +22,7 @@ returns-in-None-clause-run g c = λ text known.
     let h = (c.in-Ok-configure.ensures 0 (text_lines text) c.new-reading.ensures
     (_, refl, (text, c.in-Ok.ensures ∙ known, inl refl))).ok in
     let ends = run_judged c.args.options.now (text_lines text) _ c.configure.new.self.read h c.new-judge.result
-    c.keep.new.sink (c.new-judge.ensures.decider ∙ c.in-Ok-decider_of.ensures.ok) c.new-judge.ensures.refused
+    c.keep.new.sink (c.new-judge.ensures.decider ∙ c.decider_of.ensures) c.new-judge.ensures.refused
     c.keep.result (c.keep.ensures h.run h.lines h.before h.left.0) in
     (h.run, h.none, whole_so _ c.in-None.is (rw c.in-Ok-keep.is at ends).0)
 
@@ -31,6 +31,6 @@ returns-clause-fault g c = λ text known.
     let h = (c.in-Ok-configure.ensures 0 (text_lines text) c.new-reading.ensures
     (_, refl, (text, c.in-Ok.ensures ∙ known, inl refl))).ok in
     let ends = run_judged c.args.options.now (text_lines text) _ c.configure.new.self.read h c.new-judge.result
-    c.keep.new.sink (c.new-judge.ensures.decider ∙ c.in-Ok-decider_of.ensures.ok) c.new-judge.ensures.refused
+    c.keep.new.sink (c.new-judge.ensures.decider ∙ c.decider_of.ensures) c.new-judge.ensures.refused
     c.keep.result (c.keep.ensures h.run h.lines h.before h.left.0) in
     refused_held _ _ c.in-Some.is (rw c.in-Ok-keep.is at ends).0

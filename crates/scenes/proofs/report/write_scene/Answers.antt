@@ -17,7 +17,7 @@ judged : (g : given.Over) (c : After-refused_call g) (found : Option Fault) → 
     c.as_slice-calls.result.now
     ≡ found
 judged g c found is = subst (λ d. fault_of_first d (lines_of c.args.scene.now) c.as_slice-calls.result.now ≡ found)
-    (c.in-Ok-decider_of.ensures.ok ∙ ap (decider_for c.args.options.now) c.config-config.ensures.config)
+    (c.decider_of-decider.ensures ∙ ap (decider_for c.args.options.now) c.config-config.ensures.config)
     (sym c.refused_call.ensures ∙ is)
 
 -- no call is refused where none was found

@@ -12,7 +12,7 @@ loop-turn-init g c = λ total all nothing left. none_configured all _ c.args.sel
     (subst (λ next. g.L.RunSource.left total c.args.source.now (left_at c.args.self.now.piece.items next) no_lines all)
     (sym nothing.none) left)
 
--- the lines of the piece at hand are next
+-- the buffered lines are next
 at_place : (g : given.Over) (c : After-as_slice-piece g) (total : ℕ) (all : List RunLine)
     → IsNothingRead c.args.self.now → g.L.RunSource.left total c.args.source.now [] no_lines all
     → HasConfigured all (g.L.RunSource.left total c.fill.new.source

@@ -1,5 +1,5 @@
 use Rattle.std.proofs.Common.{inl, refl, subst}
-use Rattle.scenes.specs.Reading.{at_hand, IsFilled}
+use Rattle.scenes.specs.Reading.{buffered, IsFilled}
 use Rattle.scenes.proofs.lemmas.Taken.{more_passed, more_stopped, next_stopped, none_passed, still_passed}
 use Rattle.scenes.proofs.read.Reading.pass_small.Goals as goal
 
@@ -14,16 +14,16 @@ returns-in-Ok-false g c = λ total run lines before left.
     (IsFilled (λ texts. g.L.RunSource.left total c.fill.new.source texts h.mid_run) h.rest c.fill.new.self)
     c.in-Ok-false.field-0-test (c.in-Ok-false.ensures.left total h.mid_run h.rest h.left) in
     record {
-      ok = still_passed h (g.L.RunSource.left total c.fill.new.source (at_hand c.fill.new.self)) c.fill.new.self.read
+      ok = still_passed h (g.L.RunSource.left total c.fill.new.source (buffered c.fill.new.self)) c.fill.new.self.read
           c.fill.ensures.read none.1;
       err = tt;
     }
 
-pub returns-then-is_large_line : goal.returns-then-is_large_line
-returns-then-is_large_line g c = λ total run lines before left.
+pub returns-then-has_large_output : goal.returns-then-has_large_output
+returns-then-has_large_output g c = λ total run lines before left.
     let h = c.loop-turn.invariant total run lines before left in
     record {
-      ok = still_passed h (g.L.RunSource.left total c.fill.new.source (at_hand c.fill.new.self)) c.fill.new.self.read
+      ok = still_passed h (g.L.RunSource.left total c.fill.new.source (buffered c.fill.new.self)) c.fill.new.self.read
           c.fill.ensures.read (subst
           (IsFilled (λ texts. g.L.RunSource.left total c.fill.new.source texts h.mid_run) h.rest c.fill.new.self)
           c.in-Ok-true.field-0-test (c.in-Ok-true.ensures.left total h.mid_run h.rest h.left));
@@ -33,7 +33,7 @@ returns-then-is_large_line g c = λ total run lines before left.
 pub returns-in-Err-pass_piece : goal.returns-in-Err-pass_piece
 returns-in-Err-pass_piece g c = λ total run lines before left.
     let h = c.loop-turn.invariant total run lines before left in
-    let filled = still_passed h (g.L.RunSource.left total c.fill.new.source (at_hand c.fill.new.self))
+    let filled = still_passed h (g.L.RunSource.left total c.fill.new.source (buffered c.fill.new.self))
     c.fill.new.self.read c.fill.ensures.read (subst
     (IsFilled (λ texts. g.L.RunSource.left total c.fill.new.source texts h.mid_run) h.rest c.fill.new.self)
     c.in-Ok-true.field-0-test (c.in-Ok-true.ensures.left total h.mid_run h.rest h.left)) in
@@ -46,11 +46,11 @@ returns-in-Err-pass_piece g c = λ total run lines before left.
 pub loop-turn-preserved : goal.loop-turn-preserved
 loop-turn-preserved g c = λ total run lines before left.
     let h = c.loop-turn.invariant total run lines before left in
-    let filled = still_passed h (g.L.RunSource.left total c.fill.new.source (at_hand c.fill.new.self))
+    let filled = still_passed h (g.L.RunSource.left total c.fill.new.source (buffered c.fill.new.self))
     c.fill.new.self.read c.fill.ensures.read (subst
     (IsFilled (λ texts. g.L.RunSource.left total c.fill.new.source texts h.mid_run) h.rest c.fill.new.self)
     c.in-Ok-true.field-0-test (c.in-Ok-true.ensures.left total h.mid_run h.rest h.left)) in
-    more_passed filled {Next = g.L.RunSource.left total c.pass_piece.new.source (at_hand c.pass_piece.new.self)}
+    more_passed filled {Next = g.L.RunSource.left total c.pass_piece.new.source (buffered c.pass_piece.new.self)}
     (c.in-Ok.ensures total filled.mid_run filled.rest filled.before filled.left).ok
 
 pub returns : goal.returns

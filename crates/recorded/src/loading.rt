@@ -1,16 +1,14 @@
-//! The lines of a recorded run. One is read at a time, with the outputs that its report shows.
+//! The outputs of a line of a recorded run: those that its report shows are loaded into its call.
 
-ghost use Rattle.std.specs.Prelude.{◌≡◌, ℕ, List, Some, IfErr, IfOk, Ok, OnOk};
-ghost use Rattle.{std.specs.Io.Buffered.reader_buffer, std.specs.Io.Buffered.reader_remaining};
-ghost use Rattle.scenes.specs.Names.{IsUnread, decider_for};
-ghost use Rattle.recorded.specs.Names.{CountsMore, IsFaultOfLoad, IsNextLine, IsUnloaded, LoadsCall, TakesOf};
+ghost use Rattle.std.specs.Prelude.{◌≡◌, ℕ, List, Some, IfErr, Ok, OnOk};
+ghost use Rattle.{scenes.specs.Names.decider_for};
+ghost use Rattle.recorded.specs.Names.{CountsMore, IsFaultOfLoad, IsUnloaded, LoadsCall};
 ghost use Rattle.recorded.specs.Names.{event_replayed, needed_of};
 ghost use Rattle.{scene_reader.specs.Names.call_by_names};
 
 use super::events::{LoadEventFault, load_outputs};
 use super::outputs::{LoadFault, RecordedOutputs};
 use super::read_at::ReadAt;
-use memchr::memchr;
 use run_model::call::ReportCall;
 use run_model::memory::OutOfMemory;
 use scene_fields::stored::PlacedOutput;
@@ -20,74 +18,6 @@ use scenes::args::Options;
 use scenes::fault::{Fault, LineFault};
 use scenes::reporter::decider_of;
 use std::alloc::Global;
-use std::io::{BufRead, BufReader, ErrorKind, Read};
-
-/// Reads the next line into the buffer, without the line feed that ends it. It returns whether there is one: what
-/// follows the last line feed is none.
-pub(crate) fn next_line<'a, R: Read>(
-    file: &'a str,
-    reader: &mut BufReader<R>,
-    line: &mut Vec<u8>,
-) -> Result<bool, Fault<'a>>
-    ensures line { IfOk result
-        (λ is_whole. (text : List ℕ) → reader_remaining R.remaining reader.old ≡ Some text
-        → IsNextLine text is_whole line.new.items (reader_remaining R.remaining reader.new)) }
-    ensures err { IfErr result (IsUnread file.now) }
-{
-    line.clear();
-    for _turn in 0..u64::MAX {
-        match reader.fill_buf() {
-            Ok(_) => {}
-            Err(error) if error.kind() == ErrorKind::Interrupted => continue,
-            Err(error) => return Err(Fault::CannotRead { file }.by_kind(error.kind())),
-        }
-        match take_at_hand(reader, line)? {
-            Taken::Line => return Ok(true),
-            Taken::Part => {}
-            // The file ends here.
-            Taken::Nothing => return Ok(false),
-        }
-    }
-    Err(Fault::CannotRead { file })
-}
-
-// What was taken of the bytes that a reader has buffered.
-#[derive(Clone, Copy)]
-enum Taken {
-    // The end of a line, and its line feed.
-    Line,
-    // All of them, which are a part of a line.
-    Part,
-    // Nothing, since it has none.
-    Nothing,
-}
-
-// Takes what the reader has buffered up to the first line feed, or all of it.
-fn take_at_hand<R: Read>(
-    reader: &mut BufReader<R>,
-    line: &mut Vec<u8>,
-) -> Result<Taken, OutOfMemory>
-    ensures { IfOk result
-        (λ taken. (text : List ℕ) → reader_remaining R.remaining reader.old ≡ Some text
-        → TakesOf taken (reader_buffer reader.old) text line.old.items line.new.items (reader_remaining
-        R.remaining reader.new)) }
-{
-    let at_hand = reader.buffer();
-    match memchr(b'\n', at_hand) {
-        Some(at) => {
-            line.extend_from_slice(&at_hand[..at])?;
-            reader.consume(at + 1);
-            Ok(Taken::Line)
-        }
-        None if at_hand.is_empty() => Ok(Taken::Nothing),
-        None => {
-            let count = at_hand.len();
-            line.extend_from_slice(at_hand)?;
-            reader.consume(count);
-            Ok(Taken::Part)
-        }
-    }
-}
 
 /// A sink that loads the outputs that the report shows of a call, before another sink takes it.
 #[derive(Drop)]
@@ -131,7 +61,7 @@ impl<'r, 's, 'o, O: ReadAt + Drop, K> Loading<'r, 's, 'o, O, K> {
         if stored.is_empty() {
             return Ok(());
         }
-        let decider = decider_of(alloc, self.options, &self.config)?;
+        let decider = decider_of(self.options, &self.config);
         match load_outputs(alloc, &decider, stored, self.outputs, call) {
             Ok(()) => Ok(()),
             Err(fault) => Err(fault_of_load(file, number, fault)),

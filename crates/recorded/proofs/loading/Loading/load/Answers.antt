@@ -1,6 +1,6 @@
 use Rattle.{std.proofs.Common.refl, scene_reader.specs.Names.call_by_names}
 use Rattle.recorded.proofs.lemmas.LoadedLines.{load_left, none_in, none_replayed}
-use Rattle.recorded.proofs.lines.Loading.load.Goals as goal
+use Rattle.recorded.proofs.loading.Loading.load.Goals as goal
 
 pub returns-then-is_empty-clause-loaded : goal.returns-then-is_empty-clause-loaded
 returns-then-is_empty-clause-loaded g c = λ all known.
@@ -10,4 +10,4 @@ pub returns-in-Err-clause-left : goal.returns-in-Err-clause-left
 returns-in-Err-clause-left g c = λ all known. load_left all _ _ _ c.args.file.now c.args.number c.in-Err.fault _
     (call_by_names c.load_outputs.new.event)
     c.fault_of_load.ensures _ known
-    (rw c.in_ok-decider.ensures.ok at c.in-Err.ensures.loaded)
+    (rw c.decider_of-decider.ensures at c.in-Err.ensures.loaded)

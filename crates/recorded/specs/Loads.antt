@@ -1,30 +1,14 @@
--- The next line of a recorded run, and what a replay loads of its outputs.
-use Rattle.std.specs.Prelude.{◌≡◌, ◌⊎◌, ℕ, ◌+◌, Bool, true, false, List, [], ◌∷◌, ◌++◌, Option, Some, Result, Ok, Err}
+-- What a replay loads of the outputs of a line.
+use Rattle.std.specs.Prelude.{◌≡◌, ◌⊎◌, ℕ, ◌+◌, List, Option, Some, Result, Ok, Err}
 use Rattle.std.specs.{Prelude.OnOk, Result.IsErrAnd}
 use Rattle.scenes.specs.Names.{decider_for, IsUnread, Options, Fault}
-use Rattle.recorded.specs.{declared.outputs.LoadFault.LoadFault, declared.lines.Taken.Taken, Outputs.counted}
-use Rattle.recorded.specs.{Events.event_replayed, Events.needed_of, Runs.ended_lines}
-use Rattle.scene_reader.specs.Names.{call_by_names, Lacks, LineFault, PlacedOutput, ReportCall, SceneConfig}
+use Rattle.recorded.specs.{declared.outputs.LoadFault.LoadFault, Outputs.counted}
+use Rattle.recorded.specs.Events.{event_replayed, needed_of}
+use Rattle.scene_reader.specs.Names.{call_by_names, LineFault, PlacedOutput, ReportCall, SceneConfig}
 use Rattle.scene_reader.specs.Names.{SceneEvent, Takes}
 use Rattle.command_line.specs.declared.fault.Fault.TheVariants as program
 use Rattle.recorded.specs.declared.outputs.LoadFault.TheVariants as load
-use Rattle.recorded.specs.declared.lines.Taken.TheVariants as taken
 use Rattle.scene_fields.specs.declared.fault.LineFault.TheVariants as line
-
--- what was read of a text: its first line, before a line feed and what is left; or the rest after the last line feed
-abbrev pub IsNextLine : List ℕ → Bool → List ℕ → Option (List ℕ) → Type 0
-IsNextLine text true line rest = (more : List ℕ) × (rest ≡ Some more) × (text ≡ line ++ 10 ∷ more) × Lacks 10 line
-IsNextLine text false line rest = (ended_lines text ≡ [])
-    × ((more : List ℕ) × (rest ≡ Some more) × (ended_lines more ≡ []))
-
--- what was taken of a text whose first bytes are buffered, after what was taken before: the end of a line and its line
--- feed, a part of a line, or nothing, if none are buffered; and what is left of it
-abbrev pub TakesOf : Taken → List ℕ → List ℕ → List ℕ → List ℕ → Option (List ℕ) → Type 0
-TakesOf taken.Line at_hand text old new rest = (part : List ℕ) × (more : List ℕ) × (rest ≡ Some more)
-    × (new ≡ old ++ part) × (text ≡ part ++ 10 ∷ more) × Lacks 10 part
-TakesOf taken.Part at_hand text old new rest = (part : List ℕ) × (more : List ℕ) × (rest ≡ Some more)
-    × (new ≡ old ++ part) × (text ≡ part ++ more) × Lacks 10 part
-TakesOf taken.Nothing at_hand text old new rest = (at_hand ≡ []) × (rest ≡ Some text) × (new ≡ old)
 
 -- this many bytes were read, and no others: the count goes on from the old one with as many more
 abbrev pub CountsMore : ℕ → ℕ → ℕ → Type 0
