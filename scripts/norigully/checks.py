@@ -1,5 +1,6 @@
 """What the check scripts share: what they need before they begin, and how they count what they found."""
 
+import multiprocessing
 import os
 import re
 import shutil
@@ -9,7 +10,7 @@ import sys
 from importlib.machinery import SourceFileLoader
 from importlib.util import module_from_spec, spec_from_loader
 
-from norigully import TOP
+from norigully import TOP, kit
 from norigully.programs import note_sources, program, sum_of_sources
 
 CRATES = TOP / "crates"
@@ -29,6 +30,11 @@ def take_signals():
     for number in (signal.SIGINT, signal.SIGQUIT, signal.SIGHUP, signal.SIGTERM, signal.SIGTSTP):
         if signal.getsignal(number) is signal.SIG_IGN:
             signal.signal(number, lambda _number, _frame: None)
+
+
+def end_at_ctrl_c():
+    """Has Ctrl-C end this process without a word, which the one that started it says."""
+    signal.signal(signal.SIGINT, lambda number, _frame: os._exit(128 + number))
 
 
 def need_tool(tool):
@@ -108,7 +114,19 @@ class Checks:
         self.done += 1
         if not holds:
             self.failed += 1
-            print(f"FAILED: {message}")
+            print(f"FAILED: {message}", flush=True)
+
+    def side_by_side(self, calls):
+        """Makes these calls with checks of their own, each in a process, as many at a time as processors allow. What
+        they count is counted here."""
+        with multiprocessing.get_context("fork").Pool(kit.jobs(), end_at_ctrl_c) as pool:
+            for done, failed in pool.imap_unordered(self.counts_of, calls):
+                self.done, self.failed = self.done + done, self.failed + failed
+
+    def counts_of(self, call):
+        own = type(self)(self.name)
+        call(own)
+        return own.done, own.failed
 
     def outputs(self, child, what, seconds):
         """What a process writes until it ends. One that goes on for longer is a failed check, and is killed."""

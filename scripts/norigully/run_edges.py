@@ -112,10 +112,12 @@ os.statvfs = lambda path: types.SimpleNamespace(f_flag=os.ST_NOEXEC if str(path)
 """
 
 
-def check_cache(checks, room, run, environment):
+def check_cache(checks, room):
     """What is kept is run where it is whole, this user's, and of a folder that nobody else can write or replace; what
     cannot be kept is built for one call."""
-    cache, words = pathlib.Path(environment["XDG_CACHE_HOME"]), [run, room.scene]
+    run, environment = room.unproved("cached")
+    cache, words = room.folder / "own cache", [run, room.scene]
+    environment["XDG_CACHE_HOME"] = str(cache)
 
     def expect(what, said, words=words):
         checks.expect_run(what, ran(words, env=environment), 0, room.report, said)
@@ -153,9 +155,10 @@ def check_cache(checks, room, run, environment):
         checks.expect(f" noexec: let {variable} name another folder\n".encode() in barred.stderr, f"{what}: {barred}")
 
 
-def check_homeless(checks, room, run, build, environment):
+def check_homeless(checks, room):
     """Without a home nothing is kept or left, and a relative XDG_CACHE_HOME counts as none."""
-    place = room.folder / "homeless"
+    run, environment = room.unproved("without a home")
+    build, place = run.parent / "build", room.folder / "homeless"
     place.mkdir()
     for cache in (None, "a cache"):
         env = {key: it for key, it in environment.items() if key not in ("HOME", "XDG_CACHE_HOME")}
