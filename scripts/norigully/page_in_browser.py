@@ -514,6 +514,8 @@ def check_long_paper(checks, folder, browser):
 
 
 CHECKS = (
-    *(check_search, check_looks, check_long, check_pictures, check_colours, check_own_colours, check_stretches),
-    *(check_keyboard, check_many, check_lists, check_no_script, check_paper, check_long_paper),
+    *(check_search, check_looks, check_pictures, check_colours, check_own_colours, check_stretches, check_keyboard),
+    *(check_many, check_lists, check_no_script, check_paper),
 )
+# Those of the page that `check_memory` made.
+LONG_CHECKS = (check_long, check_long_paper)
