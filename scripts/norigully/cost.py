@@ -4,9 +4,9 @@
 # No other machine was faster, and the slowest took SLOWEST times as long.
 FROM_NOTHING = {"proofs": 53, "tests": 21, "edits": 15, "mistakes": 49, "scripts": 12}
 FIRST, FIRST_SECONDS = "run_names", 65
-SLOWEST = 2.4
+SLOWEST = 2.5
 # This part of the work is a chain of crates, each over the one before: on many processors it still takes that long.
-CHAIN = 0.3
+CHAIN = 0.34
 
 
 def by_the_clock(minutes, jobs):
