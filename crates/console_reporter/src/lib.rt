@@ -21,7 +21,7 @@
 //!
 //! 1. `command_line`: takes the next whole lines of the file.
 //! 2. `scene_reader`: reads the line into a call of the reporter, field by field with `scene_fields`.
-//! 3. `scenes`, `SceneReporter`: makes the call. `report` gathers its text until all lines are accepted.
+//! 3. `scene_follower`, `SceneReporter`: makes the call. `report` gathers its text until all lines are accepted.
 #![tactic(auto)]
 
 pub mod error;

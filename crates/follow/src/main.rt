@@ -6,10 +6,10 @@
 //! status.
 #![tactic(auto)]
 
-use scenes::args::{Options, args_or_input};
-use scenes::fault::{Fault, ReportProgram};
-use scenes::follow::{RunOutcome, follow_scene};
-use scenes::process::{
+use command_line::args::{Options, args_or_input};
+use command_line::fault::{Fault, ReportProgram};
+use scene_follower::follow::{RunOutcome, follow_scene};
+use scene_follower::process::{
     arguments, create_store, fill_standard_descriptors, print_error, report_fault,
 };
 use std::fs::{self, File, Metadata};

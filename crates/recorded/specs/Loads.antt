@@ -1,11 +1,10 @@
 -- What a replay loads of the outputs of a line.
 use Rattle.std.specs.Prelude.{◌≡◌, ◌⊎◌, ℕ, ◌+◌, List, Option, Some, Result, Ok, Err}
 use Rattle.std.specs.{Prelude.OnOk, Result.IsErrAnd}
-use Rattle.scenes.specs.Names.{decider_for, IsUnread, Options, Fault}
+use Rattle.scene_follower.specs.Names.{decider_for, IsUnread, Options, Fault}
 use Rattle.recorded.specs.{declared.outputs.LoadFault.LoadFault, Outputs.counted}
 use Rattle.recorded.specs.Events.{event_replayed, needed_of}
-use Rattle.scene_reader.specs.Names.{call_by_names, LineFault, PlacedOutput, ReportCall, SceneConfig}
-use Rattle.scene_reader.specs.Names.{SceneEvent, Takes}
+use Rattle.scene_reader.specs.Names.{call_by_names, LineFault, PlacedOutput, ReportCall, SceneConfig, SceneEvent, Takes}
 use Rattle.command_line.specs.declared.fault.Fault.TheVariants as program
 use Rattle.recorded.specs.declared.outputs.LoadFault.TheVariants as load
 use Rattle.scene_fields.specs.declared.fault.LineFault.TheVariants as line

@@ -1,7 +1,7 @@
 -- A recorded run as lines of a run: as they are replayed, and with every output in its place.
 use Rattle.std.specs.Prelude.{ℕ, ◌+◌, List, [], ◌∷◌, map, true, Result, Ok, Err}
 use Rattle.recorded.specs.Events.{event_inline, event_replayed, needed_of}
-use Rattle.{scenes.specs.Names.Options, scenes.specs.Names.decider_for}
+use Rattle.scene_follower.specs.Names.{Options, decider_for}
 use Rattle.scene_reader.specs.Names.{split_on, LineFault, ParsedLine, PlacedOutput, before_behind, LinesBefore}
 use Rattle.scene_reader.specs.Names.{RecordedLine, RunLine, lines_before, no_lines, recorded_line}
 use Rattle.scene_reader.specs.SceneTexts.{ConfigLine, EventLine, NoEvent}

@@ -1,22 +1,21 @@
 //! The outputs of a line of a recorded run: those that its report shows are loaded into its call.
 
 ghost use Rattle.std.specs.Prelude.{◌≡◌, ℕ, List, Some, IfErr, Ok, OnOk};
-ghost use Rattle.{scenes.specs.Names.decider_for};
-ghost use Rattle.recorded.specs.Names.{CountsMore, IsFaultOfLoad, IsUnloaded, LoadsCall};
-ghost use Rattle.recorded.specs.Names.{event_replayed, needed_of};
+ghost use Rattle.scene_follower.specs.Names.{decider_for};
+ghost use Rattle.recorded.specs.Names.{CountsMore, IsFaultOfLoad, IsUnloaded, LoadsCall, event_replayed, needed_of};
 ghost use Rattle.{scene_reader.specs.Names.call_by_names};
 
 use super::events::{LoadEventFault, load_outputs};
 use super::outputs::{LoadFault, RecordedOutputs};
 use super::read_at::ReadAt;
+use command_line::args::Options;
+use command_line::fault::{Fault, LineFault};
 use run_model::call::ReportCall;
 use run_model::memory::OutOfMemory;
 use scene_fields::stored::PlacedOutput;
+use scene_follower::reporter::decider_of;
 use scene_reader::reader::CallSink;
 use scene_run_lines::config::SceneConfig;
-use scenes::args::Options;
-use scenes::fault::{Fault, LineFault};
-use scenes::reporter::decider_of;
 use std::alloc::Global;
 
 /// A sink that loads the outputs that the report shows of a call, before another sink takes it.

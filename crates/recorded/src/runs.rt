@@ -4,18 +4,18 @@ ghost use Rattle.std.specs.Prelude.{◌≡◌, ◌++◌, ℕ, List, map, None, S
 ghost use Rattle.std.specs.Io.Buffered.{reader_remaining};
 ghost use Rattle.recorded.specs.Names.{counted, lines_inline, lines_replayed, needed_bytes, replayed, IsLeft, AreBytes};
 ghost use Rattle.recorded.specs.Names.{ended_lines, line_replayed, scene_spelled};
-ghost use Rattle.scenes.specs.Names.{StopsBy, OfLines, OfText, Begins, Prints, PrintsFollowed, device};
+ghost use Rattle.scene_follower.specs.Names.{StopsBy, OfLines, OfText, Begins, Prints, PrintsFollowed, device};
 
 use super::loading::Loading;
 use super::outputs::RecordedOutputs;
 use super::read_at::ReadAt;
+use command_line::args::Options;
+use command_line::fault::Fault;
 use command_line::pieces::next_piece;
 use run_model::memory::OutOfMemory;
+use scene_follower::follow::{RunOutcome, follow_source};
+use scene_follower::read::RunSource;
 use scene_reader::reader::{CallSink, LinesRead};
-use scenes::args::Options;
-use scenes::fault::Fault;
-use scenes::follow::{RunOutcome, follow_source};
-use scenes::read::RunSource;
 use std::alloc::Global;
 use std::io::{BufReader, Read, Write};
 
@@ -25,8 +25,8 @@ const BYTES_AT_ONCE: usize = 16_384;
 /// A recorded run: its lines, and its outputs. Those that the decider skips are not read.
 ///
 /// ```
-/// use scenes::args::words;
-/// use scenes::follow::RunOutcome;
+/// use command_line::args::words;
+/// use scene_follower::follow::RunOutcome;
 /// let given = CommandLine::from_words(alloc, &["--level", "pass", "DIR"])?;
 /// let options = words(given.words()).ok_or("no options")?;
 /// let lines = "done\t-\talpha\tt1\tnever\tnever\tpass\tinitial=1 finished=1 passed=1\t1\t\

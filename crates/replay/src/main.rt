@@ -5,11 +5,11 @@
 //! for a run that did not end. An error is one line on standard error and a status.
 #![tactic(auto)]
 
+use command_line::args::{Options, words};
+use command_line::fault::{Fault, ReportProgram};
 use recorded::{Metered, RecordedOutputs, RecordedRun};
-use scenes::args::{Options, words};
-use scenes::fault::{Fault, ReportProgram};
-use scenes::follow::RunOutcome;
-use scenes::process::{
+use scene_follower::follow::RunOutcome;
+use scene_follower::process::{
     arguments, create_store, fill_standard_descriptors, print_error, report_fault,
 };
 use std::fs::{self, File, Metadata};

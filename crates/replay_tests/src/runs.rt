@@ -1,11 +1,11 @@
 //! Replayed runs, and how many bytes of their outputs are read.
 
 use crate::testing::{expect_bytes, expect_row, expect_text};
+use command_line::args::{Options, StoreOptions};
+use command_line::fault::{Fault, LineFault};
 use recorded::{Metered, RecordedOutputs, RecordedRun, Source};
 use run_model::level::StatusLevel;
-use scenes::args::{Options, StoreOptions};
-use scenes::fault::{Fault, LineFault};
-use scenes::follow::{RunOutcome, follow_scene};
+use scene_follower::follow::{RunOutcome, follow_scene};
 use std::alloc::{AllocError, Global};
 use std::io;
 use std::io::ErrorKind;

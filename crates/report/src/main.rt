@@ -5,9 +5,9 @@
 //! emptied.
 #![tactic(auto)]
 
-use scenes::args::{Options, words};
-use scenes::fault::{Fault, ReportProgram};
-use scenes::process::{arguments, create_store, fill_standard_descriptors, report_fault};
+use command_line::args::{Options, words};
+use command_line::fault::{Fault, ReportProgram};
+use scene_follower::process::{arguments, create_store, fill_standard_descriptors, report_fault};
 use scenes::report::{read_judged, report_gathered, report_judged};
 use std::fs::File;
 use std::io;

@@ -1,7 +1,8 @@
 -- The fault that the program reports for a text: a wrong line, or refused memory (for `report_of`).
 use Rattle.std.proofs.Common.{ℕ, List}
 use Rattle.report_c.specs.Reported.{IsUnreported, read_fault_of}
-use Rattle.scenes.specs.Names.{Fault, IsFaultOfText, IsJudgeFault, Options}
+use Rattle.scene_follower.specs.Names.{Fault, IsJudgeFault, Options}
+use Rattle.scenes.specs.Names.{IsFaultOfText}
 use Rattle.command_line.specs.declared.fault.Fault.TheVariants as fault
 
 pub unreported : (options : Options) (text : List ℕ) (f : Fault)

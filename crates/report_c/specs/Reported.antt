@@ -7,7 +7,8 @@ use Rattle.{scene_fields.specs.declared.fault.LineFault.LineFault}
 use Rattle.{scene_fields.specs.declared.fault.ReadFault.ReadFault}
 use Rattle.{report_c.specs.declared.NorigullyOptions.NorigullyOptions}
 use Rattle.scene_fields.specs.declared.fault.ReadFault.TheVariants as read
-use Rattle.scenes.specs.Names.{IsFaultOfText, OfText, Prints, device, Fault, Options}
+use Rattle.scenes.specs.Names.{IsFaultOfText}
+use Rattle.scene_follower.specs.Names.{OfText, Prints, device, Fault, Options}
 use Rattle.command_line.specs.declared.fault.Fault.TheVariants as fault
 
 -- The status level of a number, from none at 0 to all at 7.

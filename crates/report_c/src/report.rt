@@ -1,14 +1,14 @@
 //! The report of a scene in memory, and the options of C as those of the program `report`.
 
 ghost use Rattle.std.specs.Prelude.{◌≡◌, ◌↔◌, [], IfSome, IfOk, IfErr, None, Some, string_bytes};
-ghost use Rattle.scenes.specs.Names.{OfText, Prints, device, store_for};
+ghost use Rattle.scene_follower.specs.Names.{OfText, Prints, device, store_for};
 ghost use Rattle.report_c.specs.Reported.{AsksFor, IsUnreported, read_fault_of, level_numbered};
 
 use crate::NorigullyOptions;
+use command_line::args::Options;
+use command_line::fault::Fault;
 use run_model::level::StatusLevel;
 use scene_fields::fault::ReadFault;
-use scenes::args::Options;
-use scenes::fault::Fault;
 use scenes::report::report_text;
 use std::alloc::Global;
 

@@ -2,10 +2,10 @@
 
 use self::pieces::push_often;
 use crate::testing::{expect_row, expect_text};
+use command_line::args::{Options, StoreOptions, words};
+use command_line::fault::{Fault, FaultLine, LineFault, ReadFault, ReportProgram};
 use run_model::level::StatusLevel;
-use scenes::args::{Options, StoreOptions, words};
-use scenes::fault::{Fault, FaultLine, LineFault, ReadFault, ReportProgram};
-use scenes::follow::{RunOutcome, follow_scene};
+use scene_follower::follow::{RunOutcome, follow_scene};
 use scenes::report::{judge, report_scene, write_report};
 use std::alloc::{AllocError, Global};
 use std::io::{ErrorKind, Read, Write};

@@ -1,14 +1,15 @@
 -- Lines of a run that are judged: each by itself, and then whether the run's reporter would refuse an event.
-use Rattle.std.specs.Prelude.{◌≡◌, ◌⊎◌, ℕ, List, ◌∷◌, ◌++◌, get_or, length, Option, None, Some, Result, Ok, Err, ⊤}
+use Rattle.std.specs.Prelude.{◌≡◌, ◌⊎◌, ℕ, List, ◌∷◌, ◌++◌, get_or, length, Option, None, Result, Ok, Err, ⊤}
 use Rattle.{std.specs.List.AllZip, std.specs.Option.option_map, command_line.specs.Faults.IsJudgeFault}
 use Rattle.{command_line.specs.declared.fault.Fault.Fault}
 use Rattle.reporter_state.specs.Refusals.{first_refused, refusal_at_by, refusal_by}
 use Rattle.{reporter_state.specs.declared.decider.OutputLoadDecider.OutputLoadDecider}
 use Rattle.{command_line.specs.declared.args.Options.Options, scenes.specs.declared.judge.Judge.Judge}
-use Rattle.{scenes.specs.Reports.fault_at_call, scenes.specs.Reports.decider_for, scenes.specs.ParsedScenes.IsFaultOf}
+use Rattle.scene_follower.specs.Reports.{fault_at_call, decider_for, Refuses}
+use Rattle.scene_follower.specs.ParsedScenes.{IsFaultOf}
 use Rattle.std.specs.Option.{option_and_then, option_or}
 use Rattle.scene_reader.specs.Names.{event_lines, lines_read, no_lines, text_lines, IsCallOf, ParsedLines, PlacedOutput}
-use Rattle.scene_reader.specs.Names.{RunLine, SceneConfig, SceneEvent, LineFault, ReportCall}
+use Rattle.scene_reader.specs.Names.{RunLine, LineFault, ReportCall}
 use Rattle.command_line.specs.declared.fault.Fault.TheVariants.{Line}
 use Rattle.command_line.specs.declared.fault.Fault.TheVariants as fault
 
@@ -17,17 +18,6 @@ pub record IsRunAccepted (options : Options) (run : ParsedLines) : Type 0 where
   pub calls : List ReportCall
   pub of_run : AllZip IsCallOf run.events calls
   pub accepted : first_refused (decider_for options run.config) calls ≡ None
-
--- a reporter of a run that is reported so refuses the call, and this is why
-abbrev pub Refuses : Options → SceneConfig → ReportCall → LineFault → Type 0
-Refuses options config call f = (n : ℕ)
-    → option_map (fault_at_call n) (refusal_by (decider_for options config) call) ≡ Some (fault.Line n f)
-
--- it refuses the call of the event
-pub record RefusesEvent (options : Options) (config : SceneConfig) (event : SceneEvent) (f : LineFault) : Type 0 where
-  pub call : ReportCall
-  pub of_event : IsCallOf event call
-  pub refused : Refuses options config call f
 
 -- the line is that of the first call of the run that is refused, and its fault is why. The events have lines of these
 -- numbers

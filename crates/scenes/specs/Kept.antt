@@ -2,14 +2,14 @@
 use Rattle.std.specs.Prelude.{◌≡◌, ◌+◌, ℕ, List, [], ◌∷◌, ◌++◌, Result, Ok, IfErr, IfOk}
 use Rattle.command_line.specs.declared.fault.Fault.{Fault}
 use Rattle.scene_reader.specs.declared.reader.LinesRead.{LinesRead}
-use Rattle.scene_reader.specs.Names.{AllRead, before_next, lines_before, lines_read, no_lines, parsed_line}
-use Rattle.scene_reader.specs.Names.{ParsedLines, plain_line}
-use Rattle.scene_reader.specs.Names.{RunLine, Takes, text_lines, with_line}
+use Rattle.scene_reader.specs.Names.{AllRead, before_next, lines_before, lines_read, no_lines, parsed_line, ParsedLines}
+use Rattle.scene_reader.specs.Names.{plain_line, RunLine, Takes, text_lines, with_line}
 use Rattle.scene_reader.specs.SceneTexts.{EventLine}
 use Rattle.scenes.specs.Held.{held_event}
-use Rattle.scenes.specs.Read.{AllTaken, AtLine, HasPassed, IsGiven, StaysConfigured, StopsNext, StopsTaking}
+use Rattle.scene_follower.specs.Read.{AllTaken, AtLine, HasPassed, IsGiven, StaysConfigured, StopsNext, StopsTaking}
 use Rattle.scenes.specs.declared.{held_call.HeldCall.HeldCall, kept.KeptLines.KeptLines, kept.KeptRun.KeptRun}
-use Rattle.scenes.specs.{Judged.IsRunAccepted, ParsedScenes.OfLines}
+use Rattle.scenes.specs.Judged.{IsRunAccepted}
+use Rattle.scene_follower.specs.ParsedScenes.{OfLines}
 use Rattle.{command_line.specs.declared.args.Options.Options}
 use Rattle.scenes.specs.declared.kept.KeptLines.TheVariants as kept
 

@@ -1,15 +1,6 @@
-pub mod Devices
-pub mod Follow
 pub mod Gathered
 pub mod Held
 pub mod Judged
 pub mod Kept
-pub mod Outcomes
-pub mod Prints
-pub mod Read
-pub mod Reading
-pub mod Reports
 pub mod SceneNotes
-pub mod SceneReporter
-pub mod ParsedScenes
 pub mod Names

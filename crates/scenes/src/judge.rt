@@ -3,10 +3,10 @@
 ghost use Rattle.std.specs.Prelude.{◌≡◌, None};
 ghost use Rattle.scenes.specs.Judged.{JudgesCall};
 
-use crate::reporter::fault_at_call;
 use command_line::fault::Fault;
 use console_reporter::imp::{OutputLoadDecider, ReportCall};
 use scene_fields::stored::PlacedOutput;
+use scene_follower::reporter::fault_at_call;
 use scene_reader::reader::CallSink;
 use std::alloc::Global;
 

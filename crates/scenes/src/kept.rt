@@ -4,13 +4,19 @@
 ghost use Rattle.std.specs.Prelude.{◌≡◌, ◌∷◌, ◌++◌, ℕ, List, ⊤};
 ghost use Rattle.std.specs.{Io.Buffered.reader_remaining};
 ghost use Rattle.scene_reader.specs.Names.{before_next, lines_before, ParsedLines, plain_line, RunLine, text_lines};
-ghost use Rattle.scenes.specs.Kept.{AreKept, AreKeptAs, HoldsLine, IsHeldLine, KeepsAll, KeepsSome};
-ghost use Rattle.scenes.specs.Read.{AreLeftBehind, PassesAll, PassesNext, PassesSome};
-ghost use Rattle.scenes.specs.Reading.{buffered};
+ghost use Rattle.scenes.specs.Kept.{AreKept, AreKeptAs, AreLinesOf, HoldsLine, IsHeldLine, KeepsAll, KeepsSome};
+ghost use Rattle.scene_follower.specs.Read.{AreLeftBehind, PassesAll, PassesNext, PassesSome};
+ghost use Rattle.scene_follower.specs.Reading.{buffered};
 
 use crate::held_call::{HeldCall, Holding};
-use crate::read::{NoMoreLines, Reading, SceneSource, has_large_output, pass_lines};
+use command_line::args::Options;
 use command_line::fault::Fault;
+use console_reporter::imp::Store;
+use console_reporter::write_str::WriteStr;
+use scene_follower::follow::{Lines, RunOutcome, end};
+use scene_follower::read::{NoMoreLines, Reading, SceneSource, has_large_output, pass_lines};
+use scene_follower::reporter::builder_of;
+use scene_follower::scene_reporter::SceneReporter;
 use scene_reader::reader::{CallSink, LinesRead};
 use std::alloc::Global;
 use std::io::Read;
@@ -206,4 +212,32 @@ fn pass_held<'a, K: CallSink>(
     read.is_begun = true;
     read.next = next;
     Ok(())
+}
+
+/// Its lines are followed once it was judged.
+impl Lines for KeptRun {
+    ghost has = { λ total r all. AreLinesOf all r };
+
+    ghost done = { λ total r run. ⊤ };
+
+    fn follow_to<'a, 'w, W: WriteStr, S: WriteStr>(
+        &mut self,
+        alloc: Global,
+        options: &Options<'a>,
+        writer: &'w mut W,
+        store: Option<Store<'w, S>>,
+    ) -> (
+        Result<RunOutcome, Fault<'a>>,
+        &'w mut W,
+        Option<Store<'w, S>>,
+    ) {
+        let config = self.begin.config;
+        let builder = match builder_of(alloc, options, &config) {
+            Ok(builder) => builder,
+            Err(fault) => return (Err(fault), writer, store),
+        };
+        let mut reporter = SceneReporter::build(alloc, options, builder, &config, writer, store);
+        let passed = self.pass_to(alloc, options.file, &mut reporter);
+        end(options, reporter, passed)
+    }
 }

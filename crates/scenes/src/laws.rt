@@ -5,9 +5,11 @@
 
 ghost use Rattle.std.specs.Prelude.{◌≡◌, ◌⊎◌, ℕ, List, [], Some, ⊤};
 ghost use Rattle.scene_reader.specs.Names.{LineFault, ParsedLines, RunLine};
-ghost use Rattle.scenes.specs.Names.{Begins, Fault, IsRefusedText, IsRejected, IsStop, IsUnread, OfText};
-ghost use Rattle.scenes.specs.Names.{Options, Prints, StandAtOneCall, StopsBy, device};
-ghost use Rattle.scenes.specs.{Follow.IsWrongLine, Read.AtLine};
+ghost use Rattle.scene_follower.specs.Names.{Begins, Fault, IsStop, IsUnread, OfText, Options, Prints, StandAtOneCall};
+ghost use Rattle.scene_follower.specs.Names.{StopsBy, device};
+ghost use Rattle.scenes.specs.Names.{IsRefusedText, IsRejected};
+ghost use Rattle.scene_follower.specs.Follow.{IsWrongLine};
+ghost use Rattle.scene_follower.specs.Read.{AtLine};
 ghost use Rattle.command_line.specs.declared.fault.Fault.TheVariants.{Line};
 ghost use Rattle.{styled_text.specs.Texts.Text, run_model.specs.declared.call.ReportCall.ReportCall};
 

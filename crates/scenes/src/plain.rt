@@ -3,10 +3,10 @@
 
 ghost use Rattle.std.specs.Prelude.{◌≡◌, ℕ, List, Option, None, Some, IfErr, OnOk, get_or};
 ghost use Rattle.reporter_state.specs.Refusals.{first_refused};
-ghost use Rattle.scenes.specs.Names.{fault_of_first, AreBegun, AreWhole, device, decider_for, fault_at_call, lines_of};
-ghost use Rattle.scenes.specs.Names.{store_for};
+ghost use Rattle.scenes.specs.Names.{fault_of_first};
+ghost use Rattle.scene_follower.specs.Names.{AreBegun, AreWhole, device, decider_for, fault_at_call, lines_of};
+ghost use Rattle.scene_follower.specs.Names.{store_for};
 
-use crate::reporter::{builder_of, fault_at_call};
 use crate::scene::Scene;
 use command_line::args::Options;
 use command_line::fault::Fault;
@@ -15,6 +15,7 @@ use console_reporter::imp::{
     run_report_with_store,
 };
 use console_reporter::write_str::TextBuffer;
+use scene_follower::reporter::{builder_of, fault_at_call};
 use std::alloc::{AllocError, Global};
 use std::io::Write;
 

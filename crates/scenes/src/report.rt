@@ -3,30 +3,31 @@
 //! The report is gathered in memory while the lines are read, so no byte is written before a scene is accepted, and
 //! none of a scene that is refused.
 
-ghost use Rattle.std.specs.Prelude.{◌≡◌, ◌⊎◌, ℕ, List, None, Option, Some, IfErr, IfOk, OnOk};
+ghost use Rattle.std.specs.Prelude.{◌≡◌, ◌⊎◌, ℕ, List, None, Option, Some, IfErr, IfOk, OnOk, [], string_bytes};
 ghost use Rattle.scenes.specs.Judged.{fault_in_memory};
-ghost use Rattle.scenes.specs.Names.{Begins, IsFaultOfLines, IsJudgeFault, IsRefusal, IsUnread, OfLines};
+ghost use Rattle.scene_follower.specs.Names.{Begins, IsJudgeFault, IsUnread, OfLines, OfText, Prints, device};
+ghost use Rattle.scene_follower.specs.Names.{store_for};
+ghost use Rattle.scenes.specs.Names.{IsFaultOfLines, IsRefusal, IsRefusedText, IsRejected, IsRunAccepted};
 ghost use Rattle.scenes.specs.Gathered.{HasGathered, IsGatheredRun, Texts};
-ghost use Rattle.scenes.specs.{Kept.IsKeptRun, Read.AreLeftBehind, Reading.buffered};
+ghost use Rattle.scenes.specs.Kept.{IsKeptRun};
+ghost use Rattle.scene_follower.specs.Read.{AreLeftBehind};
+ghost use Rattle.scene_follower.specs.Reading.{buffered};
 ghost use Rattle.std.specs.{Io.Buffered.reader_remaining};
-ghost use Rattle.scenes.specs.Names.{IsRefusedText, IsRejected};
-ghost use Rattle.std.specs.Prelude.{[], string_bytes};
-ghost use Rattle.scene_reader.specs.Names.{RunLine};
-ghost use Rattle.scenes.specs.Names.{IsRunAccepted, OfText, Prints, device, store_for};
-ghost use Rattle.scene_reader.specs.Names.{text_lines};
+ghost use Rattle.scene_reader.specs.Names.{RunLine, text_lines};
 
-use crate::follow::follow_lines;
+use crate::gathering::Gathering;
 use crate::judge::Judge;
 use crate::kept::{KeptRun, keep};
 use crate::plain::{refused_call, write_calls, write_calls_and_records};
-use crate::read::{Reading, SceneSource};
-use crate::reporter::{builder_of, decider_of};
 use crate::scene::Scene;
-use crate::scene_reporter::{Gathering, SceneReporter, deliver_to};
 use command_line::args::Options;
 use command_line::fault::Fault;
 use console_reporter::imp::Store;
 use console_reporter::write_str::TextBuffer;
+use scene_follower::follow::follow_lines;
+use scene_follower::read::{Reading, SceneSource};
+use scene_follower::reporter::{builder_of, decider_of};
+use scene_follower::scene_reporter::{SceneReporter, deliver_to};
 use std::alloc::{AllocError, Global};
 use std::io::{Read, Write};
 use std::mem;

@@ -3,11 +3,10 @@
 ghost use Rattle.std.specs.Prelude.{◌≡◌, IfOk, IfErr, get_or};
 ghost use Rattle.std.specs.List.{AllZip};
 ghost use Rattle.scene_reader.specs.Names.{IsCallOf, event_lines, no_lines, text_lines};
-ghost use Rattle.scenes.specs.Names.{AreReadyCallsOf, IsFaultOfLines, IsJudgeFault, OfText};
+ghost use Rattle.scene_follower.specs.Names.{AreReadyCallsOf, IsJudgeFault, OfText};
+ghost use Rattle.scenes.specs.Names.{IsFaultOfLines};
 ghost use Rattle.scenes.specs.{SceneNotes.NotesEvent};
 
-use crate::read::{Reading, SceneSource};
-use crate::reporter::decider_of;
 use command_line::args::Options;
 use command_line::fault::Fault;
 use console_reporter::imp::{ReportCall, unload_skipped};
@@ -18,6 +17,8 @@ use run_model::name::{OwnedTestInstanceId, TestInstanceId};
 use scene_fields::fault::LineError;
 use scene_fields::split::first_line;
 use scene_fields::stored::PlacedOutput;
+use scene_follower::read::{Reading, SceneSource};
+use scene_follower::reporter::decider_of;
 use scene_reader::reader::{CallSink, read_call};
 use scene_run_lines::config::SceneConfig;
 use scene_unit_lines::lines::no_names;
@@ -41,7 +42,7 @@ struct EventLine {
 
 impl Model for Scene {
     ghost use Rattle.std.specs.Prelude.{map};
-    ghost use Rattle.scenes.specs.ParsedScenes.{IsOfText, SceneText};
+    ghost use Rattle.scene_follower.specs.ParsedScenes.{IsOfText, SceneText};
 
     ghost Value = { SceneText };
 

@@ -15,7 +15,8 @@ use Rattle.run_model.specs.Names.{Attempts, attempt_with_output, Nanos, StressIn
 use Rattle.run_model.specs.Names.{unloaded_attempt}
 use Rattle.scene_reader.specs.Names.{call_by_names, ReportCall, RunStats, TestEventKind, ChildOutputDescription}
 use Rattle.scene_reader.specs.Names.{EventCall, HeaderCall, LiveSpec, PlacedOutput, PrefixCall, SceneEvent}
-use Rattle.scenes.specs.{Outcomes.outcome_after, Outcomes.run_outcome, declared.outcome.RunOutcome.RunOutcome}
+use Rattle.scene_follower.specs.Outcomes.{outcome_after, run_outcome}
+use Rattle.scene_follower.specs.declared.outcome.RunOutcome.{RunOutcome}
 use Rattle.run_model.specs.declared.call.ReportCall.TheVariants as call
 use Rattle.run_model.specs.declared.event.TestEventKind.TheVariants as kind
 use Rattle.run_model.specs.declared.info.InfoResponse.TheVariants as response

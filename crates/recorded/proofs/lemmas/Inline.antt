@@ -3,9 +3,10 @@
 use Rattle.std.proofs.Common.{◌≡◌, ◌⊎◌, ℕ, Bool, true, false, List, [], ◌∷◌, map, Option, None, Some, Result, Ok, Err}
 use Rattle.std.proofs.Common.{refl, sym, ap, ◌∙◌, subst, inl, inr, if◌then◌else◌}
 use Rattle.{std.specs.List.AllZip, reporter_state.specs.declared.decider.OutputLoadDecider.OutputLoadDecider}
-use Rattle.{scenes.proofs.lemmas.ReadLines.kept_config}
+use Rattle.scene_follower.proofs.lemmas.ReadLines.{kept_config}
 use Rattle.{std.proofs.lemmas.Bool.cases_Bool, std.proofs.lemmas.Bool.false≢true}
-use Rattle.{std.proofs.lemmas.Slice.Zip.all_zipped_more, scenes.specs.Names.Options, scenes.specs.Names.decider_for}
+use Rattle.std.proofs.lemmas.Slice.Zip.{all_zipped_more}
+use Rattle.scene_follower.specs.Names.{Options, decider_for}
 use Rattle.recorded.specs.Names.{event_inline, event_replayed, first_field_not, is_there, is_undamaged, unless_bad}
 use Rattle.recorded.specs.Names.{wanted_of, skips, line_inline, line_replayed}
 use Rattle.scene_reader.specs.Names.{PlacedOutput, SceneEvent, LineFault, AllRead, ParsedLines, event_line, is_begun}

@@ -1,18 +1,18 @@
 -- What is left of a recorded run, line by line (for `RecordedRun`'s `next_piece`, `pass_line`).
 use Rattle.std.proofs.Common.{◌≡◌, ℕ, ◌+◌, Bool, true, false, List, [], ◌∷◌, ◌++◌, Option, Some, Result, Ok, Err, map}
 use Rattle.std.proofs.Common.{refl, sym, ap, ◌∙◌, subst, arith, inl, inr, IfOk}
-use Rattle.scenes.specs.{Names.Options, Names.Fault, Names.HasNext, Names.PassesNext, Names.decider_for, Read.IsGiven}
-use Rattle.{scenes.specs.Names.LinesRead, scenes.specs.Read.StopsNext}
+use Rattle.scene_follower.specs.Names.{Options, Fault, HasNext, PassesNext, decider_for, LinesRead}
+use Rattle.scene_follower.specs.Read.{IsGiven, StopsNext}
 use Rattle.{reporter_state.specs.declared.decider.OutputLoadDecider.OutputLoadDecider}
-use Rattle.{scenes.proofs.lemmas.ReadLines.begun_by}
+use Rattle.scene_follower.proofs.lemmas.ReadLines.{begun_by}
 use Rattle.recorded.proofs.lemmas.WholeLines.{ended_lines-joined, ended_lines-none}
-use Rattle.recorded.specs.Names.{event_replayed, LoadsCall, counted, before_rest, needed_for}
-use Rattle.recorded.specs.Names.{line_replayed, needed, needed_by, needed_of, ended_lines, IsLeft}
+use Rattle.recorded.specs.Names.{event_replayed, LoadsCall, counted, before_rest, needed_for, line_replayed, needed}
+use Rattle.recorded.specs.Names.{needed_by, needed_of, ended_lines, IsLeft}
 use Rattle.{command_line.specs.Pieces.IsNextPiece, scene_fields.specs.Split.Lacks}
 use Rattle.scene_reader.specs.Names.{before_behind, before_next, call_by_names, event_line, IsLineFault, IsTaken}
-use Rattle.scene_reader.specs.Names.{line_value, LineFault, lines_before, LinesBefore, ParsedLine}
-use Rattle.scene_reader.specs.Names.{ParsedLines, PassesValue, PlacedOutput, recorded_line, ReportCall, RunLine}
-use Rattle.scene_reader.specs.Names.{SceneConfig, SceneEvent, Takes, with_line, with_made}
+use Rattle.scene_reader.specs.Names.{line_value, LineFault, lines_before, LinesBefore, ParsedLine, ParsedLines}
+use Rattle.scene_reader.specs.Names.{PassesValue, PlacedOutput, recorded_line, ReportCall, RunLine, SceneConfig}
+use Rattle.scene_reader.specs.Names.{SceneEvent, Takes, with_line, with_made}
 use Rattle.scene_reader.specs.SceneTexts.{ConfigLine, EventLine, NoEvent}
 use Rattle.command_line.specs.declared.fault.Fault.TheVariants as program
 

@@ -1,12 +1,12 @@
 -- A call whose stored outputs a replay loads (for `Loading::load`, `Loading::take`).
 use Rattle.scene_reader.specs.Names.{SceneEvent, PlacedOutput}
-use Rattle.std.proofs.Common.{◌≡◌, ℕ, Bool, true, List, [], Option, Some, Ok, Err, length, sym, ◌∙◌}
-use Rattle.std.proofs.Common.{subst, arith, ◌==◌, inl, inr, IfSome}
+use Rattle.std.proofs.Common.{◌≡◌, ℕ, Bool, true, List, [], Option, Some, Ok, Err, length, sym, ◌∙◌, subst, arith, ◌==◌}
+use Rattle.std.proofs.Common.{inl, inr, IfSome}
 use Rattle.{reporter_state.specs.declared.decider.OutputLoadDecider.OutputLoadDecider}
 use Rattle.{std.proofs.lemmas.Bool.Decides.nat_tests, std.proofs.lemmas.List.nil_from_length}
-use Rattle.scenes.specs.Names.{IsUnread, Fault}
-use Rattle.recorded.specs.Names.{IfDamaged, IsReplayed, IsUnloaded, event_replayed, IsFaultOfLoad}
-use Rattle.recorded.specs.Names.{LoadEventFault, LoadFault}
+use Rattle.scene_follower.specs.Names.{IsUnread, Fault}
+use Rattle.recorded.specs.Names.{IfDamaged, IsReplayed, IsUnloaded, event_replayed, IsFaultOfLoad, LoadEventFault}
+use Rattle.recorded.specs.Names.{LoadFault}
 use Rattle.recorded.specs.declared.outputs.LoadFault.TheVariants as load
 use Rattle.scene_fields.specs.declared.fault.LineFault.TheVariants as wrong
 

@@ -1,10 +1,12 @@
 -- What a replay prints is the report of the run with every output in its place (for `RecordedRun::replay`).
 use Rattle.std.proofs.Common.{◌≡◌, ℕ, ◌^◌, ◌-◌, ◌≤◌, List, [], ◌∷◌, map, reverse, Option, Result, Ok, Err, IfOk, OnOk}
 use Rattle.std.proofs.Common.{refl, sym, ap, ◌∙◌, subst, arith, inl, inr}
-use Rattle.{std.specs.Io.KnownBytes.Appends, std.specs.List.AllZip, scenes.specs.declared.outcome.RunOutcome.RunOutcome}
-use Rattle.{scenes.proofs.lemmas.ReadyCalls.outcome_unread}
-use Rattle.scenes.specs.Names.{Options, Fault, PrintsFollowed, device, run_outcome, OfLines, OfText, configuration_for}
-use Rattle.scenes.specs.Names.{report_of, stored_of, decider_for}
+use Rattle.std.specs.Io.KnownBytes.{Appends}
+use Rattle.std.specs.List.{AllZip}
+use Rattle.scene_follower.specs.declared.outcome.RunOutcome.{RunOutcome}
+use Rattle.scene_follower.proofs.lemmas.ReadyCalls.{outcome_unread}
+use Rattle.scene_follower.specs.Names.{Options, Fault, PrintsFollowed, device, run_outcome, OfLines, OfText}
+use Rattle.scene_follower.specs.Names.{configuration_for, report_of, stored_of, decider_for}
 use Rattle.console_reporter.proofs.lemmas.Earlier.{call_of_last, calls_of_last, isolated_last}
 use Rattle.{console_reporter.proofs.lemmas.Isolation.isolated, recorded.proofs.lemmas.Skipped.skipped_call}
 use Rattle.recorded.proofs.lemmas.{Named.call_inline, Named.named-inline, Named.named_skips, SpelledLines.scene_law}

@@ -2,7 +2,8 @@
 use Rattle.std.proofs.Common.{◌≡◌, ℕ, ◌<◌, List, [], ◌∷◌, ◌++◌, length, refl, ap, ◌∙◌, arith, inl, inr, ◌==◌}
 use Rattle.{std.specs.Prelude.⊤, std.specs.List.onto_first, std.proofs.lemmas.Bool.cases_Bool}
 use Rattle.{scene_fields.specs.Split.Lacks, scene_fields.specs.Split.split_on}
-use Rattle.{scene_fields.proofs.lemmas.Cuts.split_on-lacks, scenes.proofs.lemmas.ReadLines.split_on_joined}
+use Rattle.scene_fields.proofs.lemmas.Cuts.{split_on-lacks}
+use Rattle.scene_follower.proofs.lemmas.ReadLines.{split_on_joined}
 use Rattle.{std.proofs.lemmas.List.Splits.length-slice_split, recorded.specs.Names.ended_lines}
 use Rattle.{recorded.specs.Names.without_last}
 

@@ -7,8 +7,8 @@ use super::{
     ASKED, CANCELLED, OF_ASKED, OF_CANCELLED, OF_TWO_TESTS, OPTIONS, STORING, TWO_TESTS,
     judge_and_write, report_and_store,
 };
+use command_line::fault::Fault;
 use scene_reader::reader::LARGE;
-use scenes::fault::Fault;
 use std::test::Fail;
 use test_devices::Device;
 

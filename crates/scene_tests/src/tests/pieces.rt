@@ -1,10 +1,10 @@
 //! Scenes that are longer than one read of a file.
 
 use super::{OPTIONS, report_and_store};
+use command_line::args::Options;
+use command_line::fault::{Fault, LineFault};
 use run_model::level::StatusLevel;
 use scene_reader::reader::LARGE;
-use scenes::args::Options;
-use scenes::fault::{Fault, LineFault};
 use std::alloc::{AllocError, Global};
 use std::test::Fail;
 

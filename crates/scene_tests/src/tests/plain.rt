@@ -2,9 +2,9 @@
 
 use super::{ASKED, CANCELLED, IN_COLOUR, OPTIONS, TWO_TESTS};
 use crate::testing::{expect_row, expect_text};
+use command_line::args::{Options, StoreOptions};
+use command_line::fault::Fault;
 use run_model::level::StatusLevel;
-use scenes::args::{Options, StoreOptions};
-use scenes::fault::Fault;
 use scenes::report::{read_whole, report_scene, write_report};
 use std::alloc::{AllocError, Global};
 use std::mem;

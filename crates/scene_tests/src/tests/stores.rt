@@ -6,8 +6,8 @@ use super::{
     STORING, TWO_TESTS, report_and_store,
 };
 use crate::testing::expect_row;
-use scenes::args::Options;
-use scenes::fault::Fault;
+use command_line::args::Options;
+use command_line::fault::Fault;
 use std::alloc::Global;
 use std::test::Fail;
 use test_devices::{Device, Failure};

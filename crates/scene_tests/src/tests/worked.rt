@@ -1,12 +1,12 @@
 //! Short runs through `run_report`, each with its whole report, and the calls that it refuses.
 
 use super::{ASKED, CANCELLED, END, OF_ASKED, OF_CANCELLED, OF_TWO_TESTS, OPTIONS, TWO_TESTS};
+use command_line::args::Options;
+use command_line::fault::Fault;
 use console_reporter::imp::{RunFault, WriteEventError, run_report};
 use run_model::level::StatusLevel;
-use scenes::args::Options;
-use scenes::fault::Fault;
+use scene_follower::reporter::builder_of;
 use scenes::report::read_whole;
-use scenes::reporter::builder_of;
 use std::alloc::Global;
 use std::mem;
 use std::test::Fail;

@@ -1,30 +1,30 @@
 -- Lines whose calls are all accepted: what stops their report stopped the report of the whole run (for
 -- `report_judged`, `write_report`).
-use Rattle.std.proofs.Common.{◌≡◌, ℕ, ◌+◌, true, false, List, [], ◌∷◌, ◌++◌, Option, None, Some, Result, Ok, Err}
-use Rattle.std.proofs.Common.{refl, sym, ap, ap₂, ◌∙◌, subst, append_assoc, append-nil, inl, inr}
-use Rattle.scenes.proofs.Common.{AllRead, AllZip, AtLine, Begins, cases_Bool, decider_for, Event, Fault}
-use Rattle.scenes.proofs.Common.{first_refused, HasBeginning, HasFirstCalls, Header, is_begun, IsCallOf, is_some, Line}
-use Rattle.scenes.proofs.Common.{LineFault, line_value, lines_before, lines_with, Meaning, no_lines, Options}
-use Rattle.scenes.proofs.Common.{OutputLoadDecider, ParsedLines, Prefix, Prints, refusal_by, report_of, ReportCall}
-use Rattle.scenes.proofs.Common.{RunLine, SceneEvent, StandAtOneCall, StopsBy}
-use Rattle.scenes.proofs.Common.{stored_of, TestEventKind, with_line, WriteEventError}
+use Rattle.std.proofs.Common.{◌≡◌, ℕ, true, false, List, [], ◌∷◌, ◌++◌, Option, None, Some, Result, Ok, Err, refl}
+use Rattle.std.proofs.Common.{sym, ap, ap₂, ◌∙◌, subst, append_assoc, append-nil, inl, inr, arith}
+use Rattle.scene_follower.proofs.Common.{AllRead, AllZip, AtLine, Begins, cases_Bool, decider_for, Event, Fault}
+use Rattle.scene_follower.proofs.Common.{first_refused, HasBeginning, HasFirstCalls, Header, is_begun, IsCallOf}
+use Rattle.scene_follower.proofs.Common.{is_some, Line, LineFault, line_value, lines_before, lines_with, Meaning}
+use Rattle.scene_follower.proofs.Common.{no_lines, Options, OutputLoadDecider, ParsedLines, Prefix, Prints, refusal_by}
+use Rattle.scene_follower.proofs.Common.{report_of, ReportCall, RunLine, SceneEvent, StandAtOneCall, StopsBy, stored_of}
+use Rattle.scene_follower.proofs.Common.{TestEventKind, with_line, WriteEventError, Appends-nil, configuration_for}
+use Rattle.scene_follower.proofs.Common.{device, fault_at_call, HasAtLeast, HasAtMost, option_map, OutOfMemory, report}
+use Rattle.scene_follower.proofs.Common.{store_for, stored, stored_text, Text, text}
 use Rattle.{command_line.specs.declared.fault.Fault.TheVariants.CannotRead, std.specs.Borrow.Bor}
 use Rattle.reporter_state.specs.Names.{event_refusal}
 use Rattle.scene_reader.proofs.lemmas.Tellings.{all_tell, wrong_told}
 use Rattle.scene_reader.specs.Names.{call_by_names, EventCall, kind_by_names, line_read, lines_read, ParsedLine}
 use Rattle.scene_reader.specs.SceneTexts.{ConfigLine, EventLine, NoEvent}
-use Rattle.scenes.specs.Follow.{IsWrongLine}
-use Rattle.scenes.specs.Judged.{fault_in_memory, IsRunAccepted, RefusesEvent}
-use Rattle.scenes.specs.ParsedScenes.{OfLines}
-use Rattle.scenes.proofs.lemmas.Prints.{Begun, calls_so, front_of_more, memory_no_device, memory_no_store}
-use Rattle.scenes.proofs.lemmas.ReadLines.{begun_by, kept_begun, kept_config}
-use Rattle.scenes.proofs.lemmas.Refusals.{fails_behind, none_more, zip_after, zip_both}
-use Rattle.scenes.proofs.Common.{Appends-nil, configuration_for, device, fault_at_call, HasAtLeast, HasAtMost}
-use Rattle.scenes.proofs.Common.{option_map, OutOfMemory, report, store_for, stored, stored_text, Text, text}
+use Rattle.scene_follower.specs.Follow.{IsWrongLine}
+use Rattle.scenes.specs.Judged.{fault_in_memory, IsRunAccepted}
+use Rattle.scene_follower.specs.Reports.{RefusesEvent}
+use Rattle.scene_follower.specs.ParsedScenes.{OfLines}
+use Rattle.scene_follower.proofs.lemmas.Prints.{Begun, calls_so, front_of_more, memory_no_device, memory_no_store}
+use Rattle.scene_follower.proofs.lemmas.ReadLines.{begun_by, kept_begun, kept_config}
+use Rattle.scene_follower.proofs.lemmas.Refusals.{fails_behind, none_more, zip_after, zip_both}
 use Rattle.writers.specs.declared.write_str.WriteFault.TheVariants.{Device}
-use Rattle.scenes.specs.Prints.{IsStop}
+use Rattle.scene_follower.specs.Prints.{IsStop}
 use Rattle.styled_text.specs.Names.{Appends, AppendsFront}
-use Rattle.std.proofs.Common.{arith}
 use Rattle.run_model.specs.declared.event.TestEventKind.TheVariants as kind
 use Rattle.run_model.specs.declared.info.InfoResponse.TheVariants as response
 

@@ -3,9 +3,10 @@
 use Rattle.std.proofs.Common.{◌≡◌, ◌⊎◌, ◌∙◌, inl, inr, ℕ, List, Result, Ok, Err, subst, sym}
 use Rattle.{std.specs.Prelude.⊤, styled_text.specs.Names.Bor, styled_text.specs.Names.Meaning}
 use Rattle.scene_reader.specs.Names.{LineFault, ParsedLines, RunLine, lines_read, no_lines, text_lines}
-use Rattle.scenes.specs.Names.{Begins, Fault, IsFaultOfLines, IsJudgeFault, IsRefusedText, IsRejected, IsStop, IsUnread}
-use Rattle.scenes.specs.Names.{OfText, Options, Prints, StopsBy}
-use Rattle.scenes.specs.{Follow.IsWrongLine, Read.AtLine}
+use Rattle.scene_follower.specs.Names.{Begins, Fault, IsJudgeFault, IsStop, IsUnread, OfText, Options, Prints, StopsBy}
+use Rattle.scenes.specs.Names.{IsFaultOfLines, IsRefusedText, IsRejected}
+use Rattle.scene_follower.specs.Follow.{IsWrongLine}
+use Rattle.scene_follower.specs.Read.{AtLine}
 use Rattle.command_line.specs.declared.fault.Fault.TheVariants.{CannotRead, CannotWrite, Line, OutOfMemory, StoreFailed}
 use Rattle.command_line.specs.declared.fault.Fault.TheVariants.{Usage, WriteFailed}
 

@@ -3,19 +3,17 @@
 use Rattle.std.proofs.Common.{◌≡◌, ◌⊎◌, ℕ, ◌+◌, true, false, List, [], ◌∷◌, ◌++◌, Option, None, Some, Ok, Err, Result}
 use Rattle.std.proofs.Common.{length, refl, sym, ap, ◌∙◌, subst, append_assoc, append-nil, arith, inl, inr}
 use Rattle.{std.proofs.Math.Seq.get_or-append_seam, std.proofs.lemmas.Slice.Zip.AllZip-long}
-use Rattle.scenes.proofs.Common.{AllRead, AllZip, all_append, Fault, IsCallOf}
-use Rattle.scenes.proofs.Common.{length-append, Line, LineFault, line_value, lines_before, lines_with, nat_lt}
-use Rattle.scenes.proofs.Common.{nat_tests}
-use Rattle.scenes.proofs.Common.{no_lines, Options, OutOfMemory, ParsedLines, ReportCall, RunLine, SceneEvent}
-use Rattle.scenes.proofs.Common.{with_line}
+use Rattle.scene_follower.proofs.Common.{AllRead, AllZip, all_append, Fault, IsCallOf, length-append, Line, LineFault}
+use Rattle.scene_follower.proofs.Common.{line_value, lines_before, lines_with, nat_lt, nat_tests, no_lines, Options}
+use Rattle.scene_follower.proofs.Common.{OutOfMemory, ParsedLines, ReportCall, RunLine, SceneEvent, with_line}
+use Rattle.scene_follower.proofs.Common.{StaysConfigured}
 use Rattle.scene_reader.proofs.lemmas.Tellings.{all_told, noted_append}
-use Rattle.scene_reader.specs.Names.{call_by_names, event_lines, line_here, line_read, ParsedLine}
-use Rattle.scene_reader.specs.Names.{PlacedOutput, Takes}
+use Rattle.scene_reader.specs.Names.{call_by_names, event_lines, line_here, line_read, ParsedLine, PlacedOutput, Takes}
 use Rattle.scene_reader.specs.SceneTexts.{ConfigLine, EventLine, NoEvent}
-use Rattle.scenes.specs.Judged.{AreRefusedLines, IsRunAccepted, IsRunRefused, Refuses}
-use Rattle.scenes.specs.Judged.{IsFirstRefused, RefusesEvent}
-use Rattle.scenes.specs.Read.{AllTaken, IsGiven}
-use Rattle.scenes.{proofs.Common.StaysConfigured, proofs.lemmas.Refusals.zip_both}
+use Rattle.scenes.specs.Judged.{AreRefusedLines, IsRunAccepted, IsRunRefused, IsFirstRefused}
+use Rattle.scene_follower.specs.Reports.{Refuses, RefusesEvent}
+use Rattle.scene_follower.specs.Read.{AllTaken, IsGiven}
+use Rattle.scene_follower.proofs.lemmas.Refusals.{zip_both}
 
 pub not_less : (k : ℕ) → nat_lt k k ≡ false
 not_less k = grind (arith, nat_tests)

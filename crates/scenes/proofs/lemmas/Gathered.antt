@@ -1,44 +1,41 @@
 -- Lines that are judged, and a report of them that is gathered in memory and then delivered (for `gather_to`,
 -- `report_gathered`, `read_judged`).
 use Rattle.std.proofs.Common.{◌≡◌, ◌⊎◌, ℕ, ◌+◌, List, [], ◌∷◌, ◌++◌, Option, None, Some, Result, Ok, Err, length, refl}
-use Rattle.std.proofs.Common.{sym, ap, ◌∙◌, subst, arith, inl, inr, IfErr, OnOk, String, string_bytes}
+use Rattle.std.proofs.Common.{sym, ap, ◌∙◌, subst, arith, inl, inr, IfErr, OnOk, String, string_bytes, append_assoc}
 use Rattle.{std.specs.declared.alloc.Global.Global}
-use Rattle.scenes.proofs.Common.{AllRead, all_append, AtLine, Begins, Fault, false≢true}
-use Rattle.scenes.proofs.Common.{Follows, is_some, IsUnread, Line, LineFault, line_value, lines_before}
-use Rattle.scenes.proofs.Common.{Meaning, no_lines, Options, OutOfMemory, ParsedLines, ReportCall, report_of}
-use Rattle.scenes.proofs.Common.{RunLine, SceneEvent, SceneReporter, StopsAtEvent, store_for}
-use Rattle.scenes.proofs.Common.{store_meaning, string_meaning, Text, TextBuffer, with_line, WriteFailed, writers}
+use Rattle.scene_follower.proofs.Common.{AllRead, all_append, AtLine, Begins, Fault, false≢true, Follows, is_some}
+use Rattle.scene_follower.proofs.Common.{IsUnread, Line, LineFault, line_value, lines_before, Meaning, no_lines}
+use Rattle.scene_follower.proofs.Common.{Options, OutOfMemory, ParsedLines, ReportCall, report_of, RunLine, SceneEvent}
+use Rattle.scene_follower.proofs.Common.{StopsAtEvent, store_for, store_meaning, string_meaning, Text}
+use Rattle.scene_follower.specs.declared.scene_reporter.SceneReporter.{SceneReporter}
+use Rattle.scene_follower.proofs.Common.{TextBuffer, with_line, WriteFailed, writers, decider_for, refusal_by}
+use Rattle.scene_follower.proofs.Common.{SceneConfig, StaysConfigured, length-append, device}
 use Rattle.{command_line.specs.declared.fault.Fault.TheVariants.CannotRead}
 use Rattle.scene_reader.proofs.lemmas.Tellings.{all_told, wrong_told}
-use Rattle.scene_reader.specs.Names.{call_by_names, line_read, lines_read, PlacedOutput, Takes}
+use Rattle.scene_reader.specs.Names.{call_by_names, line_read, lines_read, PlacedOutput, Takes, before_next}
 use Rattle.scene_reader.specs.SceneTexts.{EventLine}
-use Rattle.scenes.specs.Judged.{IsRefusal, IsRunAccepted, JudgesCall, RefusesEvent}
+use Rattle.scenes.specs.Judged.{IsRefusal, IsRunAccepted, JudgesCall, IsFirstRefused}
+use Rattle.scene_follower.specs.Reports.{RefusesEvent}
 use Rattle.scenes.specs.declared.judge.{Judge.Judge}
-use Rattle.scenes.proofs.Common.{decider_for, refusal_by}
-use Rattle.scenes.proofs.lemmas.Refusals.{none_more, refused_or, zip_both}
-use Rattle.scenes.specs.{ParsedScenes.OfLines, Prints.HasReport, Prints.IsStop}
-use Rattle.scenes.specs.Read.{AllTaken, HasConfigured, IsBegin, StopsConfiguring, StopsRead}
-use Rattle.scenes.specs.Read.{StopsTaking}
+use Rattle.scene_follower.proofs.lemmas.Refusals.{none_more, refused_or, zip_both}
+use Rattle.scene_follower.specs.ParsedScenes.{OfLines}
+use Rattle.scene_follower.specs.Prints.{HasReport, IsStop}
+use Rattle.scene_follower.specs.Read.{AllTaken, HasConfigured, IsBegin, StopsConfiguring, StopsRead, StopsTaking}
+use Rattle.scene_follower.specs.Read.{PassesSome}
 use Rattle.scene_reader.specs.declared.reader.LinesRead.{LinesRead}
-use Rattle.scenes.proofs.Common.{SceneConfig}
-use Rattle.scenes.specs.SceneReporter.{GathersCall, HoldsFault, IsNoLine, IsSetFor, ReportsCall}
-use Rattle.scenes.specs.declared.scene_reporter.{Gathering.Gathering}
-use Rattle.{scenes.proofs.Common.StaysConfigured}
-use Rattle.scenes.proofs.lemmas.Configured.{stays_behind, stays_front, stays_rest}
+use Rattle.scenes.specs.Gathered.{GathersCall, HoldsFault, IsNoLine, HasFollowed, HasGathered, IsGatheredRun, Texts}
+use Rattle.scene_follower.specs.SceneReporter.{IsSetFor, ReportsCall}
+use Rattle.scenes.specs.declared.gathering.Gathering.{Gathering}
+use Rattle.scene_follower.proofs.lemmas.Configured.{stays_behind, stays_front, stays_rest}
 use Rattle.scenes.proofs.lemmas.Kept.{kept_behind, none_before}
 use Rattle.scenes.specs.{Kept.IsKeptBehind, Kept.KeepsAll}
 use Rattle.scenes.specs.declared.{kept.KeptRun.KeptRun}
 use Rattle.std.specs.Prelude.{IfOk}
-use Rattle.scene_reader.specs.Names.{before_next}
-use Rattle.scenes.proofs.Common.{length-append}
-use Rattle.std.proofs.Common.{append_assoc}
-use Rattle.scenes.specs.Read.{PassesSome}
-use Rattle.scenes.specs.Gathered.{HasFollowed, HasGathered, IsGatheredRun, Texts}
-use Rattle.scenes.specs.Judged.{IsFirstRefused}
 use Rattle.scenes.proofs.lemmas.FirstRefused.{IsJudge, Judged, judged, refused_lines}
-use Rattle.scenes.proofs.Common.{device}
-use Rattle.scenes.proofs.lemmas.Devices.{alone_begun, begun_here}
-use Rattle.scenes.proofs.lemmas.{Prints.calls_so, ReadLines.at_behind, Taken.taken_read}
+use Rattle.scene_follower.proofs.lemmas.Devices.{alone_begun, begun_here}
+use Rattle.scene_follower.proofs.lemmas.Prints.{calls_so}
+use Rattle.scene_follower.proofs.lemmas.ReadLines.{at_behind}
+use Rattle.scene_follower.proofs.lemmas.Taken.{taken_read}
 use Rattle.styled_text.specs.Names.{BufferStops, WriteFault}
 use Rattle.writers.specs.declared.write_str.WriteFault.TheVariants.{Device, Memory}
 use Rattle.writers.specs.StringWriter.{StringStops}

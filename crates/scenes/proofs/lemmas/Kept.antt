@@ -1,29 +1,29 @@
 -- Lines that are kept (for `keep`, `pass_kept`).
 use Rattle.std.proofs.Common.{◌≡◌, ℕ, ◌+◌, List, [], ◌∷◌, ◌++◌, Result, Ok, Err, length, refl, sym, ap, ◌∙◌, subst}
-use Rattle.std.proofs.Common.{append-nil, append_assoc, arith, drop, get_or, inl, inr, ◌<◌}
+use Rattle.std.proofs.Common.{append-nil, append_assoc, arith, drop, get_or, inl, inr, ◌<◌, Vec}
 use Rattle.{std.proofs.lemmas.List.drop_more}
-use Rattle.scenes.proofs.Common.{AllRead, Fault, lines_before, ParsedLines, RunLine, with_line}
+use Rattle.scene_follower.proofs.Common.{AllRead, Fault, lines_before, ParsedLines, RunLine, with_line, all_append}
+use Rattle.scene_follower.proofs.Common.{AtLine, no_lines, Options, StaysConfigured, length-append, line_value}
+use Rattle.scene_follower.proofs.Common.{OutOfMemory, SceneEvent}
 use Rattle.scene_reader.specs.declared.reader.LinesRead.{LinesRead}
 use Rattle.scene_reader.specs.Names.{before_next, line_read, lines_read, ParsedLine, plain_line, Takes, text_lines}
+use Rattle.scene_reader.specs.Names.{parsed_line}
 use Rattle.scene_reader.specs.SceneTexts.{ConfigLine, EventLine, NoEvent}
-use Rattle.scenes.specs.Kept.{AreKept, AreKeptAs, IsKeptBehind}
-use Rattle.scenes.specs.Read.{AllTaken, HasPassed, IsGiven, StopsNext, StopsRead, StopsTaking}
+use Rattle.scenes.specs.Kept.{AreKept, AreKeptAs, IsKeptBehind, HoldsLine, KeepsSome}
+use Rattle.scene_follower.specs.Read.{AllTaken, HasPassed, IsGiven, StopsNext, StopsRead, StopsTaking, PassesNext}
+use Rattle.scene_follower.specs.Read.{PassesSome}
 use Rattle.scenes.specs.declared.kept.{KeptLines.KeptLines, KeptRun.KeptRun}
 use Rattle.scenes.specs.declared.kept.KeptLines.TheVariants as kept
-use Rattle.scenes.proofs.Common.{all_append, AtLine, no_lines, Options, StaysConfigured}
 use Rattle.scene_reader.proofs.lemmas.Tellings.{all_told}
-use Rattle.scenes.specs.{Judged.IsRunAccepted, ParsedScenes.OfLines}
+use Rattle.scenes.specs.Judged.{IsRunAccepted}
+use Rattle.scene_follower.specs.ParsedScenes.{OfLines}
 use Rattle.scenes.specs.Held.{held_event, HoldsCall, LendsCall}
 use Rattle.scenes.specs.declared.held_call.{HeldCall.HeldCall, Holding.Holding}
-use Rattle.scenes.specs.Read.{PassesNext, PassesSome}
-use Rattle.scenes.proofs.lemmas.{Accepted.all_split, Taken.taken_read}
-use Rattle.scenes.proofs.lemmas.Taken.{more_passed, more_stopped, still_passed, taken_append}
-use Rattle.{scenes.proofs.Common.length-append, scenes.specs.Kept.HoldsLine, scenes.specs.Kept.KeepsSome}
+use Rattle.scenes.proofs.lemmas.Accepted.{all_split}
+use Rattle.scene_follower.proofs.lemmas.Taken.{taken_read, more_passed, more_stopped, still_passed, taken_append}
 use Rattle.{std.specs.declared.alloc.Global.Global}
-use Rattle.std.proofs.Common.{Vec}
-use Rattle.scenes.proofs.Common.{line_value, OutOfMemory, SceneEvent}
-use Rattle.scene_reader.specs.Names.{parsed_line}
-use Rattle.scenes.proofs.lemmas.{Configured.stays_front, FirstRefused.IsJudge}
+use Rattle.scene_follower.proofs.lemmas.Configured.{stays_front}
+use Rattle.scenes.proofs.lemmas.FirstRefused.{IsJudge}
 use Rattle.std.specs.Prelude.{Option, None, Some}
 
 -- the next of some lines that are kept

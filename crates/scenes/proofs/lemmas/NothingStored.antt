@@ -1,7 +1,7 @@
 -- Where nothing came of a report, and calls without a text have no record, nothing came of the records (for
 -- `records_come_after_texts`).
 use Rattle.std.proofs.Common.{◌≡◌, ◌⊎◌, ℕ, List, [], ◌∷◌, ◌++◌, Option, None, Some, sym, ◌∙◌, inl, inr}
-use Rattle.scenes.proofs.Common.{device, HasAtLeast, HasAtMost, ReportCall, StandAtOneCall, Text}
+use Rattle.scene_follower.proofs.Common.{device, HasAtLeast, HasAtMost, ReportCall, StandAtOneCall, Text}
 use Rattle.styled_text.specs.Names.{AppendsFront, WriteFault, Appends}
 
 none_left : (xs ys : List ℕ) → [] ≡ xs ++ ys → xs ≡ []

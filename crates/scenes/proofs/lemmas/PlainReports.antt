@@ -1,31 +1,33 @@
 -- A run of all calls that stopped at one of them, and calls whose output was left unread (for `write_calls`,
 -- `write_calls_and_records`, `judge`, `write_report`).
 use Rattle.std.proofs.Common.{◌≡◌, ◌⊎◌, ℕ, suc, ◌<◌, true, false, Bool, List, [], ◌∷◌, ◌++◌, Option, None, Some, length}
-use Rattle.std.proofs.Common.{take, drop, get_or, reverse, refl, sym, ap, ◌∙◌, subst, ap₂, append-nil}
-use Rattle.scenes.proofs.Common.{AllZip, Appends-nil, AreWhole, Begins, buffer_meaning, BufferAccepts}
-use Rattle.scenes.proofs.Common.{common_steps, device, Prints, StandAtOneCall, TextBuffer, IsCallOf}
-use Rattle.scenes.proofs.Common.{position_or_len, configuration_for, decider_for, false≢true, Fault, fault_at_call}
-use Rattle.scenes.proofs.Common.{first_refused, HasAtLeast, HasAtMost, HasBeginning, HasFirstCalls, Line, ParsedLines}
-use Rattle.scenes.proofs.Common.{is_some, Meaning, option_map, Options, OutOfMemory, OutputLoadDecider, Records}
-use Rattle.scenes.proofs.Common.{refusal_by, report, report_of, ReportCall, reverse-append, SceneConfig, Stops}
-use Rattle.std.proofs.Common.{append_assoc, arith, ◌≤◌, inl, inr, if◌then◌else◌, get_or-take, length-take-le}
-use Rattle.std.proofs.Common.{take-append-drop, slice_get}
+use Rattle.std.proofs.Common.{take, drop, get_or, reverse, refl, sym, ap, ◌∙◌, subst, ap₂, append-nil, append_assoc}
+use Rattle.std.proofs.Common.{arith, ◌≤◌, inl, inr, if◌then◌else◌, get_or-take, length-take-le, take-append-drop}
+use Rattle.std.proofs.Common.{slice_get}
+use Rattle.scene_follower.proofs.Common.{AllZip, Appends-nil, AreWhole, Begins, buffer_meaning, BufferAccepts}
+use Rattle.scene_follower.proofs.Common.{common_steps, device, Prints, StandAtOneCall, TextBuffer, IsCallOf}
+use Rattle.scene_follower.proofs.Common.{position_or_len, configuration_for, decider_for, false≢true, Fault}
+use Rattle.scene_follower.proofs.Common.{fault_at_call, first_refused, HasAtLeast, HasAtMost, HasBeginning}
+use Rattle.scene_follower.proofs.Common.{HasFirstCalls, Line, ParsedLines, is_some, Meaning, option_map, Options}
+use Rattle.scene_follower.proofs.Common.{OutOfMemory, OutputLoadDecider, Records, refusal_by, report, report_of}
+use Rattle.scene_follower.proofs.Common.{ReportCall, reverse-append, SceneConfig, Stops, store_for, stored, stored_of}
+use Rattle.scene_follower.proofs.Common.{stored_text, take_all, Text, text, unloaded_for, unread, unread_call}
+use Rattle.scene_follower.proofs.Common.{WriteEventError, Io, StoreIo, StoreFailed, WriteFailed, map-append}
 use Rattle.std.proofs.Math.Seq.{drop-append_seam, drop-cons, take-append_seam}
 use Rattle.std.proofs.lemmas.List.{drop-map, length-map, take-map}
 use Rattle.std.proofs.lemmas.{List.Quantifiers.position-Some, Option.slice_get_cases}
 use Rattle.styled_text.specs.Names.{position, option_and_then, option_map_or, buffer_laws, Appends}
-use Rattle.scenes.proofs.Common.{store_for, stored, stored_of, stored_text, take_all, Text, text, unloaded_for, unread}
-use Rattle.scenes.proofs.Common.{unread_call, WriteEventError, Io, StoreIo, StoreFailed, WriteFailed, map-append}
 use Rattle.console_reporter.specs.Names.{refusal_at, Configuration, configured_in, Report, past_at, text_at, stored_at}
 use Rattle.{console_reporter.specs.declared.imp.builder.DisplayReporterBuilder.DisplayReporterBuilder}
 use Rattle.{writers.specs.declared.write_str.WriteFault.TheVariants.Device}
 use Rattle.reporter_state.specs.Names.{refusal_at_by, refusal_in, StoreConfig}
-use Rattle.scenes.specs.Names.{fault_of_first, builder_for, surroundings_of, AreBegun, AreReadyCallsOf, IsRunRefused}
-use Rattle.scenes.proofs.lemmas.Devices.{alone_begun, beginning_here, begun_here, stand_there}
-use Rattle.scenes.proofs.lemmas.Prints.{Begun, call_stopped, front_of_more, HasText, is_stop, IsNext, none_begun}
-use Rattle.scenes.proofs.lemmas.Prints.{stand_here}
-use Rattle.scenes.proofs.lemmas.Refusals.{fails_behind, refused_or}
-use Rattle.scenes.proofs.lemmas.{ReadyCalls.report_ready, ReadyCalls.stored_ready}
+use Rattle.scenes.specs.Names.{fault_of_first, IsRunRefused}
+use Rattle.scene_follower.specs.Names.{builder_for, surroundings_of, AreBegun, AreReadyCallsOf}
+use Rattle.scene_follower.proofs.lemmas.Devices.{alone_begun, beginning_here, begun_here, stand_there}
+use Rattle.scene_follower.proofs.lemmas.Prints.{Begun, call_stopped, front_of_more, HasText, is_stop, IsNext}
+use Rattle.scene_follower.proofs.lemmas.Prints.{none_begun, stand_here}
+use Rattle.scene_follower.proofs.lemmas.Refusals.{fails_behind, refused_or}
+use Rattle.scene_follower.proofs.lemmas.ReadyCalls.{report_ready, stored_ready}
 
 -- the call at a place, between those before it and those behind
 around : (calls : List ReportCall) (i : ℕ) (c : ReportCall) → i < length calls → get_or calls i c ≡ c

@@ -1,21 +1,30 @@
 -- The rest of a run whose report was gathered so far: it is reported behind what was delivered, or in memory (for
 -- `report_rest`, `report_text`).
-use Rattle.std.proofs.Common.{◌≡◌, ◌∙◌, ℕ, List, [], ◌++◌, Option, None, Some, Result, Ok, Err, IfErr, OnOk}
-use Rattle.std.proofs.Common.{String, ap, inr, string_bytes}
+use Rattle.std.proofs.Common.{◌≡◌, ◌∙◌, ℕ, List, [], ◌++◌, Option, None, Some, Result, Ok, Err, IfErr, OnOk, String, ap}
+use Rattle.std.proofs.Common.{inr, string_bytes}
 use Rattle.{std.specs.declared.alloc.Global.Global}
 use Rattle.std.specs.Prelude.{⊤}
-use Rattle.scenes.proofs.Common.{Begins, buffer_meaning, device, Fault, Follows, Options, ParsedLines, Prints, RunLine}
-use Rattle.scenes.proofs.Common.{report_of, SceneReporter, Store, store_for, string_meaning, Text, TextBuffer}
+use Rattle.scene_follower.proofs.Common.{Begins, buffer_meaning, device, Fault, Follows, Options, ParsedLines, Prints}
+use Rattle.scene_follower.proofs.Common.{RunLine, report_of, Store, store_for, string_meaning, Text}
+use Rattle.scene_follower.specs.declared.scene_reporter.SceneReporter.{SceneReporter}
+use Rattle.scene_follower.proofs.Common.{TextBuffer}
 use Rattle.{command_line.specs.declared.fault.Fault.TheVariants.WriteFailed}
 use Rattle.styled_text.specs.Names.{BufferStops, buffer_laws, WriteFault}
 use Rattle.writers.specs.StringWriter.{string_laws}
 use Rattle.scenes.specs.declared.kept.{KeptRun.KeptRun}
 use Rattle.scenes.specs.Gathered.{Texts}
-use Rattle.scenes.specs.{Judged.fault_in_memory, Kept.IsKeptBehind, ParsedScenes.OfLines, Prints.HasReport}
-use Rattle.scenes.specs.{Read.PassesAll, SceneReporter.IsSetFor}
-use Rattle.scenes.proofs.lemmas.{Accepted.stops_in_memory, Gathered.report_lost, Kept.said_again, Prints.calls_so}
-use Rattle.scenes.proofs.lemmas.Devices.{alone_begun, alone_whole, begun_here, whole_here}
-use Rattle.scenes.proofs.lemmas.FollowedRuns.{followed_so, passed_behind, stopped, takes}
+use Rattle.scenes.specs.Judged.{fault_in_memory}
+use Rattle.scenes.specs.Kept.{IsKeptBehind}
+use Rattle.scene_follower.specs.ParsedScenes.{OfLines}
+use Rattle.scene_follower.specs.Prints.{HasReport}
+use Rattle.scene_follower.specs.Read.{PassesAll}
+use Rattle.scene_follower.specs.SceneReporter.{IsSetFor}
+use Rattle.scenes.proofs.lemmas.Accepted.{stops_in_memory}
+use Rattle.scenes.proofs.lemmas.Gathered.{report_lost}
+use Rattle.scenes.proofs.lemmas.Kept.{said_again}
+use Rattle.scene_follower.proofs.lemmas.Prints.{calls_so}
+use Rattle.scene_follower.proofs.lemmas.Devices.{alone_begun, alone_whole, begun_here, whole_here}
+use Rattle.scene_follower.proofs.lemmas.FollowedRuns.{followed_so, passed_behind, stopped, takes}
 
 module _ (options : Options) (off : store_for options ≡ None) (all : List RunLine) (run : ParsedLines) (r : KeptRun)
     (kept : IsKeptBehind options all run r) {W : Type 0} (contents : W → Option (List ℕ)) (a : TextBuffer W)

@@ -1,14 +1,14 @@
 -- A scene of the library whose calls are all made: whether one is refused, and their report (for `judge`,
 -- `write_report`).
 use Rattle.std.proofs.Common.{◌≡◌, List, Option, None, Some, ℕ, sym, subst}
-use Rattle.scenes.proofs.Common.{AreWhole, Begins, decider_for, device, Fault, first_refused, Line, Options}
-use Rattle.scenes.proofs.Common.{OutOfMemory, ParsedLines, Prints, ReportCall}
+use Rattle.scene_follower.proofs.Common.{AreWhole, Begins, decider_for, device, Fault, first_refused, Line, Options}
+use Rattle.scene_follower.proofs.Common.{OutOfMemory, ParsedLines, Prints, ReportCall}
 use Rattle.{command_line.specs.Faults.IsJudgeFault}
 use Rattle.scenes.specs.Judged.{IsRefusedText, IsRunAccepted, IsRunRefused}
-use Rattle.scenes.specs.ParsedScenes.{OfText, SceneText}
-use Rattle.scenes.specs.Names.{AreBegun, AreReadyCallsOf, fault_of_first, lines_of}
-use Rattle.scenes.proofs.lemmas.PlainReports.{accepted_of_none, begins_run, made_accepted, prints_run}
-use Rattle.scenes.proofs.lemmas.PlainReports.{refused_of_some}
+use Rattle.scene_follower.specs.ParsedScenes.{OfText, SceneText}
+use Rattle.scene_follower.specs.Names.{AreBegun, AreReadyCallsOf, lines_of}
+use Rattle.scenes.specs.Names.{fault_of_first}
+use Rattle.scenes.proofs.lemmas.PlainReports.{accepted_of_none, begins_run, made_accepted, prints_run, refused_of_some}
 use Rattle.scenes.proofs.lemmas.{Scenes.for_both}
 
 -- the fault of a refused call is one of judging

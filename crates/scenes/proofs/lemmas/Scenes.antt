@@ -1,10 +1,11 @@
 -- A run of the library: the lines of its events, and its calls, which are made of its lines again (for `Scene::read`,
 -- `Scene::whole_calls`, `Scene::calls`).
-use Rattle.std.proofs.Common.{◌≡◌, ℕ, ◌+◌, true, List, [], ◌∷◌, ◌++◌, Option, None, Some, Result, Ok, Err, length}
-use Rattle.std.proofs.Common.{refl, sym, ap, ◌∙◌, subst, append_assoc, append-nil, arith, inl, inr}
-use Rattle.scenes.proofs.Common.{all_append, AllRead, AllZip, AtLine, Fault, IsCallOf, IsUnread, length-append, Line}
-use Rattle.scenes.proofs.Common.{LineFault, line_value, lines_before, lines_with, nat_lt, nat_tests, no_lines}
-use Rattle.scenes.proofs.Common.{OutOfMemory, ParsedLines, ReportCall, RunLine, SceneConfig, text_lines, with_line}
+use Rattle.std.proofs.Common.{◌≡◌, ℕ, ◌+◌, true, List, [], ◌∷◌, ◌++◌, Option, None, Some, Result, Ok, Err, length, refl}
+use Rattle.std.proofs.Common.{sym, ap, ◌∙◌, subst, append_assoc, append-nil, arith, inl, inr}
+use Rattle.scene_follower.proofs.Common.{all_append, AllRead, AllZip, AtLine, Fault, IsCallOf, IsUnread, length-append}
+use Rattle.scene_follower.proofs.Common.{Line, LineFault, line_value, lines_before, lines_with, nat_lt, nat_tests}
+use Rattle.scene_follower.proofs.Common.{no_lines, OutOfMemory, ParsedLines, ReportCall, RunLine, SceneConfig}
+use Rattle.scene_follower.proofs.Common.{text_lines, with_line, StaysConfigured}
 use Rattle.{command_line.specs.Faults.IsJudgeFault, command_line.specs.declared.fault.Fault.TheVariants.CannotRead}
 use Rattle.scene_fields.specs.declared.fault.LineError.TheVariants as error
 use Rattle.scene_reader.proofs.lemmas.Tellings.{all_tell, all_told, noted_append, wrong_told}
@@ -14,13 +15,15 @@ use Rattle.scene_reader.specs.Names.{lines_read, parsed_line, ParsedLine, plain_
 use Rattle.scene_reader.specs.SceneTexts.{ConfigLine, EventLine, NoEvent}
 use Rattle.scenes.specs.declared.scene.Events.{Events}
 use Rattle.scenes.specs.Judged.{IsFaultOfLines}
-use Rattle.scenes.specs.ParsedScenes.{IsOfText, OfLines, OfText, SceneText}
-use Rattle.scenes.specs.Read.{AllTaken, AreLeftBehind, HasConfigured, IsBegin, IsGiven, StopsConfiguring}
-use Rattle.scenes.specs.Read.{StopsRead, StopsTaking}
+use Rattle.scene_follower.specs.ParsedScenes.{IsOfText, OfLines, OfText, SceneText}
+use Rattle.scene_follower.specs.Read.{AllTaken, AreLeftBehind, HasConfigured, IsBegin, IsGiven, StopsConfiguring}
+use Rattle.scene_follower.specs.Read.{StopsRead, StopsTaking}
 use Rattle.scenes.specs.SceneNotes.{noted, NotesEvent}
-use Rattle.scenes.{proofs.Common.StaysConfigured, proofs.lemmas.Configured.stays_behind}
+use Rattle.scene_follower.proofs.lemmas.Configured.{stays_behind}
 use Rattle.scenes.proofs.lemmas.FirstRefused.{not_less, read_noted}
-use Rattle.scenes.proofs.lemmas.{ReadLines.at_behind, Refusals.zip_both, Taken.taken_read}
+use Rattle.scene_follower.proofs.lemmas.ReadLines.{at_behind}
+use Rattle.scene_follower.proofs.lemmas.Refusals.{zip_both}
+use Rattle.scene_follower.proofs.lemmas.Taken.{taken_read}
 
 -- how a sink takes calls that notes their lines
 abbrev pub notes : Takes Events

@@ -1,7 +1,8 @@
 use Rattle.std.proofs.Common.{◌∷◌, ◌∙◌, [], None, refl, sym}
 use Rattle.scene_reader.specs.Names.{plain_line}
 use Rattle.{scenes.specs.Held.HoldsCall}
-use Rattle.scenes.proofs.lemmas.{Kept.held_says, Kept.lent_stops, Taken.plain_passed}
+use Rattle.scenes.proofs.lemmas.Kept.{held_says, lent_stops}
+use Rattle.scene_follower.proofs.lemmas.Taken.{plain_passed}
 use Rattle.scenes.proofs.kept.hold_line.Goals as goal
 
 pub returns-in-Some : goal.returns-in-Some

@@ -1,13 +1,13 @@
 use Rattle.std.proofs.Common.{◌≡◌, ◌++◌, ◌∷◌, ◌∙◌, [], List, Result, Ok, Err, ap, arith, inl, map, refl, rules, sym}
 use Rattle.std.proofs.Common.{subst}
-use Rattle.scenes.proofs.Common.{Fault, lines_before, LinesRead, ParsedLines, reader_remaining, RunLine}
+use Rattle.scene_follower.proofs.Common.{Fault, lines_before, LinesRead, ParsedLines, reader_remaining, RunLine}
 use Rattle.scenes.specs.declared.kept.{KeptLines.KeptLines}
 use Rattle.scene_reader.specs.Names.{before_next, plain_line, text_lines}
 use Rattle.scenes.specs.Kept.{AreKept, KeepsSome}
-use Rattle.scenes.specs.Read.{AreLeftBehind, left_at}
-use Rattle.scenes.specs.Reading.{buffered, IsFilled}
+use Rattle.scene_follower.specs.Read.{AreLeftBehind, left_at}
+use Rattle.scene_follower.specs.Reading.{buffered, IsFilled}
 use Rattle.scenes.proofs.lemmas.Kept.{more_kept, none_kept}
-use Rattle.scenes.proofs.lemmas.Taken.{all_passed, next_stopped}
+use Rattle.scene_follower.proofs.lemmas.Taken.{all_passed, next_stopped}
 use Rattle.scenes.proofs.kept.keep.Goals.{In-Ok}
 use Rattle.scenes.proofs.kept.keep.Given as given
 use Rattle.scenes.proofs.kept.keep.Goals as goal

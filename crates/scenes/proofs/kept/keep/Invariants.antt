@@ -1,7 +1,9 @@
 use Rattle.std.proofs.Common.{◌≡◌, List}
-use Rattle.scenes.proofs.Common.{reader_remaining}
+use Rattle.scene_follower.proofs.Common.{reader_remaining}
 use Rattle.scene_reader.specs.Names.{before_next, lines_before, ParsedLines, RunLine}
-use Rattle.scenes.specs.{Kept.AreKept, Read.AreLeftBehind, Read.HasPassed, Reading.buffered}
+use Rattle.scenes.specs.Kept.{AreKept}
+use Rattle.scene_follower.specs.Read.{AreLeftBehind, HasPassed}
+use Rattle.scene_follower.specs.Reading.{buffered}
 
 -- the lines before those that are left were read and kept
 abbrev pub invariant-loop-turn : Rattle.scenes.proofs.kept.keep.Given.invariant-loop-turn

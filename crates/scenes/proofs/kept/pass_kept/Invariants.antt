@@ -1,6 +1,7 @@
 use Rattle.std.proofs.Common.{◌≡◌, List, drop}
 use Rattle.scene_reader.specs.Names.{before_next, lines_before, ParsedLines, RunLine}
-use Rattle.scenes.specs.{Kept.AreKept, Read.HasPassed}
+use Rattle.scenes.specs.Kept.{AreKept}
+use Rattle.scene_follower.specs.Read.{HasPassed}
 
 -- the calls of those before were taken, and the others are kept
 abbrev pub invariant-loop-kept : Rattle.scenes.proofs.kept.pass_kept.Given.invariant-loop-kept

@@ -1,7 +1,8 @@
 use Rattle.std.proofs.Common.{◌≡◌, ◌++◌, ◌∙◌, ap, subst, sym}
 use Rattle.scene_reader.specs.Names.{text_lines}
-use Rattle.scenes.specs.Read.{PassesSome}
-use Rattle.scenes.proofs.lemmas.{Kept.some_passed, Taken.passes_some}
+use Rattle.scene_follower.specs.Read.{PassesSome}
+use Rattle.scenes.proofs.lemmas.Kept.{some_passed}
+use Rattle.scene_follower.proofs.lemmas.Taken.{passes_some}
 use Rattle.scenes.proofs.kept.pass_some.Goals as goal
 
 pub returns-in-Text : goal.returns-in-Text

@@ -1,4 +1,5 @@
-use Rattle.scenes.{specs.Names.device, proofs.lemmas.EndsWell.scene_stop}
+use Rattle.scene_follower.specs.Names.{device}
+use Rattle.scenes.proofs.lemmas.EndsWell.{scene_stop}
 
 pub returns : Rattle.scenes.proofs.laws.scenes_end_well.Goals.returns
 returns g c = λ options text old new fault. scene_stop device device options

@@ -1,8 +1,10 @@
 use Rattle.std.proofs.Common.{◌≡◌, ◌∙◌, None, ap, get_or, refl, rules}
-use Rattle.scenes.{proofs.Common.device, proofs.Common.OutOfMemory, specs.Prints.AreBegun}
-use Rattle.scenes.specs.Names.{configuration_for, lines_of}
+use Rattle.scene_follower.proofs.Common.{device, OutOfMemory}
+use Rattle.scene_follower.specs.Prints.{AreBegun}
+use Rattle.scene_follower.specs.Names.{configuration_for, lines_of}
 use Rattle.scenes.proofs.lemmas.PlainReports.{alone_stops, configured_so, untouched}
-use Rattle.scenes.proofs.lemmas.{Devices.alone_whole, Devices.whole_here, Prints.moved}
+use Rattle.scene_follower.proofs.lemmas.Devices.{alone_whole, whole_here}
+use Rattle.scene_follower.proofs.lemmas.Prints.{moved}
 use Rattle.scenes.proofs.plain.write_calls.Goals as goal
 
 pub returns-in_default-clause-err : goal.returns-in_default-clause-err

@@ -1,7 +1,9 @@
 use Rattle.std.proofs.Common.{◌≡◌, ◌∙◌, Some, ap, get_or, refl, rules}
-use Rattle.scenes.{proofs.Common.is_some, proofs.Common.OutOfMemory, specs.Prints.AreBegun}
-use Rattle.scenes.specs.Names.{configuration_for, device, lines_of}
-use Rattle.scenes.{proofs.lemmas.Devices.whole_here, proofs.lemmas.Prints.moved}
+use Rattle.scene_follower.proofs.Common.{is_some, OutOfMemory}
+use Rattle.scene_follower.specs.Prints.{AreBegun}
+use Rattle.scene_follower.specs.Names.{configuration_for, device, lines_of}
+use Rattle.scene_follower.proofs.lemmas.Devices.{whole_here}
+use Rattle.scene_follower.proofs.lemmas.Prints.{moved}
 use Rattle.scenes.proofs.lemmas.PlainReports.{both_stop, configured_so, untouched}
 use Rattle.scenes.proofs.plain.write_calls_and_records.Goals as goal
 

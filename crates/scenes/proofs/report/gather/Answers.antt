@@ -1,7 +1,10 @@
 use Rattle.std.proofs.Common.{[], ◌≡◌, ◌∙◌, List, ℕ, None, Some, IfErr, OnOk, inl, refl, subst, sym}
-use Rattle.scenes.proofs.Common.{Follows, string_meaning, text_lines}
-use Rattle.scenes.specs.{Gathered.HasGathered, Names.IsRefusal, Names.IsSetFor, Read.AreLeftBehind, Reading.buffered}
-use Rattle.scenes.proofs.Common.{reader_remaining}
+use Rattle.scene_follower.proofs.Common.{Follows, string_meaning, text_lines, reader_remaining}
+use Rattle.scenes.specs.Gathered.{HasGathered}
+use Rattle.scenes.specs.Names.{IsRefusal}
+use Rattle.scene_follower.specs.Names.{IsSetFor}
+use Rattle.scene_follower.specs.Read.{AreLeftBehind}
+use Rattle.scene_follower.specs.Reading.{buffered}
 use Rattle.scenes.proofs.lemmas.Gathered.{passed_gathered, unconfigured_judged}
 use Rattle.scenes.proofs.report.gather.Given as given
 use Rattle.scenes.proofs.report.gather.Goals.{After-pass_small}

@@ -1,6 +1,7 @@
 use Rattle.std.proofs.Common.{◌≡◌, Option, None, Some, ap, inr, subst, sym, ◌∙◌}
-use Rattle.scenes.proofs.Common.{decider_for, Fault}
-use Rattle.scenes.specs.Names.{AreReadyCallsOf, fault_of_first, IsRefusedText, lines_of, OfText}
+use Rattle.scene_follower.proofs.Common.{decider_for, Fault}
+use Rattle.scene_follower.specs.Names.{AreReadyCallsOf, lines_of, OfText}
+use Rattle.scenes.specs.Names.{fault_of_first, IsRefusedText}
 use Rattle.scenes.proofs.lemmas.SceneReports.{all_accepted, text_accepted, text_judge, text_refused}
 use Rattle.scenes.proofs.report.judge.Goals.{After-refused_call-refused}
 use Rattle.scenes.proofs.report.judge.Given as given

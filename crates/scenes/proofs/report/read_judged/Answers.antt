@@ -1,5 +1,5 @@
 use Rattle.std.proofs.Common.{◌∙◌, inl, refl}
-use Rattle.scenes.proofs.Common.{text_lines}
+use Rattle.scene_follower.proofs.Common.{text_lines}
 use Rattle.scenes.proofs.lemmas.Gathered.{refused_held, run_judged, unconfigured_judged, whole_so}
 use Rattle.scenes.proofs.report.read_judged.Goals as goal
 

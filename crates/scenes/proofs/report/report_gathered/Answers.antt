@@ -1,5 +1,6 @@
 use Rattle.std.proofs.Common.{◌≡◌, inr, rules}
-use Rattle.{std.proofs.lemmas.Result.IfErr-weaker, scenes.proofs.Common.text_lines}
+use Rattle.std.proofs.lemmas.Result.{IfErr-weaker}
+use Rattle.scene_follower.proofs.Common.{text_lines}
 use Rattle.scenes.proofs.report.report_gathered.Goals as goal
 
 pub returns-clause-ok : goal.returns-clause-ok

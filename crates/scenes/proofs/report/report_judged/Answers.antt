@@ -1,4 +1,6 @@
-use Rattle.scenes.proofs.lemmas.{Accepted.stops_in_memory, Kept.said_again, Prints.prints_only}
+use Rattle.scenes.proofs.lemmas.Accepted.{stops_in_memory}
+use Rattle.scenes.proofs.lemmas.Kept.{said_again}
+use Rattle.scene_follower.proofs.lemmas.Prints.{prints_only}
 use Rattle.scenes.proofs.report.report_judged.Goals as goal
 
 pub returns-in-Ok-clause-ok : goal.returns-in-Ok-clause-ok

@@ -1,7 +1,11 @@
 use Rattle.std.proofs.Common.{◌≡◌, ◌∙◌, List, ℕ, Option, IfErr, OnOk, ap}
-use Rattle.scenes.proofs.Common.{Begins, buffer_meaning, device, Prints, RunLine, string_meaning}
-use Rattle.scenes.specs.{Gathered.IsGatheredRun, Judged.fault_in_memory, ParsedScenes.OfLines}
-use Rattle.scenes.proofs.lemmas.{FollowedRuns.passed_same, Gathered.gathered_text, Rests.gathered_lost}
+use Rattle.scene_follower.proofs.Common.{Begins, buffer_meaning, device, Prints, RunLine, string_meaning}
+use Rattle.scenes.specs.Gathered.{IsGatheredRun}
+use Rattle.scenes.specs.Judged.{fault_in_memory}
+use Rattle.scene_follower.specs.ParsedScenes.{OfLines}
+use Rattle.scene_follower.proofs.lemmas.FollowedRuns.{passed_same}
+use Rattle.scenes.proofs.lemmas.Gathered.{gathered_text}
+use Rattle.scenes.proofs.lemmas.Rests.{gathered_lost}
 use Rattle.scenes.proofs.lemmas.{Rests.rest_reported}
 use Rattle.std.specs.Prelude.{⊤}
 use Rattle.scenes.proofs.report.report_rest.Goals.{After-into_parts-out, in-Ok, in-Err}

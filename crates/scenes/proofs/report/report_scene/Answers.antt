@@ -1,6 +1,6 @@
 use Rattle.std.proofs.Common.{◌⊎◌, ℕ, List, inl, inr, refl}
 use Rattle.{std.proofs.lemmas.Result.IfErr-weaker}
-use Rattle.scenes.proofs.Common.{Fault, Options, text_lines}
+use Rattle.scene_follower.proofs.Common.{Fault, Options, text_lines}
 use Rattle.scenes.specs.Names.{IsRejected}
 use Rattle.scenes.proofs.report.report_scene.Goals as goal
 

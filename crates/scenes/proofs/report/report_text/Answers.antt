@@ -1,4 +1,5 @@
-use Rattle.scenes.{proofs.Common.text_lines, proofs.lemmas.Rests.rest_gathered}
+use Rattle.scene_follower.proofs.Common.{text_lines}
+use Rattle.scenes.proofs.lemmas.Rests.{rest_gathered}
 use Rattle.scenes.proofs.report.report_text.Goals as goal
 
 pub returns-clause-report : goal.returns-clause-report

@@ -1,7 +1,8 @@
 use Rattle.std.proofs.Common.{◌≡◌, ℕ, List, Option, refl, subst, sym, ap, ◌∙◌, inl, inr, None, Some, rules}
 use Rattle.{std.proofs.lemmas.Result.on_ok_weaker, std.proofs.lemmas.Result.IfErr-weaker}
-use Rattle.scenes.proofs.Common.{decider_for, device, Fault, first_refused, Prints}
-use Rattle.scenes.specs.Names.{AreReadyCallsOf, fault_of_first, lines_of, OfText}
+use Rattle.scene_follower.proofs.Common.{decider_for, device, Fault, first_refused, Prints}
+use Rattle.scene_follower.specs.Names.{AreReadyCallsOf, lines_of, OfText}
+use Rattle.scenes.specs.Names.{fault_of_first}
 use Rattle.scenes.proofs.lemmas.SceneReports.{all_accepted, text_begins, text_prints, text_refused}
 use Rattle.scenes.proofs.report.write_scene.Goals.{After-refused_call}
 use Rattle.scenes.proofs.report.write_scene.Given as given

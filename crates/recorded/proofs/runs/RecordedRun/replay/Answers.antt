@@ -1,5 +1,5 @@
-use Rattle.{std.proofs.Common.arith, std.proofs.Common.refl, scenes.specs.Prints.PrintsFollowed}
-use Rattle.{scenes.specs.Prints.device}
+use Rattle.std.proofs.Common.{arith, refl}
+use Rattle.scene_follower.specs.Prints.{PrintsFollowed, device}
 use Rattle.recorded.specs.Names.{counted, lines_replayed, needed_bytes}
 use Rattle.recorded.proofs.lemmas.Reports.{prints_on_ok, reads_on_ok, spelled_on_ok}
 use Rattle.recorded.proofs.runs.RecordedRun.replay.Goals as goal

@@ -1,8 +1,9 @@
 use Rattle.std.proofs.Common.{rules, ◌≡◌, ◌++◌, length, take, drop, ap, sym, subst, ◌∙◌}
 use Rattle.{std.proofs.Math.Seq.take-append_seam, std.proofs.lemmas.List.length-map}
-use Rattle.scenes.proofs.lemmas.{ReadyCalls.ready_unread, Scenes.for_both, Scenes.view_config}
-use Rattle.scenes.proofs.Common.{decider_for, unread, unread_call}
-use Rattle.scenes.specs.Names.{AreReadyCallsOf, OfText}
+use Rattle.scene_follower.proofs.lemmas.ReadyCalls.{ready_unread}
+use Rattle.scenes.proofs.lemmas.Scenes.{for_both, view_config}
+use Rattle.scene_follower.proofs.Common.{decider_for, unread, unread_call}
+use Rattle.scene_follower.specs.Names.{AreReadyCallsOf, OfText}
 
 pub returns-clause-calls : Rattle.scenes.proofs.scene.Scene.calls.Goals.returns-clause-calls
 returns-clause-calls c =

@@ -1,0 +1,9 @@
+pub mod Configured
+pub mod Devices
+pub mod FollowedRuns
+pub mod Prints
+pub mod ReadLines
+pub mod ReadyCalls
+pub mod Refusals
+pub mod SceneReporters
+pub mod Taken

@@ -1,0 +1,10 @@
+pub mod Devices
+pub mod Follow
+pub mod Outcomes
+pub mod ParsedScenes
+pub mod Prints
+pub mod Read
+pub mod Reading
+pub mod Reports
+pub mod SceneReporter
+pub mod Names
