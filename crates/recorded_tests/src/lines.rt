@@ -22,7 +22,7 @@ const PASSED: &str = "\\@0:7:62cd0a585dc2fe91";
 const FAILED: &str = "\\@7:7:ee2a98c236301c76";
 
 // Lines, and for each stored output the index of its attempt and the field of its first stream.
-const STORED: [(&str, &[(usize, usize)]); 7] = [
+const STORED: &[(&str, &[(usize, usize)])] = &[
     (
         "done\t-\ta\tt\tnever\tfinal\tpass\t-\t1\tfail:1\t5\t0\tsplit\tPASSED\tFAILED\t-\t-",
         &[(0, 14)],
@@ -56,7 +56,7 @@ const STORED: [(&str, &[(usize, usize)]); 7] = [
 ];
 
 // Lines that store nothing, or are wrong.
-const KEPT: [&str; 13] = [
+const KEPT: &[&str] = &[
     "",
     "end\t0\t-\t-",
     "skip\t-\ta\tPASSED",
@@ -127,7 +127,7 @@ fn pass(
 #[test]
 fn notes_references_of_lines(rt: HostRuntime) -> Result<(), Fail> {
     let alloc = rt.alloc();
-    for (short, places) in STORED {
+    for &(short, places) in STORED {
         let line = short
             .replace(alloc, "PASSED", PASSED)?
             .replace(alloc, "FAILED", FAILED)?;
@@ -141,7 +141,7 @@ fn notes_references_of_lines(rt: HostRuntime) -> Result<(), Fail> {
 #[test]
 fn reads_other_lines_as_those_of_a_scene(rt: HostRuntime) -> Result<(), Fail> {
     let alloc = rt.alloc();
-    for short in KEPT {
+    for &short in KEPT {
         let line = short
             .replace(alloc, "PASSED", PASSED)?
             .replace(alloc, "FAILED", FAILED)?;
@@ -195,7 +195,7 @@ const PAST: &str = "\\@8:7:ee2a98c236301c76";
 const OTHER: &str = "\\@0:7:ee2a98c236301c76";
 
 // The form of an output and its two fields, which stream is damaged and how, and how many bytes are read.
-const DAMAGED: [(&str, &str, &str, StreamField, LoadFault, u64); 5] = [
+const DAMAGED: &[(&str, &str, &str, StreamField, LoadFault, u64)] = &[
     (
         "split",
         PAST,
@@ -240,7 +240,7 @@ const DAMAGED: [(&str, &str, &str, StreamField, LoadFault, u64); 5] = [
 
 #[test]
 fn reports_which_stream_is_damaged(rt: HostRuntime) -> Result<(), Fail> {
-    for (form, first, second, stream, fault, count) in DAMAGED {
+    for &(form, first, second, stream, fault, count) in DAMAGED {
         let output = StoredOutput::read(form, first, second).ok_or("an output")?;
         let mut outputs = RecordedOutputs::new(Metered::new(OUTPUTS))?;
         let loaded = outputs.load_output(rt.alloc(), &output);

@@ -36,7 +36,7 @@ const PAST_END: [&str; 5] = [
 ];
 
 // References to bytes that have another sum.
-const WRONG_SUM: [&str; 4] = [
+const WRONG_SUM: &[&str] = &[
     "\\@7:7:62cd0a585dc2fe91",
     "\\@1:7:62cd0a585dc2fe91",
     "\\@0:7:62cd0a585dc2fe92",
@@ -159,7 +159,7 @@ fn check_loads<O: ReadAt + Drop>(
     for field in PAST_END {
         expect_no_stream(rt, alloc, outputs, field, LoadFault::PastEnd)?;
     }
-    for field in WRONG_SUM {
+    for &field in WRONG_SUM {
         expect_no_stream(rt, alloc, outputs, field, LoadFault::WrongSum)?;
     }
     Ok(())

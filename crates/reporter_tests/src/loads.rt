@@ -93,17 +93,24 @@ fn both(decision: LoadOutput) -> Option<Decision> {
     }
 }
 
-// Whether a reporter with this level and store makes this decision.
-fn decides(
+// What a reporter with this level and store decides by.
+fn decider_of(
     alloc: Global,
     status_level: StatusLevel,
     store: Option<StoreConfig>,
+) -> Result<OutputLoadDecider, OutOfMemory> {
+    let builder = line_builder(alloc, status_level)?;
+    Ok(builder.output_load_decider(Surroundings::default(), store))
+}
+
+// Whether it makes this decision.
+fn decides(
+    alloc: Global,
+    decider: &OutputLoadDecider,
     event: TestEvent<'_>,
     want: LoadOutput,
 ) -> Result<bool, OutOfMemory> {
-    let builder = line_builder(alloc, status_level)?;
-    let decider = builder.output_load_decider(Surroundings::default(), store);
-    Ok(decision_of(alloc, &decider, event)? == both(want))
+    Ok(decision_of(alloc, decider, event)? == both(want))
 }
 
 #[test]
@@ -122,8 +129,9 @@ fn tests_that_finished(rt: HostRuntime) -> Result<(), Fail> {
         (beside_store, Outcome::Failed, [NEVER, NEVER], LOAD),
         (beside_store, Outcome::ExecFailed, [NEVER, NEVER], LOAD),
     ] {
+        let decider = decider_of(rt.alloc(), StatusLevel::Pass, store)?;
         let event = finished(test.as_ref(), displays, outcome.statuses(rt.alloc())?);
-        assert!(rt; decides(rt.alloc(), StatusLevel::Pass, store, event, want)?);
+        assert!(rt; decides(rt.alloc(), &decider, event, want)?);
     }
     Ok(())
 }
@@ -132,9 +140,10 @@ fn tests_that_finished(rt: HostRuntime) -> Result<(), Fail> {
 fn attempts_that_are_retried(rt: HostRuntime) -> Result<(), Fail> {
     let test = OwnedTestInstanceId::new(rt.alloc(), "a", "t1")?;
     for (status_level, want) in [(StatusLevel::Fail, SKIP), (StatusLevel::Retry, LOAD)] {
+        let decider = decider_of(rt.alloc(), status_level, None)?;
         let failed = ExecuteStatus::failed(1, Nanos::from_secs(1));
         let event = retried(test.as_ref(), failed);
-        assert!(rt; decides(rt.alloc(), status_level, None, event, want)?);
+        assert!(rt; decides(rt.alloc(), &decider, event, want)?);
     }
     Ok(())
 }
@@ -145,8 +154,9 @@ fn setup_scripts(rt: HostRuntime) -> Result<(), Fail> {
         (LeakTimeoutResult::Pass, SKIP),
         (LeakTimeoutResult::Fail, LOAD),
     ] {
+        let decider = decider_of(rt.alloc(), StatusLevel::Pass, None)?;
         let event = leaky_script(rt.alloc(), leak)?;
-        assert!(rt; decides(rt.alloc(), StatusLevel::Pass, None, event, want)?);
+        assert!(rt; decides(rt.alloc(), &decider, event, want)?);
     }
     Ok(())
 }
@@ -156,9 +166,13 @@ fn calls_to_refuse<'a>(
     alloc: Global,
     test: TestInstanceId<'a>,
 ) -> Result<[ReportCall<'a>; 3], OutOfMemory> {
+    let (first, second) = (
+        Outcome::Failed.statuses(alloc)?,
+        Outcome::Failed.statuses(alloc)?,
+    );
     let displays = [NEVER, IMMEDIATE];
-    let accepted = finished(test, displays, Outcome::Failed.statuses(alloc)?);
-    let mut unread = finished(test, displays, Outcome::Failed.statuses(alloc)?);
+    let accepted = finished(test, displays, first);
+    let mut unread = finished(test, displays, second);
     unread.unload();
     Ok([
         ReportCall::Event(accepted),
@@ -170,8 +184,7 @@ fn calls_to_refuse<'a>(
 #[test]
 fn the_first_call_that_is_refused(rt: HostRuntime) -> Result<(), Fail> {
     let test = OwnedTestInstanceId::new(rt.alloc(), "a", "t1")?;
-    let builder = line_builder(rt.alloc(), StatusLevel::Pass)?;
-    let decider = builder.output_load_decider(Surroundings::default(), None);
+    let decider = decider_of(rt.alloc(), StatusLevel::Pass, None)?;
     let calls = calls_to_refuse(rt.alloc(), test.as_ref())?;
     let all = &calls[..];
     let found = [

@@ -345,7 +345,7 @@ const ALL: Options<'static> = Options {
 };
 
 // The words of a command line, and the options that they are.
-const WORDS: [(&[&str], Options<'static>); 7] = [
+const WORDS: &[(&[&str], Options<'static>)] = &[
     (&["FILE"], OPTIONS),
     (&["--color", "FILE"], IN_COLOUR),
     (
@@ -392,7 +392,7 @@ const WORDS: [(&[&str], Options<'static>); 7] = [
 
 #[test]
 fn takes_options_in_any_order(rt: HostRuntime) -> Result<(), Fail> {
-    for (texts, options) in WORDS {
+    for &(texts, options) in WORDS {
         let args = words_of(rt.alloc(), texts)?;
         assert!(rt; words(args.as_slice()) == Some(options));
     }

@@ -16,7 +16,7 @@ use test_devices::Device;
 const ROOM: usize = 600;
 
 // Scenes, their reports, and their records without outputs.
-const REPORTS: [(&str, &str, &str); 3] = [
+const REPORTS: &[(&str, &str, &str)] = &[
     (
         TWO_TESTS,
         OF_TWO_TESTS,
@@ -45,7 +45,7 @@ fn is_out_of_memory(fault: &Fault<'_>) -> bool {
 #[test]
 fn a_scene_from_its_text_to_its_records(rt: HostRuntime) -> Result<(), Fail> {
     let alloc = rt.alloc();
-    for (text, whole, records) in REPORTS {
+    for &(text, whole, records) in REPORTS {
         for (options, records) in [(OPTIONS, ""), (STORING, records)] {
             let (outcome, device, store) = report_and_store(
                 alloc,
@@ -65,7 +65,7 @@ fn a_scene_from_its_text_to_its_records(rt: HostRuntime) -> Result<(), Fail> {
 #[test]
 fn a_scene_that_is_judged_and_then_written(rt: HostRuntime) -> Result<(), Fail> {
     let alloc = rt.alloc();
-    for (text, whole, records) in REPORTS {
+    for &(text, whole, records) in REPORTS {
         for (options, records) in [(OPTIONS, ""), (STORING, records)] {
             let (mut device, mut store) = (
                 Device::with_room(alloc, ROOM)?,

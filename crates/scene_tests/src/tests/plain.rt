@@ -37,7 +37,7 @@ const STORING_FAILURES: Options<'static> = Options {
 };
 
 // Scenes with every kind of line, and the error of each that is not accepted.
-const SCENES: [(&str, &str); 19] = [
+const SCENES: &[(&str, &str)] = &[
     ("", ""),
     (TWO_TESTS, ""),
     (CANCELLED, ""),
@@ -191,7 +191,7 @@ fn both_ways(
 #[test]
 fn both_ways_print_and_refuse_the_same(rt: HostRuntime) -> Result<(), Fail> {
     let alloc = rt.alloc();
-    for (text, refusal) in SCENES {
+    for &(text, refusal) in SCENES {
         let Some(line) = both_ways(alloc, &OPTIONS, text)? else {
             return Err(Fail::from("the two ways differ"));
         };

@@ -52,7 +52,7 @@ const OF_LISTED: &str = "------------
         FAIL [   1.000s] a t1
 ";
 
-const ORDERS: [[&str; 3]; 6] = [
+const ORDERS: &[[&str; 3]] = &[
     [FAILED, SKIPPED, PASSED],
     [FAILED, PASSED, SKIPPED],
     [SKIPPED, FAILED, PASSED],
@@ -70,7 +70,7 @@ const OF_END: &str = "------------
 // A slow test that will be terminated.
 const TERMINATED: &str = "slow\t-\tbin\tt\t1\t2\t60000000000\t1\n";
 
-const WORKED: [(Options<'static>, &str, &str); 22] = [
+const WORKED: &[(Options<'static>, &str, &str)] = &[
     (OPTIONS, TWO_TESTS, OF_TWO_TESTS),
     (OPTIONS, CANCELLED, OF_CANCELLED),
     (OPTIONS, ASKED, OF_ASKED),
@@ -188,7 +188,7 @@ const WORKED: [(Options<'static>, &str, &str); 22] = [
 ];
 
 // Runs that are refused at a call, and what was printed before it.
-const REFUSED: [(Options<'static>, &str, &str, RunFault); 2] = [
+const REFUSED: &[(Options<'static>, &str, &str, RunFault)] = &[
     // The output of a test that could not be started is shown at once, and is not loaded.
     (
         OPTIONS,
@@ -257,10 +257,10 @@ fn ends(
 #[test]
 fn worked_runs_by_all_their_calls(rt: HostRuntime) -> Result<(), Fail> {
     let alloc = rt.alloc();
-    for (options, text, report) in WORKED {
+    for &(options, text, report) in WORKED {
         assert!(rt; ends(alloc, &options, text, report, Ok(())));
     }
-    for (options, text, report, fault) in REFUSED {
+    for &(options, text, report, fault) in REFUSED {
         assert!(rt; ends(alloc, &options, text, report, Err(fault)));
     }
     Ok(())
@@ -269,7 +269,7 @@ fn worked_runs_by_all_their_calls(rt: HostRuntime) -> Result<(), Fail> {
 #[test]
 fn one_summary_whatever_the_order_of_the_tests(rt: HostRuntime) -> Result<(), Fail> {
     let alloc = rt.alloc();
-    for tests in ORDERS {
+    for &tests in ORDERS {
         let mut text = String::from_str(alloc, LIST_ALL)?;
         for test in tests {
             text.push_str(test)?;

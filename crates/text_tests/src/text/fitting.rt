@@ -64,7 +64,7 @@ fn shown(
 }
 
 // The ids of tests, whether they are in colour, a greatest width, and what is shown.
-const TESTS: [((&str, &str), bool, usize, &str); 11] = [
+const TESTS: &[((&str, &str), bool, usize, &str)] = &[
     (("b", "日本x"), false, 7, "b 日本x"),
     (("b", "日本x"), false, 5, "b 本x"),
     (("b", "日本x"), false, 4, "b x"),
@@ -85,7 +85,7 @@ const TESTS: [((&str, &str), bool, usize, &str); 11] = [
 
 #[test]
 fn fits_tests(rt: HostRuntime) -> Result<(), Fail> {
-    for (test, is_colorized, width, want) in TESTS {
+    for &(test, is_colorized, width, want) in TESTS {
         let text = shown(rt.alloc(), None, test, is_colorized, width)?;
         expect_text(&rt, text.as_str(), want);
     }

@@ -21,7 +21,7 @@ fn chunks(alloc: Global, text: &str, limit: usize) -> Result<String, Fail> {
 
 // Texts, limits and chunks. The rows up to the one of mixed lengths are those of nextest-runner's test
 // `test_print_lines_in_chunks`, save the two of long lines.
-const CHUNKS: [(&str, usize, &str); 16] = [
+const CHUNKS: &[(&str, usize, &str)] = &[
     ("", 1024, ""),
     ("hello", 1024, "hello|"),
     ("hello\n", 1024, "hello\n|"),
@@ -46,7 +46,7 @@ const CHUNKS: [(&str, usize, &str); 16] = [
 
 #[test]
 fn prints_chunks(rt: HostRuntime) -> Result<(), Fail> {
-    for (text, limit, want) in CHUNKS {
+    for &(text, limit, want) in CHUNKS {
         expect_text(&rt, chunks(rt.alloc(), text, limit)?.as_str(), want);
     }
     // The two rows of long lines of the same test.

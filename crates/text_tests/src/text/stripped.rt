@@ -19,7 +19,7 @@ fn write_without_trailing_newline<W: WriteStr>(
 }
 
 // Two pieces of a text, the text without sequences, and the text without the closing line feed alone.
-const PIECES: [(&str, &str, &str, &str); 11] = [
+const PIECES: &[(&str, &str, &str, &str)] = &[
     ("a\n\x1b[0m", "", "a", "a\n\x1b[0m"),
     ("\x1b]8;;", "x\u{7}b\n", "b", "\x1b]8;;x\u{7}b"),
     ("a\n", "\n", "a\n", "a\n"),
@@ -35,7 +35,7 @@ const PIECES: [(&str, &str, &str, &str); 11] = [
 
 #[test]
 fn pieces_are_written_as_one_text(rt: HostRuntime) -> Result<(), Fail> {
-    for (first, second, stripped, held_back) in PIECES {
+    for &(first, second, stripped, held_back) in PIECES {
         let mut written = String::new(rt.alloc());
         write_stripped_text(&mut written, [first, second].join(rt.alloc(), "")?.as_str())?;
         expect_text(&rt, written.as_str(), stripped);

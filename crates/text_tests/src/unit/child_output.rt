@@ -134,7 +134,7 @@ const LINES: &[u8] = b"output\nhighlight 1\nhighlight 2\nnot highlighted";
 
 // A part of a line, a part of several lines, one that begins within a character, and bytes that are not UTF-8. A part
 // that begins beyond the output is left out.
-const PARTS: [Row; 6] = [
+const PARTS: &[Row] = &[
     (
         b"output",
         "",
@@ -176,7 +176,7 @@ fn a_part_pointed_out_in_colour(rt: HostRuntime) -> Result<(), Fail> {
     for row in [WHOLE, AT_THE_END] {
         expect_text(&rt, shown_of_row(rt.alloc(), true, row)?.as_str(), row.4);
     }
-    for row in PARTS {
+    for &row in PARTS {
         expect_text(&rt, shown_of_row(rt.alloc(), true, row)?.as_str(), row.4);
     }
     Ok(())

@@ -47,7 +47,7 @@ fn settings() -> [(ShowProgress, ResolvedDisplay, ResolvedDisplay); 5] {
 }
 
 // Without capture, on a terminal, in CI: and whether there can be a bar.
-const SURROUNDINGS: [(bool, bool, bool, bool); 8] = [
+const SURROUNDINGS: &[(bool, bool, bool, bool)] = &[
     (false, true, false, true),
     (false, true, true, false),
     (false, false, false, false),
@@ -83,7 +83,7 @@ fn level_rows(levels: StatusLevels) -> [LevelRow; 4] {
 #[test]
 fn every_setting_comes_to_its_row(rt: HostRuntime) {
     for (show_progress, with_bar, without_bar) in settings() {
-        for (no_capture, is_terminal, is_ci, can_bar) in SURROUNDINGS {
+        for &(no_capture, is_terminal, is_ci, can_bar) in SURROUNDINGS {
             let expected = if can_bar { with_bar } else { without_bar };
             for row in level_rows(expected.status_levels) {
                 let (status_level, final_status_level, captured, uncaptured, at_end) = row;

@@ -25,7 +25,7 @@ type Row = (
 );
 
 // The rows of nextest-runner's test `test_write_skip_counts`, and two in colour.
-const ROWS: [Row; 23] = [
+const ROWS: &[Row] = &[
     (
         [0, 1, 1],
         [0, 0],
@@ -202,7 +202,7 @@ fn written(alloc: Global, row: Row) -> Result<String, Fail> {
 fn each_count_has_its_words(rt: HostRuntime) -> Result<(), Fail> {
     let none = written(rt.alloc(), ([0; 3], [0; 2], PROFILE, false, ""))?;
     expect_text(&rt, none.as_str(), "");
-    for row in ROWS {
+    for &row in ROWS {
         let text = written(rt.alloc(), row)?;
         let between = text
             .as_str()
