@@ -125,7 +125,11 @@ class Checks:
 
     def counts_of(self, call):
         own = type(self)(self.name)
-        call(own)
+        try:
+            call(own)
+        # It would end those beside it before they have said what failed.
+        except Exception as error:
+            own.expect(False, f"checks ended by {error!r}")
         return own.done, own.failed
 
     def outputs(self, child, what, seconds):
