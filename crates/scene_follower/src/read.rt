@@ -224,7 +224,7 @@ impl Reading {
         Err(Fault::CannotRead { file })
     }
 
-    // Reads lines ahead if none are buffered. It returns whether there are any.
+    /// Reads lines ahead if none are buffered. It returns whether there are any.
     pub fn fill<'a, L: RunSource>(
         &mut self,
         file: &'a str,
@@ -339,7 +339,8 @@ impl Reading {
     }
 }
 
-/// Whether a piece is one line of an event that has outputs, with a large field.
+/// Whether a piece is one line of an event that has outputs, with a large field. Whose memory an output takes depends
+/// on it, and no byte that is written: so its clause is only what follows where it is.
 pub fn has_large_output(piece: &[u8]) -> bool
     ensures { OnTrue result (split_on 10 piece.now ≡ piece.now ∷ []) }
 {
@@ -398,7 +399,7 @@ fn configure_piece<'a, L: RunSource>(
     Err(Fault::CannotRead { file })
 }
 
-// Reads the lines of a text, and has the sink take their calls.
+/// Reads the lines of a text, and has the sink take their calls.
 pub fn pass_lines<'a, L: RunSource, K: CallSink>(
     alloc: Global,
     file: &'a str,
