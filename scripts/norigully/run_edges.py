@@ -231,10 +231,7 @@ def check_interrupted(checks, room):
     temporary.mkdir()
     shutil.copy(TOP / "test", copy)
     how = {"stdin": subprocess.PIPE, "stdout": subprocess.PIPE, "stderr": subprocess.PIPE}
-    kept = {
-        "build": b"build: interrupted; what was proved is kept\n",
-        "test": b"test: interrupted; what passed is kept\n",
-    }
+    last = {"build": b"build: interrupted\n", "test": b"test: interrupted\n"}
     calls = ["run", room.scene], ["run", "--follow"], ["build"], ["test", "--quick"]
     for sent, words in itertools.product(ENDING, calls):
         building = subprocess.Popen([copy / words[0], *words[1:]], env={**late, "TMPDIR": str(temporary)}, **how)
@@ -243,8 +240,8 @@ def check_interrupted(checks, room):
             time.sleep(0.1)
         building.send_signal(sent)
         out, said = checks.outputs(building, what, PATIENCE)
-        ended = subprocess.CompletedProcess([], building.returncode, b"" if words[0] in kept else out, said)
-        checks.expect_run(what, ended, 128 + sent, b"", kept.get(words[0], b"run: building "))
+        ended = subprocess.CompletedProcess([], building.returncode, b"" if words[0] in last else out, said)
+        checks.expect_run(what, ended, 128 + sent, b"", last.get(words[0], b"run: building "))
         checks.expect(said.count(b"\n") == 1, f"{what}: {said}")
         is_there = begun.exists() and any(map(is_running, begun.read_text().split()))
         checks.expect(begun.exists() and not is_there, f"{what}: the kit goes on")
