@@ -1,12 +1,13 @@
 """What the gate takes: what it took where that was measured, and by it what it takes on the machine that runs it."""
 
-# The processor minutes of each kind of work from nothing, on the machine where FIRST took FIRST_SECONDS of a processor.
-# No other machine was faster, and the slowest took SLOWEST times as long.
-FROM_NOTHING = {"proofs": 53, "tests": 21, "edits": 15, "mistakes": 49, "scripts": 12}
+# The processor minutes of each kind of work from nothing, for the machine where FIRST took FIRST_SECONDS of a processor.
+# No other one was faster, and the slowest took SLOWEST times as long. They are those of df144e63 on a machine where
+# FIRST took 139 seconds, made smaller by that.
+FROM_NOTHING = {"proofs": 52, "tests": 17, "edits": 16, "mistakes": 49, "scripts": 9}
 FIRST, FIRST_SECONDS = "run_names", 65
 SLOWEST = 2.5
 # This part of the work is a chain of crates, each over the one before: on many processors it still takes that long.
-CHAIN = 0.34
+CHAIN = 0.32
 
 
 def by_the_clock(minutes, jobs):
