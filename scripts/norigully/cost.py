@@ -1,8 +1,8 @@
 """What the gate takes: what it took where that was measured, and by it what it takes on the machine that runs it."""
 
-# The processor minutes of each kind of work from nothing, for the machine where FIRST took FIRST_SECONDS of a processor.
-# No other one was faster, and the slowest took SLOWEST times as long. They are those of df144e63 on a machine where
-# FIRST took 139 seconds, made smaller by that.
+# The processor minutes of each kind of work from nothing, on a machine where FIRST takes FIRST_SECONDS of a processor.
+# No other one was faster, and the slowest took SLOWEST times as long. They are those of df144e63 where FIRST took 139
+# seconds, scaled by that.
 FROM_NOTHING = {"proofs": 52, "tests": 17, "edits": 16, "mistakes": 49, "scripts": 9}
 FIRST, FIRST_SECONDS = "run_names", 65
 SLOWEST = 2.5
