@@ -1,4 +1,4 @@
-"""What an earlier run found out, kept by a sum of all that it rests on, as `rt ci` keeps proofs: what has changed is
+"""What an earlier run found out, kept by a sum of all that it rests on, as a kit may keep proofs: what has changed is
 not there, and nothing goes stale. The kit's own folder is for what `rt` proved itself, so this is kept in the user's
 cache, in folders that nobody else can read or write.
 """
