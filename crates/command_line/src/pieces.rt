@@ -1,7 +1,8 @@
 //! Reads a file in pieces of whole lines, so that only one piece is in memory at a time.
 
-ghost use Rattle.std.specs.Prelude.{◌≡◌, ℕ, List, Some, IfOk, IfErr};
+ghost use Rattle.std.specs.Prelude.{◌≡◌, ℕ, List, Some, IfOk, IfErr, true, false};
 ghost use Rattle.std.specs.Io.Buffered.{reader_buffer, reader_remaining};
+ghost use Rattle.memchr.specs.Find.{IsFirstByte, IsLastByte, is_byte};
 ghost use Rattle.command_line.specs.Pieces.{IsBehind, IsFeed, IsNextPiece, IsUnread};
 
 use crate::fault::Fault;
@@ -84,7 +85,9 @@ fn take_buffered<R: Read>(
 // The line feed that a piece ends before: the last buffered one, or the first if the piece is the beginning of a line.
 // A line that is longer than what is read at once is so a piece by itself.
 fn end_of_lines(is_begun: bool, buffered: &[u8]) -> Option<usize>
-    ensures { IsFeed buffered.now result }
+    ensures feed { IsFeed buffered.now result }
+    ensures begun { is_begun ≡ true → IsFirstByte (is_byte 10) buffered.now result }
+    ensures whole { is_begun ≡ false → IsLastByte (is_byte 10) buffered.now result }
 {
     if is_begun {
         memchr(b'\n', buffered)

@@ -23,19 +23,17 @@ pub fn texts_make_the_report()
         → slice_get (report_texts config (later ++ call ∷ past)) (length past) ≡ Some (text config past call) }
 {}
 
-/// What [`run_report`](crate::imp::run_report) promises is no empty promise: accepted calls end well, if no device
-/// fails and no memory is refused.
+/// What [`run_report`](crate::imp::run_report) promises is no empty promise: accepted calls end well, or what stopped
+/// them has its cause.
 ///
-/// No device failed if the writer's count of failures is the same at the end. Then:
-///
-/// - If the writer asks for no memory, as a `TextBuffer` does not, and the reporter copies no prefix and keeps no
-///   test for the summary, the result is `Ok`: the whole report is accepted and delivered.
-/// - Else the result is `Ok` as well, or an `Err` by refused memory, at a call where the writer or the reporter asks
-///   for some.
+/// - An `Err` is `Io`, and the writer counted one failure more; or `Memory`, at a call where the writer or the reporter
+///   asks for some. That it was refused there is tested and not proved.
+/// - If the writer asks for no memory, as a `TextBuffer` does not, the reporter copies no prefix and keeps no test for
+///   the summary, and no device can fail or none has failed once more, the result is `Ok`: the whole report is accepted
+///   and delivered.
 pub fn runs_end_well<W: WriteStr>()
     ensures { (config : Configuration) (calls : List ReportCall) (old new : W) (result : Result (Unit {0}) RunFault)
         → Runs W.meaning absent config calls (old, tt) result (new, tt) → AreAccepted config calls
-        → W.meaning.failures new ≡ W.meaning.failures old
         → EndsWell W.meaning absent config calls (old, tt) result (new, tt) }
 {}
 
@@ -44,6 +42,5 @@ pub fn runs_end_well<W: WriteStr>()
 pub fn runs_with_store_end_well<W: WriteStr, S: WriteStr>()
     ensures { (config : Configuration) (calls : List ReportCall) (old new : W × S) (result : Result (Unit {0}) RunFault)
         → Runs W.meaning S.meaning config calls old result new → AreAccepted config calls
-        → W.meaning.failures new.0 ≡ W.meaning.failures old.0 → S.meaning.failures new.1 ≡ S.meaning.failures old.1
         → EndsWell W.meaning S.meaning config calls old result new }
 {}

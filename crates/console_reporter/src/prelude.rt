@@ -15,7 +15,8 @@ pub use crate::imp::{
     run_report_with_store, unload_skipped,
 };
 pub use bytes::Bytes;
-pub use run_model::abort::DescriptionText;
+pub use run_model::abort::{AbortDescription, DescriptionText};
+pub use run_model::boxed::Boxed;
 pub use run_model::command::CommandLine;
 pub use run_model::config::{NextestRunMode, TestOutputDisplay};
 pub use run_model::event::{SkipCounts, TestCounts, TestEvent, TestEventKind};
@@ -28,7 +29,8 @@ pub use run_model::output::{ChildOutputDescription, ErrorChain, LiveSpec};
 pub use run_model::output_event::LoadOutput;
 pub use run_model::stats::RunStats;
 pub use run_model::status::{
-    ExecuteStatus, ExecutionResultDescription, ExecutionStatuses, FlakyResult, RetryData,
+    ExecuteStatus, ExecutionResultDescription, ExecutionStatuses, FailureDescription, FlakyResult,
+    LeakTimeoutResult, RetryData, SlowTimeoutResult,
 };
 pub use run_model::time::Nanos;
 pub use styled_text::indenter::indented;

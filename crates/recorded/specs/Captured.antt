@@ -62,7 +62,7 @@ counted_before First count output = count
 counted_before Second count (Split stdout stderr) = counted_stream count stdout
 counted_before Second count (Combined reference) = counted count reference.len
 
--- a stream with a fault was read as far as that fault says
+-- how far a stream with this fault was read
 abbrev pub IsCountedFault : ℕ → StoredStream → LoadFault → ℕ → Type 0
 IsCountedFault before NotCaptured fault after = ⊥
 IsCountedFault before Empty fault after = ⊥

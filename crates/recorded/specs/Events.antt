@@ -44,11 +44,11 @@ is_there all (At reference) = nat_le (end_of reference) (length all)
 abbrev pub is_undamaged : List ℕ → StoredStream → Bool
 is_undamaged all stream = is_some (captured_stream_at all stream)
 
--- the field of a stream, if that is not so
+-- the field of a stream that fails such a test
 abbrev pub stream_field_not : (StoredStream → Bool) → PlacedOutput → StreamField → Option ℕ
 stream_field_not so p stream = if not (so (stream_in_field stream p.output)) then Some (field_of p stream) else None
 
--- the field of an output's first stream that is not so
+-- the field of an output's first stream that fails it
 abbrev pub field_not : (StoredStream → Bool) → PlacedOutput → Option ℕ
 field_not so p =
     if not (so (stream_in_field First p.output)) then Some (field_of p First)
@@ -59,7 +59,7 @@ abbrev pub first_field_not : (StoredStream → Bool) → List PlacedOutput → O
 first_field_not so [] = None
 first_field_not so (p ∷ ps) = option_or (field_not so p) (first_field_not so ps)
 
--- a fault of damage says this of its field; other faults say nothing of fields
+-- A fault of damage names this field. Other faults name none.
 abbrev pub IfDamaged : LoadFault → Type 0 → Type 0
 IfDamaged PastEnd P = P
 IfDamaged WrongSum P = P
@@ -76,8 +76,8 @@ abbrev pub unless_bad : Option ℕ → Result SceneEvent LineFault → Result Sc
 unless_bad (Some field) event = Err (BadField field)
 unless_bad None event = event
 
--- The place whose output alone a replay loads: of a test that has finished that of its last attempt, since no report
--- and no record depends on what the attempts before it wrote. Of another event it loads all outputs.
+-- Of a finished test a replay loads only the output of the last attempt: its place. No report and no record depends on
+-- what the earlier attempts wrote. Of other events it loads all outputs.
 abbrev pub only_place_of : TestEventKind → Option ℕ
 only_place_of (kind.TestFinished stress test success failure statuses stats) = Some (length statuses.earlier)
 only_place_of other = None
@@ -98,8 +98,8 @@ wanted only (p ∷ ps) = if is_wanted only p then p ∷ wanted only ps else want
 abbrev pub wanted_of : SceneEvent → List PlacedOutput → List PlacedOutput
 wanted_of event stored = wanted (only_place event) stored
 
--- What a replay makes of an event: its outputs must all be there. Where its report shows them, those that it loads are
--- in it, and must be those that were recorded.
+-- What a replay makes of an event. All its outputs must be there. If the report shows them, those that are loaded are
+-- in the event, and must be undamaged.
 unfoldable pub event_replayed : List ℕ → OutputLoadDecider → List PlacedOutput → SceneEvent
     → Result SceneEvent LineFault
 event_replayed all d stored event =
@@ -107,7 +107,7 @@ event_replayed all d stored event =
     (if skips d event then Ok event else unless_bad (first_field_not (is_undamaged all) (wanted_of event stored))
     (Ok (event_inline all (wanted_of event stored) event)))
 
--- that was made, or is the fault, unless the outputs cannot be read or memory was refused
+-- this event was made, or this is the fault, unless the outputs cannot be read or memory was refused
 abbrev pub IsReplayed : List ℕ → OutputLoadDecider → List PlacedOutput → SceneEvent → Result ⊤ LoadEventFault
     → SceneEvent → Type 0
 IsReplayed all d stored old (Ok x) new = event_replayed all d stored old ≡ Ok new
@@ -127,6 +127,6 @@ abbrev pub outputs_len : List PlacedOutput → ℕ
 outputs_len [] = 0
 outputs_len (p ∷ ps) = output_len p.output + outputs_len ps
 
--- how many bytes are read for an event: those of the outputs that are loaded, or none. No output is looked at
+-- How many bytes are read for an event: those of the outputs that are loaded, or none. No output is read for it.
 abbrev pub needed_of : OutputLoadDecider → SceneEvent → List PlacedOutput → ℕ
 needed_of d event stored = if skips d event then 0 else outputs_len (wanted_of event stored)

@@ -13,13 +13,13 @@ use Rattle.scene_fields.specs.declared.fault.LineFault.TheVariants as line
 abbrev pub CountsMore : ℕ → ℕ → ℕ → Type 0
 CountsMore needed old new = (more : ℕ) → counted new more ≡ counted old (needed + more)
 
--- why the outputs of the event of this line were not put into it, of which a replay makes this: they cannot be read, or
--- memory was refused; or it has a fault
+-- Why the outputs of this line's event, which a replay makes into this, were not put into it: they cannot be read,
+-- memory was refused, or the event has a fault.
 abbrev pub IsUnloaded : List ℕ → ℕ → Result SceneEvent LineFault → Fault → Type 0
 IsUnloaded file n made fault = IsUnread file fault ⊎ ((f : LineFault) × (made ≡ Err f) × (fault ≡ program.Line n f))
 
--- It put into a call what a replay with these options loads of its stored outputs, from these, and the sink behind it
--- took that; or a fault stopped it before. The outputs stay what they are, and what was read of them is counted.
+-- From these outputs, it put into a call those that a replay with these options loads, and the next sink took the call;
+-- or a fault stopped it before. The outputs are unchanged, and what was read of them is counted.
 pub record LoadsCall {O K : Type 0} (recorded : O → Option (List ℕ)) (count : O → ℕ) (takes : Takes K)
     (options : Options) (config : SceneConfig) (outputs : O) (sink : K) (file : List ℕ) (n : ℕ)
     (stored : List PlacedOutput) (call : ReportCall) (result : Result (Unit {0}) Fault) (outputs_after : O)

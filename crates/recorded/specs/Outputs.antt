@@ -1,4 +1,4 @@
--- What is loaded of a file of outputs.
+-- What is loaded from a file of outputs.
 use Rattle.std.specs.Prelude.{◌≡◌, ℕ, ◌+◌, ◌-◌, ◌^◌, ◌≤◌, ◌<◌, ◌&&◌, ◌⊎◌, min, nat_le, bytes_eq, if◌then◌else◌, List}
 use Rattle.std.specs.Prelude.{length, take, drop, Option, None, Some, Result, Ok, Err, ⊤}
 use Rattle.scene_reader.specs.Names.{Reference, end_of, sum_of}
@@ -14,8 +14,8 @@ unfoldable pub stream_at : List ℕ → Reference → Option (List ℕ)
 stream_at all r = if nat_le (end_of r) (length all) && bytes_eq (sum_of (bytes_at all r)) r.sum then Some
     (bytes_at all r) else None
 
--- what is loaded is the stream that the reference names; what is damaged is none; and memory is only asked for where
--- all bytes are there
+-- What is loaded is the stream that the reference names. Damaged bytes are no stream. Memory is requested only if all
+-- bytes are there.
 abbrev pub IsLoaded : List ℕ → Reference → Result (List ℕ) LoadFault → Type 0
 IsLoaded all r (Ok bytes) = stream_at all r ≡ Some bytes
 IsLoaded all r (Err (CannotRead kind)) = ⊤
@@ -27,7 +27,7 @@ IsLoaded all r (Err OutOfMemory) = end_of r ≤ length all
 abbrev pub HasSum : Reference → List ℕ → Type 0
 HasSum r bytes = (length bytes ≡ r.len) × (sum_of bytes ≡ r.sum)
 
--- a count with n more, which stops at its greatest value
+-- a count with n more, which saturates
 abbrev pub counted : ℕ → ℕ → ℕ
 counted count more = min (count + more) (2 ^ 64 - 1)
 

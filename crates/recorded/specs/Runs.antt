@@ -10,7 +10,7 @@ use Rattle.scene_reader.specs.SceneTexts.{ConfigLine, EventLine, NoEvent}
 abbrev pub replayed : Options → Options
 replayed options = record options { is_replay = true }
 
--- the lines of a text, each of which ends in a line feed: what follows the last one is none
+-- the lines of a text, each of which ends in a line feed; what follows the last line feed is not a line
 abbrev pub without_last : {X : Type 0} → List X → List X
 without_last [] = []
 without_last (x ∷ []) = []
@@ -34,12 +34,12 @@ line_inline all t = RecordedLine t (λ before stored e. Ok (event_inline all sto
 abbrev pub lines_inline : List ℕ → List ℕ → List RunLine
 lines_inline all text = map (line_inline all) (ended_lines text)
 
--- what is before the line after one that says this
+-- what must be known before the line after one with this value
 abbrev pub before_rest : LinesBefore → Result (ParsedLine × List PlacedOutput) LineFault → LinesBefore
 before_rest before (Ok x) = before_behind before x.0
 before_rest before (Err f) = before
 
--- how many bytes of outputs a line needs that has this value and these stored outputs
+-- how many bytes of outputs a line with this value and these stored outputs needs
 abbrev pub needed_by : Options → LinesBefore → List PlacedOutput → ParsedLine → ℕ
 needed_by options before stored NoEvent = 0
 needed_by options before stored (ConfigLine config) = 0
@@ -49,7 +49,7 @@ abbrev pub needed_for : Options → LinesBefore → Result (ParsedLine × List P
 needed_for options before (Ok x) = needed_by options before x.1 x.0
 needed_for options before (Err f) = 0
 
--- how many the lines behind these need: the lengths of what their report shows. No output is looked at
+-- How many bytes the next lines need: the lengths of the outputs that the report shows. No output is read for it.
 unfoldable pub needed : Options → LinesBefore → List (List ℕ) → ℕ
 needed options before [] = 0
 needed options before (t ∷ ts) = needed_for options before (recorded_line before t)

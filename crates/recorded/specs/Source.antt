@@ -4,8 +4,8 @@ use Rattle.recorded.specs.Runs.{line_replayed, needed, ended_lines}
 use Rattle.{command_line.specs.declared.args.Options.Options, recorded.specs.Outputs.counted}
 use Rattle.scene_reader.specs.SceneTexts.{ParsedLines, RunLine, lines_before}
 
--- These lines are left after those before, of which these texts are read next. `total` bytes of outputs are read once
--- they are.
+-- These lines are left after those before, and these texts are read next. Once all are read, `total` bytes of outputs
+-- were read.
 pub record IsLeft (total : ℕ) (options : Options) (recorded remaining : Option (List ℕ)) (bytes_read : ℕ)
     (texts : List (List ℕ)) (before : ParsedLines) (lines : List RunLine) : Type 0 where
   pub all : List ℕ

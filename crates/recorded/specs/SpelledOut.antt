@@ -28,7 +28,7 @@ tabbed [] = []
 tabbed (t ∷ []) = t
 tabbed (t ∷ u ∷ us) = t ++ 9 ∷ tabbed (u ∷ us)
 
--- a line, with each of its fields spelled so
+-- a line, with each of its fields spelled out
 abbrev pub line_spelled : List ℕ → List ℕ → List ℕ
 line_spelled all t = tabbed (map (field_spelled all) (split_on 9 t))
 

@@ -77,8 +77,8 @@ pub fn load_outputs<O: ReadAt + Drop>(
     load_wanted(alloc, stored, only, outputs, event)
 }
 
-// The place whose output alone is loaded: of a test that has finished that of its last attempt. Of another event all
-// are loaded.
+// Of a finished test only the output of the last attempt is loaded: its place. `None` for other events, of which every
+// output is loaded.
 fn only_place(event: &ReportCall<'_>) -> Option<usize>
     ensures { result ≡ only_place (call_by_names event.now) }
 {
@@ -146,7 +146,7 @@ fn check_all_there<O: ReadAt + Drop>(
     Ok(())
 }
 
-// For one output. Standard output comes first.
+// Does so for one output. Standard output comes first.
 fn check_output_there<O: ReadAt + Drop>(
     placed: &PlacedOutput,
     outputs: &mut RecordedOutputs<O>,
@@ -160,7 +160,7 @@ fn check_output_there<O: ReadAt + Drop>(
     check_stream_there(placed, StreamField::Second, outputs)
 }
 
-// For one of its streams.
+// Does so for one of its streams.
 fn check_stream_there<O: ReadAt + Drop>(
     placed: &PlacedOutput,
     stream: StreamField,
@@ -195,7 +195,7 @@ fn is_there<O: ReadAt + Drop>(
     }
 }
 
-// Puts stored outputs into an event: all, or that at this place alone.
+// Puts stored outputs into an event: all, or only the one at this place.
 fn load_wanted<O: ReadAt + Drop>(
     alloc: Global,
     stored: &[PlacedOutput],
@@ -223,7 +223,7 @@ fn load_wanted<O: ReadAt + Drop>(
     Ok(())
 }
 
-// Whether an output is loaded: each is, or that at this place alone.
+// Whether an output is loaded: every output, or only the one at this place.
 fn is_wanted(only: Option<usize>, placed: &PlacedOutput) -> bool
     ensures { result ≡ is_wanted only placed.now }
 {

@@ -1,4 +1,4 @@
-//! The outputs of a line of a recorded run: those that its report shows are loaded into its call.
+//! The outputs of a line of a recorded run: those that the report shows are loaded into its call.
 
 ghost use Rattle.std.specs.Prelude.{◌≡◌, ℕ, List, Some, IfErr, Ok, OnOk};
 ghost use Rattle.scene_follower.specs.Names.{decider_for};
@@ -18,7 +18,7 @@ use scene_reader::reader::CallSink;
 use scene_run_lines::config::SceneConfig;
 use std::alloc::Global;
 
-/// A sink that loads the outputs that the report shows of a call, before another sink takes it.
+/// A sink that loads those outputs of a call that the report shows, before another sink takes the call.
 #[derive(Drop)]
 pub(crate) struct Loading<'r, 's, 'o, O: ReadAt, K> {
     pub(crate) options: &'r Options<'o>,
@@ -28,7 +28,7 @@ pub(crate) struct Loading<'r, 's, 'o, O: ReadAt, K> {
 }
 
 impl<'r, 's, 'o, O: ReadAt + Drop, K> Loading<'r, 's, 'o, O, K> {
-    // Puts the outputs that the report shows of a call into it.
+    // Puts those outputs into a call that the report shows.
     fn load<'a>(
         &mut self,
         alloc: Global,
@@ -87,7 +87,7 @@ impl<'r, 's, 'o, O: ReadAt + Drop, K: CallSink> CallSink for Loading<'r, 's, 'o,
     }
 }
 
-// The fault of the line of this number, where an output of its event was not loaded.
+// The fault of the line of this number, if an output of its event was not loaded.
 fn fault_of_load<'a>(file: &'a str, line: u64, fault: LoadEventFault) -> Fault<'a>
     ensures { IsFaultOfLoad file.now line fault.field fault.fault result }
 {

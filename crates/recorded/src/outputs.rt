@@ -1,7 +1,8 @@
-//! The outputs of a recorded run. A stream is loaded by its reference, and an output by what is stored of it: none but
-//! their bytes are read, which are never spelled as text.
+//! The outputs of a recorded run. A stream is loaded by its reference, and an output by its stored form. Only their
+//! bytes are read, and these are never spelled as text.
 
-ghost use Rattle.std.specs.Prelude.{◌≡◌, ◌≤◌, ◌↔◌, IsTrue, IfOk, IfSome, OnOk, if◌then◌else◌, is_ok, length, vec_len};
+ghost use Rattle.std.specs.Prelude.{◌≡◌, ◌≤◌, ◌↔◌, false, IsTrue, IfOk, IfSome, OnOk, if◌then◌else◌, is_ok, length};
+ghost use Rattle.std.specs.Prelude.{vec_len};
 ghost use Rattle.{std.specs.Option.ForSome, scene_fields.specs.References.end_of};
 ghost use Rattle.recorded.specs.Names.{IsCaptured, IsCapturedStream, IsCountedOf, IsCountedOfStream, HasSum, IsCounted};
 ghost use Rattle.recorded.specs.Names.{IsLoaded, counted, HasRead};
@@ -20,16 +21,16 @@ use thiserror::Error;
 /// Why a stream was not loaded.
 #[derive(Clone, Copy, Debug, PartialEq, Eq, Error)]
 pub enum LoadFault {
-    /// The outputs could not be read, with what the system says of it.
+    /// The outputs could not be read, with the system's error.
     #[error("the outputs cannot be read")]
     CannotRead(ErrorKind),
     /// Not all of its bytes are there.
     #[error("the output lies past the end")]
     PastEnd,
-    /// The bytes at its place have another sum.
+    /// The bytes at its place have a different sum.
     #[error("the output has another sum")]
     WrongSum,
-    /// A growth of memory was refused.
+    /// Memory was refused.
     #[error("out of memory")]
     OutOfMemory,
 }
@@ -70,7 +71,7 @@ pub struct StreamFault {
 #[derive(Drop)]
 pub struct RecordedOutputs<O: ReadAt> {
     source: O,
-    // How many bytes there were when that was last asked.
+    // The length at the last request for it.
     len: u64,
     ghost known: { ForSome (O.recorded source) (λ all. len ≡ length all) },
 }
@@ -105,6 +106,8 @@ impl<O: ReadAt + Drop> RecordedOutputs<O> {
     pub fn holds(&mut self, reference: &Reference) -> io::Result<bool>
         ensures holds { IfSome (O.recorded self.old.source)
             (λ all. IfOk result (λ holds. IsTrue holds ↔ (end_of reference.now ≤ length all))) }
+        ensures asked { IfOk result (λ holds. holds ≡ false → O.asked self.old.source self.new.source) }
+        ensures unasked { end_of reference.now ≤ self.old.len → self.new ≡ self.old }
         ensures kept { O.recorded self.new.source ≡ O.recorded self.old.source }
         ensures count { O.count self.new.source ≡ O.count self.old.source }
     {

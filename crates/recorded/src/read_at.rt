@@ -14,11 +14,11 @@ use std::os::unix::fs::FileExt;
 
 /// Bytes that are read at their place, as those of a file are.
 ///
-/// Contracts know the bytes of a slice and of a cursor, and nothing of those of a file.
+/// Contracts know the bytes of a slice and of a cursor, but not those of a file.
 pub trait Source {
     // All the bytes, where they are known.
     ghost recorded: { Self → Option (List ℕ) } = { λ _. None };
-    // It was asked once how many bytes there are.
+    // The length was requested once.
     ghost asked: { Self → Self → Type 0 } = { λ _ _. ⊤ };
     // Once, from this position on, this many bytes were read, or could not be read.
     ghost read_once: { ℕ → ℕ → Self → Self → Type 0 } = { λ _ _ _ _. ⊤ };
@@ -105,7 +105,7 @@ pub trait ReadAt {
     ghost recorded: { Self → Option (List ℕ) } = { λ _. None };
     // How many bytes were read.
     ghost count: { Self → ℕ };
-    // What was counted was read once from what follows, and nothing else.
+    // Exactly the counted bytes were read from the source behind the meter, once.
     ghost asked: { Self → Self → Type 0 } = { λ _ _. ⊤ };
 
     ghost read_once: { ℕ → ℕ → Self → Self → Type 0 } = { λ _ _ _ _. ⊤ };
@@ -153,7 +153,7 @@ pub struct Metered<S> {
 }
 
 impl<S: Source> Metered<S> {
-    /// A source of which nothing was read.
+    /// With this source, of which nothing was read.
     pub fn new(source: S) -> Metered<S>
         ensures source { S.recorded result.source ≡ S.recorded source }
         ensures count { result.bytes_read ≡ 0 }
@@ -170,7 +170,7 @@ impl<S: Source> ReadAt for Metered<S> {
 
     ghost count = { λ metered. metered.bytes_read };
 
-    // The source was asked, or read, once; and it is what it was beside that.
+    // One length was requested of the source, or one read made, and nothing else changed.
     ghost asked = { λ old new. S.asked old.source new.source };
 
     ghost read_once = { λ offset len old new. S.read_once offset len old.source new.source };

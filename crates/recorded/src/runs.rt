@@ -19,7 +19,7 @@ use scene_reader::reader::{CallSink, LinesRead};
 use std::alloc::Global;
 use std::io::{BufReader, Read, Write};
 
-/// How many bytes are read of the lines at once.
+/// How many bytes of the lines are read at once.
 const BYTES_AT_ONCE: usize = 16_384;
 
 /// A recorded run: its lines, and its outputs. Those that the decider skips are not read.
@@ -104,7 +104,7 @@ impl<'a, R: Read + Drop, O: ReadAt + Drop> RecordedRun<'a, R, O> {
             → IfOk result.0 (λ come_to. OfLines (lines_inline all text)
             (PrintsFollowed device device self.old.options (W.contents writer, S.contents store_writer)
             (W.contents result.1, S.contents result.2) come_to)) }
-        // What a proof knows of the outputs are numbers, and those of all outputs are bytes.
+        // A proof knows the outputs as numbers, and needs that each of them is a byte.
         ensures spelled { (text all : List ℕ) → reader_remaining R.remaining self.old.reader ≡ Some text
             → O.recorded self.old.outputs.source ≡ Some all → AreBytes all
             → IfOk result.0 (λ come_to. OfText (scene_spelled all text)
@@ -141,7 +141,7 @@ impl<'o, R: Read, O: ReadAt + Drop> RunSource for RecordedRun<'o, R, O> {
       refl,
     ) };
 
-    // What follows the last line feed is no line.
+    // Bytes after the last line feed are not a line.
     fn next_piece<'a>(&mut self, file: &'a str, piece: &mut Vec<u8>) -> Result<bool, Fault<'a>> {
         next_piece(file, &mut self.reader, piece)
     }

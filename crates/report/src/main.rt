@@ -8,7 +8,7 @@
 use command_line::args::{Options, words};
 use command_line::fault::{Fault, ReportProgram};
 use scene_follower::process::{arguments, create_store, fill_standard_descriptors, report_fault};
-use scenes::report::{read_judged, report_gathered, report_judged};
+use scenes::report::report_scene;
 use std::fs::File;
 use std::io;
 use std::process::ExitCode;
@@ -43,11 +43,7 @@ fn run<'a>(rt: &HostRuntime, args: &'a [String]) -> Result<(), Fault<'a>> {
     let alloc = rt.alloc();
     // A signal may interrupt a write, which is then made again.
     let output = RetryInterrupted::new(io::writer(rt));
-    let Some(store) = options.store else {
-        return report_gathered(alloc, &options, file, output).0;
-    };
-    let judged = read_judged(alloc, &options, file)?;
     // The scene was read whole, so the file of the records may be the same.
-    let records = RetryInterrupted::new(create_store(rt, store.file, &[])?);
-    report_judged(alloc, &options, judged, output, records).0
+    let create_records = |path| Ok(RetryInterrupted::new(create_store(rt, path, &[])?));
+    report_scene(alloc, &options, file, output, create_records).0
 }

@@ -9,7 +9,7 @@ use command_line::args::Options;
 use command_line::fault::Fault;
 use run_model::level::StatusLevel;
 use scene_fields::fault::ReadFault;
-use scenes::report::report_text;
+use scenes::report::report_to_string;
 use std::alloc::Global;
 
 /// The same options as those of the program `report`, with no file; None if there is no such status level.
@@ -60,7 +60,7 @@ pub fn report_of(alloc: Global, options: &Options<'_>, text: &[u8]) -> Result<St
         (Prints device device options.now (Some [], None) (Some (string_bytes report), None))) }
     ensures fault { IfErr result (IsUnreported options.now text.now) }
 {
-    match report_text(alloc, options, text) {
+    match report_to_string(alloc, options, text) {
         Ok(report) => Ok(report),
         Err(fault) => Err(read_fault_of(&fault)),
     }

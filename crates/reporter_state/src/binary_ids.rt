@@ -1,6 +1,6 @@
 //! The ids of the binaries whose tests are kept.
 
-ghost use Rattle.std.specs.Prelude.{◌≡◌, IfOk};
+ghost use Rattle.std.specs.Prelude.{◌≡◌, ◌≤◌, IfOk, vec_len};
 
 use run_model::boxed::Shared;
 use run_model::memory::OutOfMemory;
@@ -20,6 +20,7 @@ const REMEMBERED: usize = 8;
 #[derive(Drop)]
 pub struct KeptBinaryIds {
     last: Vec<Shared<RustBinaryId>>,
+    ghost few: { vec_len last ≤ 8 },
 }
 
 impl KeptBinaryIds {
@@ -40,7 +41,8 @@ impl KeptBinaryIds {
         alloc: Global,
         id: &RustBinaryId,
     ) -> Result<Shared<RustBinaryId>, OutOfMemory>
-        ensures { IfOk result (λ kept. kept ≡ id.now) }
+        ensures id { IfOk result (λ kept. kept ≡ id.now) }
+        ensures remembered { IfOk result (λ _. 1 ≤ vec_len self.new.last) }
     {
         for known in &self.last {
             if known.get() == id {

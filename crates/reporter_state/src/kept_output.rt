@@ -1,6 +1,7 @@
 //! A short form of what the summary shows of a test: an ordered map moves its values, and most lines fit in few bytes.
 
-ghost use Rattle.std.specs.Prelude.{◌≡◌, IfOk, IfSome};
+ghost use Rattle.std.specs.Prelude.{◌≡◌, ◌<◌, ◌^◌, ℤ, IfOk, IfSome, None};
+ghost use Rattle.reporter_state.specs.declared.kept_output.ShortSummary.{ShortSummary};
 ghost use Rattle.reporter_state.specs.KeptOutputs.{ended_by, final_output_of, summary_of_line};
 ghost use Rattle.reporter_state.specs.{declared.final_output.FinalOutput.TheVariants.Executed};
 ghost use Rattle.reporter_state.specs.{declared.final_output.FinalOutput.TheVariants.ExecutedWithOutput};
@@ -132,7 +133,9 @@ fn line_with_output(
 impl ShortSummary {
     // None if the last result has no short form.
     fn of(summary: &StatusSummary) -> Option<ShortSummary>
-        ensures { IfSome result (λ line. summary_of_line line ≡ summary.now) }
+        ensures short { IfSome result (λ line. summary_of_line line ≡ summary.now) }
+        ensures none { result ≡ None → (line : ShortSummary) → line.nanos < 2 ^ 64
+            → summary_of_line line ≡ summary.now → ⊥ }
     {
         let exit_code = exit_code_of(&summary.result)?;
         let nanos = u64::try_from(summary.time_taken.0).ok()?;
@@ -172,7 +175,8 @@ fn ended_by(exit_code: i32) -> ExecutionResultDescription
 }
 
 fn exit_code_of(outcome: &ExecutionResultDescription) -> Option<i32>
-    ensures { IfSome result (λ code. ended_by code ≡ outcome.now) }
+    ensures code { IfSome result (λ code. ended_by code ≡ outcome.now) }
+    ensures none { result ≡ None → (code : ℤ) → ended_by code ≡ outcome.now → ⊥ }
 {
     match outcome {
         ExecutionResultDescription::Pass => Some(0),

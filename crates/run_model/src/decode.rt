@@ -4,6 +4,7 @@
 //! all, so the next characters are decoded one by one.
 
 ghost use Rattle.std.specs.Prelude.{◌≡◌, ◌++◌, ◌<◌, ◌≤◌, ◌-◌, length, IfOk, OnOk, string_bytes};
+ghost use Rattle.std.specs.Prelude.{encode_utf8};
 ghost use Rattle.run_model.specs.{Decoded.decoded_text, Decoded.IsPushed};
 
 use run_names::memory::OutOfMemory;
@@ -65,6 +66,19 @@ fn push_char<'b>(bytes: &'b [u8], text: &mut String) -> Result<&'b [u8], OutOfMe
     }
     let (character, len) = bstr::decode_lossy(bytes);
     let (_, rest) = bytes.split_at(len);
-    text.push(character)?;
+    push_decoded(character, text)?;
     Ok(rest)
+}
+
+// Appends a character. Of bytes that are no text most are U+FFFD.
+#[inline(always)]
+fn push_decoded(character: char, text: &mut String) -> Result<(), OutOfMemory>
+    ensures { OnOk result (string_bytes text.new ≡ string_bytes text.old ++ encode_utf8 character) }
+{
+    if character == '\u{FFFD}' {
+        text.push_str("\u{FFFD}")?;
+    } else {
+        text.push(character)?;
+    }
+    Ok(())
 }

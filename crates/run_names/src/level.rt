@@ -109,19 +109,19 @@ impl FinalStatusLevel {
 pub enum CancelReason {
     /// A setup script failed.
     SetupScriptFailure,
-    /// A test failed. Running tests are waited for.
+    /// A test failed, and running tests are waited for.
     TestFailure,
     /// The report could not be written.
     ReportError,
     /// The run took too long.
     GlobalTimeout,
-    /// A test failed. Running tests are terminated.
+    /// A test failed, and running tests are terminated.
     TestFailureImmediate,
     /// A signal other than an interrupt was received.
     Signal,
     /// An interrupt was received.
     Interrupt,
-    /// A second signal was received. Running tests are killed.
+    /// A second signal was received, and running tests are killed.
     SecondSignal,
 }
 

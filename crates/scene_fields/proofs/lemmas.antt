@@ -1,4 +1,5 @@
 pub mod Cuts
+pub mod Digits
 pub mod Marks
 pub mod Numbers
 pub mod ReferenceMarks

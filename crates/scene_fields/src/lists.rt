@@ -120,7 +120,5 @@ fn read_words(alloc: Global, field: &str) -> Result<Option<Vec<String>>, OutOfMe
     }
     word.push_str(rest)?;
     words.push(word)?;
-    // Most lists have two or three words, and a scene may hold a million of them.
-    words.shrink_to_fit();
     Ok(Some(words))
 }

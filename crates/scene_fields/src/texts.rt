@@ -9,14 +9,13 @@ ghost use Rattle.std.specs.{Char.digit_value, Option.option_map, Option.SomeIff}
 ghost use Rattle.scene_fields.specs.Texts.{cow_text, AddsStretch, bytes_in, escape_byte, escape_len, text_in};
 
 use super::marks::find_byte;
-use super::split::split_at_byte;
-use super::unescape::unescape_in_place;
+use super::unescape::{unescape_in_place, unescape_text_in_place};
 use run_model::memory::OutOfMemory;
 use std::alloc::Global;
 use std::borrow::CowStr;
 
 /// The greatest byte that an escape may give in a text.
-const ASCII: u8 = 0x7f;
+pub(crate) const ASCII: u8 = 0x7f;
 
 /// Reads a text. It allocates only if there is an escape; `None` means a bad field.
 ///
@@ -35,16 +34,27 @@ pub fn read_text(alloc: Global, field: &str) -> Result<Option<CowStr<'_, Global>
     let Some(_) = find_byte(b'\\', field.as_bytes()) else {
         return Ok(Some(CowStr::Borrowed(field)));
     };
-    let mut text = String::with_capacity(alloc, field.len())?;
-    let mut rest = field;
-    while let Some((plain, escape)) = split_at_byte(rest, b'\\') {
-        let Some(after) = push_stretch(&mut text, plain, escape)? else {
-            return Ok(None);
-        };
-        rest = after;
+    read_escaped(alloc, field)
+}
+
+// Reads a text that has an escape: the field is copied, and decoded in the memory of the copy.
+#[inline(never)]
+fn read_escaped<'a>(
+    alloc: Global,
+    field: &'a str,
+) -> Result<Option<CowStr<'a, Global>>, OutOfMemory>
+    ensures { IfOk result (λ text. option_map cow_text text ≡ text_in field.now) }
+{
+    let mut bytes = Vec::from_slice(alloc, field.as_bytes())?;
+    let Some(len) = unescape_text_in_place(bytes.as_mut_slice()) else {
+        return Ok(None);
+    };
+    bytes.truncate(len);
+    match String::from_utf8(bytes) {
+        Ok(text) => Ok(Some(CowStr::Owned(text))),
+        // No escape of ASCII makes a text something else.
+        Err(_) => Err(OutOfMemory),
     }
-    text.push_str(rest)?;
-    Ok(Some(CowStr::Owned(text)))
 }
 
 /// Adds the text before an escape, and the byte that the escape gives. It returns the text after the escape; `None`
@@ -107,7 +117,8 @@ pub(crate) fn escape_at(escape: &[u8], most: u8) -> Option<(u8, usize)>
 }
 
 // The byte that two hexadecimal digits write.
-fn hex_byte(high: u8, low: u8) -> Option<u8>
+#[inline(always)]
+pub(crate) fn hex_byte(high: u8, low: u8) -> Option<u8>
     ensures { SomeIff result ((digit_value high < 16) × (digit_value low < 16))
         (16 * digit_value high + digit_value low) }
 {
@@ -119,22 +130,26 @@ fn hex_byte(high: u8, low: u8) -> Option<u8>
     }
 }
 
-// The value of a hexadecimal digit, and 16 for any other byte. Each step is a conditional move: digits of random bytes
-// cannot be predicted.
+// The value of each byte as a hexadecimal digit, and 16 for any other byte.
+static VALUES: [u8; 256] = [
+    16, 16, 16, 16, 16, 16, 16, 16, 16, 16, 16, 16, 16, 16, 16, 16, 16, 16, 16, 16, 16, 16, 16, 16,
+    16, 16, 16, 16, 16, 16, 16, 16, 16, 16, 16, 16, 16, 16, 16, 16, 16, 16, 16, 16, 16, 16, 16, 16,
+    0, 1, 2, 3, 4, 5, 6, 7, 8, 9, 16, 16, 16, 16, 16, 16, 16, 10, 11, 12, 13, 14, 15, 16, 16, 16,
+    16, 16, 16, 16, 16, 16, 16, 16, 16, 16, 16, 16, 16, 16, 16, 16, 16, 16, 16, 16, 16, 16, 16, 10,
+    11, 12, 13, 14, 15, 16, 16, 16, 16, 16, 16, 16, 16, 16, 16, 16, 16, 16, 16, 16, 16, 16, 16, 16,
+    16, 16, 16, 16, 16, 16, 16, 16, 16, 16, 16, 16, 16, 16, 16, 16, 16, 16, 16, 16, 16, 16, 16, 16,
+    16, 16, 16, 16, 16, 16, 16, 16, 16, 16, 16, 16, 16, 16, 16, 16, 16, 16, 16, 16, 16, 16, 16, 16,
+    16, 16, 16, 16, 16, 16, 16, 16, 16, 16, 16, 16, 16, 16, 16, 16, 16, 16, 16, 16, 16, 16, 16, 16,
+    16, 16, 16, 16, 16, 16, 16, 16, 16, 16, 16, 16, 16, 16, 16, 16, 16, 16, 16, 16, 16, 16, 16, 16,
+    16, 16, 16, 16, 16, 16, 16, 16, 16, 16, 16, 16, 16, 16, 16, 16, 16, 16, 16, 16, 16, 16, 16, 16,
+    16, 16, 16, 16, 16, 16, 16, 16, 16, 16, 16, 16, 16, 16,
+];
+
+// The value of a hexadecimal digit, and 16 for any other byte. Random digits cannot be predicted, so nothing branches.
 #[inline(always)]
 fn digit_value(byte: u8) -> u8
     ensures digit { digit_value byte < 16 → result ≡ digit_value byte }
     ensures other { 16 ≤ digit_value byte → result ≡ 16 }
 {
-    let mut value = 16;
-    if b'0' <= byte && byte <= b'9' {
-        value = byte - b'0';
-    }
-    if b'A' <= byte && byte <= b'F' {
-        value = byte - (b'A' - 10);
-    }
-    if b'a' <= byte && byte <= b'f' {
-        value = byte - (b'a' - 10);
-    }
-    value
+    VALUES[byte as usize]
 }

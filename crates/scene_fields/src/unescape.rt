@@ -5,25 +5,41 @@
 
 ghost use Rattle.std.specs.Prelude.{◌≡◌, ◌≢◌, ◌<◌, ◌≤◌, ◌-◌, IfSome, length, slice_index, take};
 ghost use Rattle.std.specs.Option.{option_map};
-ghost use Rattle.scene_fields.specs.Texts.{LacksEscapes, MovesPlain, bytes_in, escape_byte, escape_len};
+ghost use Rattle.scene_fields.specs.Texts.{LacksEscapes, MovesPlain, bytes_in, escape_byte, escape_len, text_in};
+ghost use Rattle.scene_fields.specs.Texts.{unescaped};
 
 use super::marks::{first_place, load_block, match_mask};
-use super::texts::escape_at;
+use super::texts::{ASCII, escape_at, hex_byte};
 use std::simd::prelude::*;
 
 /// How many bytes a block has.
 const BLOCK: usize = 32;
 
-/// Overwrites the front of a text with the bytes that it spells, and returns how many these are. `None` means a bad
+/// Overwrites the front of an output with the bytes that it spells, and returns how many these are. `None` means a bad
 /// escape.
 pub fn unescape_in_place(bytes: &mut [u8]) -> Option<usize>
     ensures { option_map (λ len. take len bytes.new) result ≡ bytes_in bytes.old }
+{
+    unescape_up_to(bytes, u8::MAX)
+}
+
+/// Like [`unescape_in_place`], for a text, whose escapes give ASCII alone.
+pub(crate) fn unescape_text_in_place(bytes: &mut [u8]) -> Option<usize>
+    ensures { option_map (λ len. take len bytes.new) result ≡ text_in bytes.old }
+{
+    unescape_up_to(bytes, ASCII)
+}
+
+// The same for escapes that give at most `most`.
+#[inline(always)]
+fn unescape_up_to(bytes: &mut [u8], most: u8) -> Option<usize>
+    ensures { option_map (λ len. take len bytes.new) result ≡ unescaped most bytes.old }
 {
     let mut from = 0;
     let mut to = 0;
     while from < bytes.len() {
         if bytes[from] == b'\\' {
-            let (byte, len) = output_escape_at(&bytes[from + 1..])?;
+            let (byte, len) = likely_escape_at(&bytes[from + 1..], most)?;
             bytes[to] = byte;
             to += 1;
             from += 1 + len;
@@ -41,11 +57,10 @@ pub fn unescape_in_place(bytes: &mut [u8]) -> Option<usize>
     Some(to)
 }
 
-// The byte that an escape of an output gives, and how many bytes the escape has after its backslash. Most escapes begin
-// a colour or end a line, so these two are tested first. That saves a twentieth of the work on a large coloured output.
+// Like `escape_at`. Most escapes of an output begin a colour or end a line, so these two are tested first.
 #[inline(always)]
-fn output_escape_at(escape: &[u8]) -> Option<(u8, usize)>
-    ensures byte { option_map (λ x. x.0) result ≡ escape_byte 255 escape.now }
+fn likely_escape_at(escape: &[u8], most: u8) -> Option<(u8, usize)>
+    ensures byte { option_map (λ x. x.0) result ≡ escape_byte most escape.now }
     ensures len { IfSome result
         (λ x. (x.1 ≡ escape_len escape.now) × (1 ≤ x.1) × (x.1 ≤ 3) × (x.1 ≤ length escape.now)
         × (slice_index escape.now (x.1 - 1) < 128)) }
@@ -53,7 +68,11 @@ fn output_escape_at(escape: &[u8]) -> Option<(u8, usize)>
     match escape {
         [b'e', ..] => Some((b'\x1b', 1)),
         [b'n', ..] => Some((b'\n', 1)),
-        _ => escape_at(escape, u8::MAX),
+        [b'x', high, low, ..] => {
+            let byte = hex_byte(*high, *low)?;
+            if byte <= most { Some((byte, 3)) } else { None }
+        }
+        _ => escape_at(escape, most),
     }
 }
 

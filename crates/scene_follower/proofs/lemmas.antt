@@ -5,5 +5,5 @@ pub mod Prints
 pub mod ReadLines
 pub mod ReadyCalls
 pub mod Refusals
-pub mod SceneReporters
+pub mod ReportedCalls
 pub mod Taken

@@ -23,9 +23,8 @@ pub record IsWrongLine (options : Options) (run : ParsedLines) (lines : List Run
       ⊎ ((event : SceneEvent) × (line_value (lines_before run) t ≡ Ok (EventLine event))
       × RefusesEvent options run.config event f)
 
--- Where a fault stops lines that are followed: P holds of the lines before a line that is wrong, and of those before
--- the file of the options could not be read; Q of those that were begun, and of the fault, where a device failed or
--- memory was refused.
+-- A fault stopped lines that are followed. P holds of the lines before a wrong line, or before the file of the options
+-- could not be read. If a device failed or memory was refused, Q holds of the lines that were begun, and of the fault.
 pub record StopsBy (options : Options) (all : List RunLine) (P : ParsedLines → Type 0)
     (Q : ParsedLines → Fault → Type 0) (fault : Fault) : Type 0 where
   pub run : ParsedLines
@@ -46,7 +45,7 @@ Followed m k options all old new IsDone result =
     × OnOk result (OfLines all IsDone)
     × IfErr result (StopsBy options all (Prints m k options old new) (Begins m k options old new))
 
--- what came of a run whose calls a reporter took
+-- the outcome of a run whose calls a reporter took
 abbrev pub with_outcome : RunOutcome → Result (Unit {0}) Fault → Result RunOutcome Fault
 with_outcome come_to (Ok done) = Ok come_to
 with_outcome come_to (Err f) = Err f

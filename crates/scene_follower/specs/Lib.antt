@@ -7,4 +7,5 @@ pub mod Read
 pub mod Reading
 pub mod Reports
 pub mod SceneReporter
+pub mod Sources
 pub mod Names

@@ -14,4 +14,4 @@ pub use Rattle.scene_follower.specs.ParsedScenes.{IsFaultOf, IsOfText, lines_of,
 pub use Rattle.scene_follower.specs.Prints.{AreBegun, AreWhole, Begins, IsStop, Prints, PrintsFollowed, Reported}
 pub use Rattle.scene_follower.specs.Prints.{StandAtOneCall, device, HasReport}
 pub use Rattle.scene_follower.specs.Read.{AllTaken, AreLeftBehind, AreLeftOf, HasNext, PassesNext}
-pub use Rattle.scene_follower.specs.SceneReporter.{GoesOn, Follows, IsSetFor, ReportsCall, StopsAtEvent, writers}
+pub use Rattle.scene_follower.specs.SceneReporter.{Follows, IsSetFor, ReportsCall, StopsAtEvent, writers}

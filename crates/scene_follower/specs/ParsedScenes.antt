@@ -1,4 +1,4 @@
--- Runs as lines that were read.
+-- Runs, as the lines that they were read from.
 use Rattle.std.specs.Prelude.{◌≡◌, ℕ, List, Ok, ⊤}
 use Rattle.scene_reader.specs.Names.{event_lines, ParsedLines, RunLine, lines_read, no_lines, LineFault, SceneConfig}
 use Rattle.scene_reader.specs.Names.{text_lines}
@@ -12,7 +12,7 @@ IsFaultOf MayBeUnread IsWrong (fault.Line n f) = IsWrong n f
 IsFaultOf MayBeUnread IsWrong fault.OutOfMemory = ⊤
 IsFaultOf MayBeUnread IsWrong other = ⊥
 
--- P holds of the run that these lines are
+-- P holds of the run of these lines
 pub record OfLines (lines : List RunLine) (P : ParsedLines → Type 0) : Type 0 where
   pub run : ParsedLines
   pub spelled : lines_read 1 no_lines lines ≡ Ok run
@@ -22,7 +22,7 @@ pub record OfLines (lines : List RunLine) (P : ParsedLines → Type 0) : Type 0 
 abbrev pub OfText : List ℕ → (ParsedLines → Type 0) → Type 0
 OfText text P = OfLines (text_lines text) P
 
--- the text of a scene, and how it says that its run is reported
+-- the text of a scene, and its configuration
 pub record SceneText : Type 0 where
   pub text : List ℕ
   pub config : SceneConfig

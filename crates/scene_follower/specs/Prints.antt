@@ -1,4 +1,4 @@
--- What two writers have of the report of a run and of what is stored of it: all of both, or a beginning of each.
+-- What two writers hold of a run's report and of its records: all of both, or a prefix of each.
 use Rattle.std.specs.Prelude.{◌≡◌, ◌≤◌, ◌⊎◌, ℕ, List, ◌++◌, true, length, reverse, Option, None, Result, IfErr, OnOk, ⊤}
 use Rattle.styled_text.specs.Names.{Appends, AllZip, is_some, Text, AppendsFront, Meaning, WriteFault}
 use Rattle.writers.specs.declared.write_str.WriteFault.TheVariants.{Device, Memory}
@@ -23,7 +23,7 @@ device = record {
   failures = λ held. 0;
 }
 
--- of the first of these calls, and of no more, a writer accepted the texts, and delivered them
+-- A writer accepted and delivered the texts of the first of these calls, and nothing of the others.
 pub record HasFirstCalls {S : Type 0} (m : Meaning S) (texts : List ReportCall → Text) (calls : List ReportCall)
     (old new : S) : Type 0 where
   pub first : List ReportCall
@@ -42,7 +42,7 @@ pub record HasBeginning {S : Type 0} (m : Meaning S) (texts : List ReportCall �
   pub own : OfOwn → m.stops old (texts calls) Device new
   pub whole : OfOther → HasFirstCalls m texts calls old new
 
--- a writer was given this text whole, and delivered it, and may have more
+-- a writer received and delivered all of this text, and may have more
 pub record HasAtLeast {S : Type 0} (m : Meaning S) (old : S) (text : Text) (new : S) : Type 0 where
   pub mid : S
   pub accepted : m.accepts old text mid
@@ -50,7 +50,7 @@ pub record HasAtLeast {S : Type 0} (m : Meaning S) (old : S) (text : Text) (new 
   pub more : Text
   pub goes_on : m.accepts mid more new ⊎ ((e : WriteFault) × m.stops mid more e new)
 
--- it has this text or a beginning of it, and no more
+-- it holds this text or a prefix of it, and no more
 abbrev pub HasAtMost : {S : Type 0} → Meaning S → S → Text → S → Type 0
 HasAtMost m old text new = HasFront m old text new ⊎ ((e : WriteFault) × m.stops old text e new)
 
@@ -70,7 +70,7 @@ pub record StandAtOneCall {W T : Type 0} (m : Meaning W) (k : Meaning T) (texts 
   pub no_more_kept : HasAtMost k old.1 (records (before ++ here)) new.1
   pub text_first : HasAtMost k old.1 (records before) new.1 ⊎ HasAtLeast m old.0 (texts (before ++ here)) new.0
 
--- a report stops by a fault of its device, of the store's where there is one, or for want of memory
+-- A report stops by a fault of its device, by one of the store's if there is a store, or because memory was refused.
 abbrev pub IsStop : Options → Fault → Type 0
 IsStop options fault = (fault ≡ WriteFailed) ⊎ (fault ≡ OutOfMemory)
     ⊎ ((fault ≡ StoreFailed) × (is_some (store_for options) ≡ true))
@@ -82,16 +82,15 @@ pub record OfCalls (options : Options) (run : ParsedLines) (P : List ReportCall 
   pub accepted : first_refused (decider_for options run.config) calls ≡ None
   pub holds : P calls
 
--- What the first of two writers has of a run's report, and the second of what is stored of it, which is nothing without
--- a store.
+-- What the first of two writers holds of a run's report, and the second of its records. Without a store there are none.
 module _ {W T : Type 0} (m : Meaning W) (k : Meaning T) (options : Options) (old new : W × T) where
-  -- of these calls both have it whole
+  -- both hold all of these calls
   pub record AreWhole (config : SceneConfig) (calls : List ReportCall) : Type 0 where
     pub printed : m.accepts old.0 (report_of options config calls) new.0
     pub kept : k.accepts old.1 (stored_of options calls) new.1
     pub delivered : m.is_delivered new.0 × k.is_delivered new.1
 
-  -- both have the report of the run whole
+  -- both hold the whole report of the run
   abbrev pub Prints : ParsedLines → Type 0
   Prints run = OfCalls options run (AreWhole run.config)
 
@@ -100,7 +99,7 @@ module _ {W T : Type 0} (m : Meaning W) (k : Meaning T) (options : Options) (old
   PrintsFollowed come_to run = OfCalls options run
       (λ calls. AreWhole run.config calls × (come_to ≡ run_outcome (reverse calls)))
 
-  -- this fault stopped these calls, and each has a beginning: with a store, both up to the same call
+  -- this fault stopped these calls, and each holds a prefix; with a store, both up to the same call
   abbrev pub AreBegun : SceneConfig → Fault → List ReportCall → Type 0
   AreBegun config fault calls = IsStop options fault
       × HasBeginning m (report_of options config) (fault ≡ WriteFailed) (fault ≡ StoreFailed) calls old.0 new.0

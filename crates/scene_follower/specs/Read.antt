@@ -1,4 +1,4 @@
--- The lines of a run, read one after the other, and a sink that takes their calls.
+-- Reading the lines of a run one after the other, and passing their calls to a sink.
 use Rattle.std.specs.Prelude.{◌≡◌, ◌⊎◌, ℕ, ◌+◌, Bool, true, false, List, [], ◌∷◌, ◌++◌, drop, length, map, Option, None}
 use Rattle.std.specs.Prelude.{Some, is_some, Result, Ok, Err, IfErr, IfOk, OnOk}
 use Rattle.{command_line.specs.Pieces.IsUnread, command_line.specs.declared.fault.Fault.Fault}
@@ -9,11 +9,11 @@ use Rattle.scene_reader.specs.Names.{ParsedLine, ParsedLines, plain_line, Placed
 use Rattle.scene_reader.specs.Names.{RunLine, SceneEvent, split_on, Takes, text_lines, with_line}
 use Rattle.{scene_reader.specs.SceneTexts.EventLine}
 
--- lines that are left of a text: its pieces, or none where it ended with the line before
+-- the lines that are left of a text: its pieces, or none if it ended with the line before
 abbrev pub AreLeft : List RunLine → List ℕ → Type 0
 AreLeft lines text = (lines ≡ text_lines text) ⊎ ((lines ≡ []) × (text ≡ []))
 
--- the same where what remains of the text may be unknown
+-- the same, if the rest of the text may be unknown
 abbrev pub AreLeftOf : Option (List ℕ) → List RunLine → Type 0
 AreLeftOf remaining lines = (rest : List ℕ) × (remaining ≡ Some rest) × AreLeft lines rest
 
@@ -22,7 +22,7 @@ abbrev pub AreLeftBehind : List (List ℕ) → Option (List ℕ) → List RunLin
 AreLeftBehind texts remaining lines = (others : List RunLine) × (lines ≡ map plain_line texts ++ others)
     × AreLeftOf remaining others
 
--- the first of all lines are this run, and these lines follow, of which the first has this number
+-- Of all lines, the first ones are this run, and these lines follow. The next line has this number.
 pub record AtLine (all : List RunLine) (run : ParsedLines) (lines : List RunLine) (number : ℕ) : Type 0 where
   pub front : List RunLine
   pub whole : all ≡ front ++ lines
@@ -47,7 +47,7 @@ abbrev pub IsGiven : {K : Type 0} → Takes K → List ℕ → ℕ → ParsedLin
 IsGiven takes file n value old result new = (stored : List PlacedOutput)
     × IsTaken takes file n stored value old result new
 
--- a sink of lines without calls takes none
+-- a sink for lines without calls refuses every call
 abbrev pub TakesNone : List ℕ → Result (Unit {0}) Fault → Type 0
 TakesNone file (Ok taken) = ⊥
 TakesNone file (Err fault) = IsUnread file fault
@@ -67,7 +67,7 @@ StopsNext takes file run n lines old fault new =
     × (line_value (lines_before run) line ≡ Ok (EventLine e))
     × IsGiven takes file n (EventLine e) old (Err fault) new)
 
--- the next of these lines was read, and its call taken, and this is left; or a fault stopped it
+-- the next line was read, its call was taken, and this is left; or a fault stopped it
 pub record PassesNext {K : Type 0} (takes : Takes K) (file : List ℕ) (run : ParsedLines) (lines : List RunLine)
     (Left : ParsedLines → List RunLine → Type 0) (old : LinesRead) (given : K) (result : Result (Unit {0}) Fault)
     (new : LinesRead) (after : K) : Type 0 where
@@ -78,15 +78,14 @@ pub record PassesNext {K : Type 0} (takes : Takes K) (file : List ℕ) (run : Pa
       × (new.next ≡ old.next + 1) × Left (with_line run value) more)
   pub err : IfErr result (λ fault. StopsNext takes file run old.next lines given fault after)
 
--- these lines were read one after the other behind a run, of which the first has this number, and their calls were
--- taken
+-- These lines follow a run. They were read one after the other, from this line number on, and their calls were taken.
 abbrev pub AllTaken : {K : Type 0} → Takes K → List ℕ → ℕ → ParsedLines → K → List RunLine → ParsedLines → K → Type 0
 AllTaken takes file n run given [] last after = (run ≡ last) × (given ≡ after)
 AllTaken {K} takes file n run given (line ∷ lines) last after = (value : ParsedLine) × (mid : K)
     × (line_value (lines_before run) line ≡ Ok value) × IsGiven takes file n value given (Ok tt) mid
     × AllTaken takes file (n + 1) (with_line run value) mid lines last after
 
--- the first of them were, and a fault stopped the next
+-- the first lines were taken, and a fault stopped the next one
 pub record StopsTaking {K : Type 0} (takes : Takes K) (file : List ℕ) (n : ℕ) (run : ParsedLines) (lines : List RunLine)
     (given : K) (fault : Fault) (after : K) : Type 0 where
   pub front : List RunLine
@@ -97,7 +96,7 @@ pub record StopsTaking {K : Type 0} (takes : Takes K) (file : List ℕ) (n : ℕ
   pub taken : AllTaken takes file n run given front mid_run mid
   pub stops : StopsNext takes file mid_run (n + length front) rest mid fault after
 
--- the first of them were, and this is left behind them
+-- the first lines were taken, and this is left after them
 pub record HasPassed {K : Type 0} (takes : Takes K) (file : List ℕ) (Left : ParsedLines → List RunLine → Type 0) (n : ℕ)
     (run : ParsedLines) (lines : List RunLine) (given : K) (read : LinesRead) (after : K) : Type 0 where
   pub front : List RunLine
@@ -109,14 +108,14 @@ pub record HasPassed {K : Type 0} (takes : Takes K) (file : List ℕ) (Left : Pa
   pub place : read.next ≡ n + length front
   pub left : Left mid_run rest
 
--- the same, or a fault stopped them
+-- some lines were taken, or a fault stopped them
 pub record PassesSome {K : Type 0} (takes : Takes K) (file : List ℕ) (Left : ParsedLines → List RunLine → Type 0)
     (n : ℕ) (run : ParsedLines) (lines : List RunLine) (given : K) (result : Result (Unit {0}) Fault) (read : LinesRead)
     (after : K) : Type 0 where
   pub ok : OnOk result (HasPassed takes file Left n run lines given read after)
   pub err : IfErr result (λ fault. StopsTaking takes file n run lines given fault after)
 
--- all lines that are left were read so; or a fault stopped them
+-- all remaining lines were taken, or a fault stopped them
 pub record PassesAll {K : Type 0} (takes : Takes K) (file : List ℕ) (Done : ParsedLines → List RunLine → Type 0) (n : ℕ)
     (run : ParsedLines) (lines : List RunLine) (given : K) (result : Result (Unit {0}) Fault) (after : K) : Type 0 where
   pub ok : OnOk result ((last : ParsedLines) × AllTaken takes file n run given lines last after × Done last [])
@@ -135,7 +134,7 @@ IsBegin run lines =
     × ((value : ParsedLine) → line_value (lines_before run) line ≡ Ok value →
     (e : SceneEvent) × (value ≡ EventLine e)))
 
--- lines were read that say no event, and these are left
+-- lines without an event were read, and these are left
 pub record HasConfigured (all : List RunLine) (Left : ParsedLines → List RunLine → Type 0) (read : LinesRead) : Type 0
   where
     pub run : ParsedLines
@@ -145,7 +144,7 @@ pub record HasConfigured (all : List RunLine) (Left : ParsedLines → List RunLi
     pub before : before_next read ≡ lines_before run
     pub left : Left run lines
 
--- a fault stopped them before the next
+-- a fault stopped the reading of lines before the first event
 pub record StopsConfiguring (file : List ℕ) (all : List RunLine) (fault : Fault) : Type 0 where
   pub run : ParsedLines
   pub lines : List RunLine
@@ -154,8 +153,8 @@ pub record StopsConfiguring (file : List ℕ) (all : List RunLine) (fault : Faul
   pub at : AtLine all run lines number
   pub stops : StopsRead file run number lines fault
 
--- The lines of a piece that configure the report were read, and no event; or a fault stopped that. The next line is at
--- this place; where there is none, all of them were read.
+-- The lines of a piece that configure the report were read, and no event; or a fault stopped that. The result is the
+-- place of the next line, or `None` if all were read.
 pub record ConfiguresPiece (file : List ℕ) (all : List RunLine) (piece : List ℕ)
     (Left : List (List ℕ) → ParsedLines → List RunLine → Type 0) (result : Result (Option ℕ) Fault) (read : LinesRead) :
     Type 0 where
@@ -163,7 +162,7 @@ pub record ConfiguresPiece (file : List ℕ) (all : List RunLine) (piece : List 
       (λ run lines. Left (left_at piece next) run lines × (is_some next ≡ true → IsBegin run lines)) read)
   pub err : IfErr result (StopsConfiguring file all)
 
--- lines behind a run that leave the configuration as it is
+-- lines after a run that leave the configuration unchanged
 abbrev pub StaysConfigured : ParsedLines → List RunLine → Type 0
 StaysConfigured run [] = Unit {0}
 StaysConfigured run (line ∷ lines) = (value : ParsedLine) → line_value (lines_before run) line ≡ Ok value

@@ -1,9 +1,8 @@
 -- A `Reading`: what was read of a run, and the lines that are buffered.
-use Rattle.std.specs.Prelude.{◌≡◌, ℕ, List, [], Bool, true, false, None, Result, IfErr, OnOk}
-use Rattle.command_line.specs.declared.fault.Fault.{Fault}
+use Rattle.std.specs.Prelude.{◌≡◌, ℕ, List, [], Bool, true, false, None}
 use Rattle.scene_follower.specs.declared.read.Reading.{Reading}
 use Rattle.scene_reader.specs.Names.{before_next, lines_before, no_lines, ParsedLines, RunLine}
-use Rattle.scene_follower.specs.Read.{AreLeft, HasConfigured, IsBegin, left_at, StopsConfiguring}
+use Rattle.scene_follower.specs.Read.{AreLeft, HasConfigured, IsBegin, left_at}
 
 -- the texts of the buffered lines
 abbrev pub buffered : Reading → List (List ℕ)
@@ -20,9 +19,6 @@ abbrev pub IsFilled : (List (List ℕ) → List RunLine → Type 0) → List Run
 IsFilled Left lines r true = Left (buffered r) lines
 IsFilled Left lines r false = AreLeft lines [] × Left (buffered r) lines × Left [] []
 
--- what configures the report was read, and no event; or a fault stopped that
-pub record IsConfigured (file : List ℕ) (all : List RunLine)
-    (Left : List (List ℕ) → ParsedLines → List RunLine → Type 0) (result : Result (Unit {0}) Fault) (r : Reading) : Type
-    0 where
-  pub ok : OnOk result (HasConfigured all (λ run lines. Left (buffered r) run lines × IsBegin run lines) r.read)
-  pub err : IfErr result (StopsConfiguring file all)
+-- what configures the report was read, and no event
+abbrev pub IsConfigured : List RunLine → (List (List ℕ) → ParsedLines → List RunLine → Type 0) → Reading → Type 0
+IsConfigured all Left r = HasConfigured all (λ run lines. Left (buffered r) run lines × IsBegin run lines) r.read

@@ -1,5 +1,5 @@
--- What the program writes of a scene, and the calls that its reporter gets: those of its events, where it is asked for
--- with the output left unread that no report shows.
+-- What the program writes for a scene, and the calls that its reporter gets: those of its events, if asked for without
+-- the output that no report shows.
 use Rattle.std.specs.Prelude.{ℕ, List, reverse, false, if◌then◌else◌, Option, Some, ◌≡◌, Bool}
 use Rattle.styled_text.specs.Names.{option_map, AllZip, Text}
 use Rattle.{run_names.specs.Filters.default_config_filter, command_line.specs.declared.fault.Fault.Fault}
@@ -20,11 +20,11 @@ use Rattle.unit_report.specs.declared.unit_output.DisplayerKind.TheVariants as d
 use Rattle.scene_fields.specs.declared.fault.LineFault.{LineFault}
 use Rattle.scene_fields.specs.declared.fault.LineFault.TheVariants as line
 
--- what the options show of progress: a counter, or nothing
+-- how progress is shown, by the options: as a counter, or not at all
 abbrev pub progress_for : Options → ShowProgress
 progress_for options = if options.show_counter then progress.Counter else progress.None
 
--- whether they show a recorded run, or one in progress
+-- whether the options show a recorded run or one in progress
 abbrev pub kind_for : Options → DisplayerKind
 kind_for options = if options.is_replay then displayer.Replay else displayer.Live
 
@@ -47,7 +47,7 @@ builder_for options config = record {
 abbrev pub store_for : Options → Option StoreConfig
 store_for options = option_map (λ s. s.config) options.store
 
--- what the scene says of where its report goes: to no terminal, and from no build machine
+-- the surroundings of the report, from the scene: no terminal and no build machine
 abbrev pub surroundings_of : SceneConfig → Surroundings
 surroundings_of config = record {
   use_unicode = config.use_unicode;
@@ -61,15 +61,15 @@ abbrev pub configuration_for : Options → SceneConfig → Configuration
 configuration_for options config = configured_in (builder_for options config) (surroundings_of config)
     (store_for options)
 
--- the report of a scene that is configured so and whose calls are these
+-- the report of a scene with this configuration and these calls
 abbrev pub report_of : Options → SceneConfig → List ReportCall → Text
 report_of options config calls = report (configuration_for options config) (reverse calls)
 
--- what is stored of them: nothing where there is no store
+-- what is stored for them: nothing if there is no store
 abbrev pub stored_of : Options → List ReportCall → Text
 stored_of options calls = stored (store_for options) (reverse calls)
 
--- the fault of a call that stopped, of the line of this number: with that number only where the call is refused
+-- the fault of a call that failed, on the line of this number; only a refused call's fault has that number
 abbrev pub fault_at_call : ℕ → WriteEventError → Fault
 fault_at_call n RetriedSuccess = Line n line.RetriedSuccess
 fault_at_call n OutputNotLoaded = Line n line.OutputNotLoaded
@@ -82,7 +82,7 @@ fault_at_call n StoreIo = StoreFailed
 abbrev pub decider_for : Options → SceneConfig → OutputLoadDecider
 decider_for options config = decider_of (configuration_for options config)
 
--- a reporter of a run that is reported so refuses the call, and this is why
+-- a reporter with these settings refuses the call, and this is why
 abbrev pub Refuses : Options → SceneConfig → ReportCall → LineFault → Type 0
 Refuses options config call f = (n : ℕ)
     → option_map (fault_at_call n) (refusal_by (decider_for options config) call) ≡ Some (Line n f)
@@ -97,19 +97,18 @@ pub record RefusesEvent (options : Options) (config : SceneConfig) (event : Scen
 abbrev pub ready_if : Bool → OutputLoadDecider → ReportCall → ReportCall
 ready_if unloads d call = if unloads then unread_call d call else call
 
--- calls as the scene's reporter gets them: where that is asked for, with the output left unread that the decider skips
+-- calls as the scene's reporter gets them: if asked for, the output that the decider skips is left unread
 abbrev pub unloaded_for : Options → SceneConfig → List ReportCall → List ReportCall
 unloaded_for options config made = if options.unload_skipped then unread (decider_for options config) made else made
 
--- the call is one of the event, or the same with its output left unread, where that is asked for and the decider skips
--- it
+-- the call is one of the event, or the same with its output left unread, if that is asked for and the decider skips it
 pub record IsReadyCall (options : Options) (d : OutputLoadDecider) (event : SceneEvent) (call : ReportCall) : Type 0
   where
     pub made : ReportCall
     pub of_event : IsCallOf event made
     pub ready : call ≡ ready_if options.unload_skipped d made
 
--- the calls are those of the run, and so they have the report of its calls, and the first that is refused is the same
+-- the calls are those of the run; so they have the same report and the same first refused call
 pub record AreReadyCallsOf (options : Options) (run : ParsedLines) (calls : List ReportCall) : Type 0 where
   pub made : List ReportCall
   pub of_run : AllZip IsCallOf run.events made

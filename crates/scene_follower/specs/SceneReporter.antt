@@ -1,6 +1,6 @@
--- The calls of a scene, reported one after the other: what a reporter of some has done, and what stops one.
-use Rattle.std.specs.Prelude.{◌≡◌, ◌⊎◌, ℕ, List, [], reverse, Option, Result, IfErr, OnOk, String, string_bytes}
-use Rattle.{std.specs.declared.alloc.Global.Global, writers.specs.StringWriter.string_meaning}
+-- The calls of a scene, reported one after the other: what a reporter has done after some of them, and what stops the
+-- next.
+use Rattle.std.specs.Prelude.{◌≡◌, ◌⊎◌, ℕ, List, reverse, Option, Result, IfErr, OnOk}
 use Rattle.{writers.specs.Writer.Meaning, console_reporter.specs.Names.IsSameReporter}
 use Rattle.{console_reporter.specs.Names.StandsAfter, console_reporter.specs.Names.store_meaning}
 use Rattle.{console_reporter.specs.declared.imp.store.Store.Store}
@@ -26,14 +26,14 @@ IsSetFor options config r = (r.decider ≡ decider_for options config) × (r.unl
 
 module _ {W S : Type 0} (m : Meaning W) (n : Meaning S) (options : Options) (start : Writers W S)
     (now : SceneReporter W S) where
-  -- since its writers were these, it has reported this run, and is after its calls
+  -- with these writers at its start, it has reported this run, and is after its calls
   pub record Follows (run : ParsedLines) : Type 0 where
     pub reported : PrintsFollowed m (store_meaning n) options start (writers now) now.outcome run
     pub stands : StandsAfter (configuration_for options run.config)
         (reverse (unloaded_for options run.config reported.calls)) now.reporter
 
-  -- Behind a run that was reported the fault stopped this event, of the line of this number: before it was begun, or in
-  -- the midst of it, or it is refused.
+  -- The run was reported, and then the fault stopped this event, on the line of this number: before its report began,
+  -- within it, or because it is refused.
   abbrev pub StopsAtEvent : ParsedLines → ℕ → SceneEvent → Fault → Type 0
   StopsAtEvent run number event fault =
       Begins m (store_meaning n) options start (writers now) run fault
@@ -41,7 +41,7 @@ module _ {W S : Type 0} (m : Meaning W) (n : Meaning S) (options : Options) (sta
       ⊎ (Prints m (store_meaning n) options start (writers now) run
       × ((f : LineFault) × (fault ≡ Line number f) × RefusesEvent options run.config event f))
 
--- It reported the call of the line of this number. Its settings and the place of its writers stay.
+-- It reported the call of the line of this number. Its settings stay, and it keeps its writers.
 pub record ReportsCall {W S : Type 0} (m : Meaning W) (n : Meaning S) (old : SceneReporter W S) (number : ℕ)
     (stored : List PlacedOutput) (call : ReportCall) (result : Result (Unit {0}) Fault) (new : SceneReporter W S) : Type
     0 where
@@ -55,11 +55,3 @@ pub record ReportsCall {W S : Type 0} (m : Meaning W) (n : Meaning S) (old : Sce
       (λ fault. (options : Options) (start : Writers W S) (run : ParsedLines)
       → IsSetFor options run.config old → Follows m n options start old run
       → StopsAtEvent m n options start new run number (call_by_names call) fault)
-
--- A reporter into memory goes on with another writer, to which what it had gathered was delivered: whatever it had
--- followed from an empty text on, the other one has followed.
-abbrev pub GoesOn : {W S : Type 0} → Meaning W → Meaning S → SceneReporter (String Global) S → W → SceneReporter W S
-    → Type 0
-GoesOn {S = S} m n old given new = (options : Options) (start : Writers (String Global) S) (run : ParsedLines)
-    → string_bytes start.0 ≡ [] → Follows string_meaning n options start old run
-    → Follows m n options (given, start.1) new run

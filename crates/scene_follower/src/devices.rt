@@ -12,9 +12,9 @@ use store_text::config::StoreConfig;
 
 /// The device that records go to.
 pub(crate) enum RecordDevice<S: Write> {
-    /// None are asked for, so it stays as it is.
+    /// The options ask for no records, so it stays as it is.
     Unused(S),
-    /// Behind its buffer, and which outputs the records hold.
+    /// With its buffer, and which outputs the records hold.
     Buffered(TextBuffer<S>, StoreConfig),
 }
 

@@ -6,7 +6,7 @@
 
 ghost use Rattle.std.specs.Prelude.{◌≡◌, ℕ, List, [], Option, None, Some, IfOk, IfErr, OnOk};
 ghost use Rattle.console_reporter.specs.Names.{IsSameStore, config_of, store_delivered, store_meaning};
-ghost use Rattle.scene_reader.specs.SceneTexts.{ParsedLines, RunLine, no_lines, text_lines};
+ghost use Rattle.scene_reader.specs.SceneTexts.{RunLine, no_lines, text_lines};
 ghost use Rattle.scene_follower.specs.Names.{Followed, StopsBy, OfLines, OfText, Begins, Prints, PrintsFollowed};
 ghost use Rattle.scene_follower.specs.Names.{device, store_for};
 ghost use Rattle.scene_follower.specs.Follow.{with_outcome};
@@ -84,54 +84,6 @@ pub fn follow_source<'a, L: RunSource, W: Write, S: Write>(
         (W.contents result.1, S.contents result.2))) }
     ensures no_store { options.now.store ≡ None → result.2 ≡ store_writer }
 {
-    follow_lines(alloc, options, source, writer, store_writer)
-}
-
-/// Lines that can be followed.
-pub trait Lines {
-    // these are its lines
-    ghost has: { ℕ → Self → List RunLine → Type 0 };
-
-    // it has none left behind this run
-    ghost done: { ℕ → Self → ParsedLines → Type 0 };
-
-    /// Follows the lines to a writer, and to a store where there is one. It gives both back.
-    fn follow_to<'a, 'w, W: WriteStr, S: WriteStr>(
-        &mut self,
-        alloc: Global,
-        options: &Options<'a>,
-        writer: &'w mut W,
-        store: Option<Store<'w, S>>,
-    ) -> (
-        Result<RunOutcome, Fault<'a>>,
-        &'w mut W,
-        Option<Store<'w, S>>,
-    )
-        requires store_asked { config_of store ≡ store_for options.now }
-        requires delivered { W.meaning.is_delivered writer.old }
-        requires store_delivered { store_delivered S.meaning store }
-        ensures same_reference { (total : ℕ) (all : List RunLine) → has total self.old all
-            → result.1.ghost_name ≡ writer.entry.ghost_name }
-        ensures same_store { (total : ℕ) (all : List RunLine) → has total self.old all
-            → IsSameStore store.entry result.2 }
-        ensures ends { (total : ℕ) (all : List RunLine) → has total self.old all
-            → Followed W.meaning (store_meaning S.meaning) options.now all (writer.old, store.entry)
-            (result.1.now, result.2) (done total self.new) result.0 };
-}
-
-/// Follows lines to a device, and to a second one for the records if the options ask for them. Both are returned.
-pub fn follow_lines<'a, T: Lines, W: Write, S: Write>(
-    alloc: Global,
-    options: &Options<'a>,
-    lines: &mut T,
-    writer: W,
-    store_writer: S,
-) -> (Result<RunOutcome, Fault<'a>>, W, S)
-    ensures ends { (total : ℕ) (all : List RunLine) → T.has total lines.old all
-        → Followed device device options.now all (W.contents writer, S.contents store_writer)
-        (W.contents result.1, S.contents result.2) (T.done total lines.new) result.0 }
-    ensures no_store { options.now.store ≡ None → result.2 ≡ store_writer }
-{
     let (mut out, records) = match buffered(alloc, options, writer, store_writer) {
         Ok(devices) => devices,
         Err((writer, store_writer)) => return (Err(Fault::OutOfMemory), writer, store_writer),
@@ -139,13 +91,13 @@ pub fn follow_lines<'a, T: Lines, W: Write, S: Write>(
     match records {
         RecordDevice::Unused(store_writer) => {
             let no_store = None::<Store<'_, String>>;
-            let (outcome, _lent, _) = lines.follow_to(alloc, options, &mut out, no_store);
+            let (outcome, _lent, _) = follow_to(alloc, options, source, &mut out, no_store);
             let (writer, _pending) = out.into_inner();
             (outcome, writer, store_writer)
         }
         RecordDevice::Buffered(mut records, config) => {
             let store = Store::new(&mut records, config);
-            let (outcome, lent, store) = lines.follow_to(alloc, options, &mut out, Some(store));
+            let (outcome, lent, store) = follow_to(alloc, options, source, &mut out, Some(store));
             if let Some(Store { writer: held, .. }) = store {
                 give_back(lent, held);
             }
@@ -156,40 +108,45 @@ pub fn follow_lines<'a, T: Lines, W: Write, S: Write>(
     }
 }
 
-impl<L: RunSource> Lines for L {
-    ghost has = { λ total s all. L.left total s [] no_lines all };
-
-    ghost done = { λ total s run. L.left total s [] run [] };
-
-    fn follow_to<'a, 'w, W: WriteStr, S: WriteStr>(
-        &mut self,
-        alloc: Global,
-        options: &Options<'a>,
-        writer: &'w mut W,
-        store: Option<Store<'w, S>>,
-    ) -> (
-        Result<RunOutcome, Fault<'a>>,
-        &'w mut W,
-        Option<Store<'w, S>>,
-    ) {
-        let mut reading = Reading::new(alloc);
-        match reading.configure(alloc, options.file, self) {
-            Ok(()) => {}
-            Err(fault) => return (Err(fault), writer, store),
-        }
-        let config = reading.read.config;
-        let builder = match builder_of(alloc, options, &config) {
-            Ok(builder) => builder,
-            Err(fault) => return (Err(fault), writer, store),
-        };
-        let mut reporter = SceneReporter::build(alloc, options, builder, &config, writer, store);
-        let passed = reading.pass_to(alloc, options.file, self, &mut reporter);
-        end(options, reporter, passed)
-    }
+// Follows the lines of a source to a writer, and to a store if there is one, and returns both.
+fn follow_to<'a, 'w, L: RunSource, W: WriteStr, S: WriteStr>(
+    alloc: Global,
+    options: &Options<'a>,
+    source: &mut L,
+    writer: &'w mut W,
+    store: Option<Store<'w, S>>,
+) -> (
+    Result<RunOutcome, Fault<'a>>,
+    &'w mut W,
+    Option<Store<'w, S>>,
+)
+    requires store_asked { config_of store ≡ store_for options.now }
+    requires delivered { W.meaning.is_delivered writer.old }
+    requires store_delivered { store_delivered S.meaning store }
+    ensures same_reference { (total : ℕ) (all : List RunLine) → L.left total source.old [] no_lines all
+        → result.1.ghost_name ≡ writer.entry.ghost_name }
+    ensures same_store { (total : ℕ) (all : List RunLine) → L.left total source.old [] no_lines all
+        → IsSameStore store.entry result.2 }
+    ensures ends { (total : ℕ) (all : List RunLine) → L.left total source.old [] no_lines all
+        → Followed W.meaning (store_meaning S.meaning) options.now all (writer.old, store.entry)
+        (result.1.now, result.2) (λ run. L.left total source.new [] run []) result.0 }
+{
+    let mut reading = match Reading::begin(alloc, options.file, source) {
+        Ok(reading) => reading,
+        Err(fault) => return (Err(fault), writer, store),
+    };
+    let config = reading.read.config;
+    let builder = match builder_of(alloc, options, &config) {
+        Ok(builder) => builder,
+        Err(fault) => return (Err(fault), writer, store),
+    };
+    let mut reporter = SceneReporter::build(alloc, options, builder, &config, writer, store);
+    let passed = reading.pass_to(alloc, options.file, source, &mut reporter);
+    end(options, reporter, passed)
 }
 
-/// What came of lines that were passed to a reporter, and its writers.
-pub fn end<'a, 'w, W: WriteStr, S: WriteStr>(
+// The outcome of lines that were passed to a reporter, with its writers.
+fn end<'a, 'w, W: WriteStr, S: WriteStr>(
     options: &Options<'_>,
     reporter: SceneReporter<'w, W, S>,
     passed: Result<(), Fault<'a>>,

@@ -1,11 +1,11 @@
-//! Scenes that are followed: the lines of a run are read one after the other, and each call is reported.
+//! Following a scene: the lines of a run are read one after the other, and each call is reported.
 //!
 //! One module a concern:
 //!
 //! - `follow` is the whole way, from the lines of a source to the bytes of their report and their records.
-//! - `read` reads the lines of a source, and has a sink take their calls.
-//! - `scene_reporter` is the sink that reports them, and `reporter` builds its reporter. `outcome` is what the calls
-//!   say of the run.
+//! - `read` reads the lines of a source, and passes their calls to a sink.
+//! - `scene_reporter` is the sink that reports them, and `reporter` builds its reporter. `outcome` is how
+//!   the run ended.
 //! - `devices` puts a buffer before each device.
 //! - `process` is what the programs have in common: standard descriptors, the file of records, the line and the status
 //!   of a fault.

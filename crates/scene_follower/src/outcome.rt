@@ -10,7 +10,7 @@ use run_model::stats::{FinalRunStats, RunFinishedStats, StressFinalRunStats};
 /// The outcome of a followed run.
 #[derive(Clone, Copy, PartialEq, Eq)]
 pub enum RunOutcome {
-    /// It has not ended: no end line has come since the last start line.
+    /// It has not ended: there was no end line after the last start line.
     NotEnded,
     /// Its end says that all tests ran, and none failed.
     Success,

@@ -1,13 +1,15 @@
-//! Where the lines of a run come from: a file that is read piece by piece, the way into `report` and `follow`, or
-//! another source.
+//! Where the lines of a run come from: a file that is read piece by piece, as in `report` and `follow`, or another
+//! source.
 
-ghost use Rattle.std.specs.Prelude.{◌≡◌, ◌≤◌, ◌∷◌, ◌++◌, ℕ, List, [], None, IfErr, IfOk, OnOk, drop, length, map, refl};
+ghost use Rattle.std.specs.Prelude.{◌≡◌, ◌≤◌, ◌∷◌, ◌++◌, ℕ, List, [], IfErr, IfOk, MatchResult, Ok, OnOk, Some};
+ghost use Rattle.std.specs.Prelude.{drop, false, length, map, refl, true};
 ghost use Rattle.std.specs.{Bool.OnTrue, Io.Buffered.reader_remaining, Option.ForSome};
 ghost use Rattle.scene_reader.specs.Names.{ParsedLines, RunLine, before_next, lines_before, no_lines, plain_line};
 ghost use Rattle.scene_reader.specs.Names.{split_on};
 ghost use Rattle.scene_follower.specs.Names.{IsUnread};
-ghost use Rattle.scene_follower.specs.Read.{AreLeftBehind, ConfiguresPiece, HasConfigured, HasNext, HasText, PassesAll};
+ghost use Rattle.scene_follower.specs.Read.{ConfiguresPiece, HasConfigured, HasNext, HasText, PassesAll};
 ghost use Rattle.scene_follower.specs.Read.{PassesNext, PassesSome, TakesNone};
+ghost use Rattle.scene_follower.specs.Sources.{AreLeftIn, IsWholeScene};
 
 use command_line::fault::Fault;
 use command_line::pieces::next_piece;
@@ -21,7 +23,7 @@ use std::alloc::Global;
 use std::io::{BufReader, Read};
 use std::mem;
 
-/// How many bytes are read of a file at once.
+/// How many bytes of a file are read at once.
 const BYTES_AT_ONCE: usize = 16_384;
 
 /// Room for the fields of most lines: those of a finished test with one attempt, and of a second one.
@@ -29,17 +31,17 @@ const FIELDS: usize = 32;
 
 /// Where the lines of a run come from.
 pub trait RunSource {
-    // These lines are left after those before, of which these texts are read next; and once they are read, this many
-    // bytes of outputs were read in all.
+    // These lines are left after those before, and these texts are read next. Once all are read, this many bytes of
+    // outputs were read.
     ghost left: { ℕ → Self → List (List ℕ) → ParsedLines → List RunLine → Type 0 };
 
-    /// Puts the next lines of this file into the piece, in place of what it holds. It returns whether there is one.
+    /// Replaces the piece by the next lines of this file, and returns whether there were any.
     fn next_piece<'a>(&mut self, file: &'a str, piece: &mut Vec<u8>) -> Result<bool, Fault<'a>>
         ensures piece { (total : ℕ) (before : ParsedLines) (lines : List RunLine) → left total self.old [] before lines
             → IfOk result (HasNext piece.new.items (λ texts. left total self.new texts before) lines) }
         ensures fault { IfErr result (IsUnread file.now) };
 
-    /// Reads the next line of a piece, and has the sink take its call. The list is for its fields.
+    /// Reads the next line of a piece, and passes its call to the sink. The list is for its fields.
     fn pass_line<'a, 't, K: CallSink>(
         &mut self,
         alloc: Global,
@@ -54,7 +56,7 @@ pub trait RunSource {
             → PassesNext K.takes file.now before lines (left total self.new others) read.old sink.old result
             read.new sink.new };
 
-    /// Reads a line that is a piece by itself, which may take its memory.
+    /// Reads a line that is a whole piece. It may take the memory of the piece.
     fn pass_large_line<'a, K: CallSink>(
         &mut self,
         alloc: Global,
@@ -68,7 +70,7 @@ pub trait RunSource {
             → PassesNext K.takes file.now before lines (left total self.new others) read.old sink.old
             result read.new sink.new };
 
-    // The next line has the text that is read next.
+    // The text that is read next is that of the next line.
     ghost texts: { (total : ℕ) (s : Self) (text : List ℕ) (others : List (List ℕ)) (before : ParsedLines)
         (lines : List RunLine) → left total s (text ∷ others) before lines → HasText text lines };
 }
@@ -77,31 +79,52 @@ pub trait RunSource {
 #[derive(Drop)]
 pub struct SceneSource<R> {
     reader: BufReader<R>,
+    // Whether the end of the text was read. The reader is not asked again after that.
+    is_ended: bool,
 }
 
 impl<R: Read + Drop> SceneSource<R> {
-    /// The scene that this reader has. It allocates what is read at once.
+    /// The scene in this reader. It allocates the memory for one piece.
     pub fn new(alloc: Global, reader: R) -> Result<SceneSource<R>, OutOfMemory>
-        ensures { IfOk result (λ source. reader_remaining R.remaining source.reader ≡ R.remaining reader) }
+        ensures { IfOk result (IsWholeScene R.remaining reader) }
     {
         let Ok(reader) = BufReader::with_capacity(alloc, BYTES_AT_ONCE, reader) else {
             return Err(OutOfMemory);
         };
-        Ok(SceneSource { reader })
+        Ok(SceneSource {
+            reader,
+            is_ended: false,
+        })
     }
 }
 
 impl<R: Read> RunSource for SceneSource<R> {
     // A scene has its outputs in its lines.
-    ghost left = { λ total s texts before. AreLeftBehind texts (reader_remaining R.remaining s.reader) };
+    ghost left = { λ total s texts before. AreLeftIn R.remaining s texts };
 
-    ghost texts = { λ total s text others before lines h. (plain_line text, map plain_line others ++ h.0, h.1, refl) };
+    ghost texts = { λ total s text others before lines h.
+        (plain_line text, map plain_line others ++ h.0.0, h.0.1, refl) };
 
-    fn next_piece<'a>(&mut self, file: &'a str, piece: &mut Vec<u8>) -> Result<bool, Fault<'a>> {
-        let is_ended = next_piece(file, &mut self.reader, piece)?;
-        if is_ended {
+    // After the end nothing is read: a terminal would ask again, and a file may have grown.
+    fn next_piece<'a>(&mut self, file: &'a str, piece: &mut Vec<u8>) -> Result<bool, Fault<'a>>
+        ensures piece { (total : ℕ) (before : ParsedLines) (lines : List RunLine)
+            → AreLeftIn R.remaining self.old [] lines
+            → IfOk result (HasNext piece.new.items (AreLeftIn R.remaining self.new) lines) }
+        ensures fault { IfErr result (IsUnread file.now) }
+        ensures unread { self.old.is_ended ≡ true → (self.new ≡ self.old) × (result ≡ Ok false) }
+        ensures none_left { IfOk result (λ is_more. is_more ≡ false → self.new.is_ended ≡ true) }
+        // Also if the last line does not end in a line feed.
+        ensures last_line { (text : List ℕ) → reader_remaining R.remaining self.old.reader ≡ Some text
+            → OnOk result (text ≡ piece.new.items → self.new.is_ended ≡ true) }
+    {
+        if self.is_ended {
+            return Ok(false);
+        }
+        let is_before_feed = next_piece(file, &mut self.reader, piece)?;
+        if is_before_feed {
             return Ok(true);
         }
+        self.is_ended = true;
         // What follows the last line feed is a line, too.
         Ok(!piece.is_empty())
     }
@@ -131,45 +154,7 @@ impl<R: Read> RunSource for SceneSource<R> {
     }
 }
 
-/// No lines behind those that are buffered.
-#[derive(Drop)]
-pub struct NoMoreLines;
-
-impl RunSource for NoMoreLines {
-    ghost left = { λ total s texts before lines. lines ≡ map plain_line texts };
-
-    ghost texts = { λ total s text others before lines h. (plain_line text, map plain_line others, h, refl) };
-
-    fn next_piece<'a>(&mut self, _file: &'a str, _piece: &mut Vec<u8>) -> Result<bool, Fault<'a>> {
-        Ok(false)
-    }
-
-    #[inline(always)]
-    fn pass_line<'a, 't, K: CallSink>(
-        &mut self,
-        alloc: Global,
-        file: &'a str,
-        read: &mut LinesRead,
-        line: &'t [u8],
-        texts: &mut Vec<&'t str>,
-        sink: &mut K,
-    ) -> Result<(), Fault<'a>> {
-        read.pass_line(alloc, file, line, texts, sink)
-    }
-
-    fn pass_large_line<'a, K: CallSink>(
-        &mut self,
-        alloc: Global,
-        file: &'a str,
-        read: &mut LinesRead,
-        line: Vec<u8>,
-        sink: &mut K,
-    ) -> Result<(), Fault<'a>> {
-        read.pass_owned_line(alloc, file, line, sink)
-    }
-}
-
-/// The lines of a run as they are read: those of a piece of it are buffered.
+/// The lines of a run while they are read. Those of one piece are buffered.
 #[derive(Drop)]
 pub struct Reading {
     pub read: LinesRead,
@@ -180,28 +165,39 @@ pub struct Reading {
 }
 
 impl Reading {
+    ghost use Rattle.scene_follower.specs.Read.{StopsConfiguring};
     ghost use Rattle.scene_follower.specs.Reading.{IsConfigured, IsFilled, IsNothingRead, buffered};
 
-    /// No line was read.
-    pub fn new(alloc: Global) -> Reading
-        ensures { IsNothingRead result }
+    /// Reads the lines that configure the report. What follows them is an event, or nothing.
+    pub fn begin<'a, L: RunSource>(
+        alloc: Global,
+        file: &'a str,
+        source: &mut L,
+    ) -> Result<Reading, Fault<'a>>
+        ensures { (total : ℕ) (all : List RunLine) → L.left total source.old [] no_lines all
+            → MatchResult result (IsConfigured all (L.left total source.new)) (StopsConfiguring file.now all) }
     {
-        Reading {
+        let mut reading = Reading {
             read: LinesRead::new(alloc),
             piece: Vec::new(alloc),
             next: None,
+        };
+        match reading.configure(alloc, file, source) {
+            Ok(()) => Ok(reading),
+            Err(fault) => Err(fault),
         }
     }
 
-    /// Reads the lines that configure the report. What follows them is an event, or nothing.
-    pub fn configure<'a, L: RunSource>(
+    // Reads those lines, before any other.
+    fn configure<'a, L: RunSource>(
         &mut self,
         alloc: Global,
         file: &'a str,
         source: &mut L,
     ) -> Result<(), Fault<'a>>
         ensures { (total : ℕ) (all : List RunLine) → IsNothingRead self.old → L.left total source.old [] no_lines all
-            → IsConfigured file.now all (L.left total source.new) result self.new }
+            → MatchResult result (λ _. IsConfigured all (L.left total source.new) self.new)
+            (StopsConfiguring file.now all) }
     {
         for _turn in 0..u64::MAX {
             match self.fill(file, source) {
@@ -242,7 +238,7 @@ impl Reading {
         Ok(self.next.is_some())
     }
 
-    /// Reads the lines that are left, and has the sink take their calls.
+    /// Reads the remaining lines, and passes their calls to the sink.
     pub fn pass_to<'a, L: RunSource, K: CallSink>(
         &mut self,
         alloc: Global,
@@ -269,52 +265,7 @@ impl Reading {
         Err(Fault::CannotRead { file })
     }
 
-    /// Reads the lines up to a large one, and has the sink take their calls.
-    pub fn pass_small<'a, L: RunSource, K: CallSink>(
-        &mut self,
-        alloc: Global,
-        file: &'a str,
-        source: &mut L,
-        sink: &mut K,
-    ) -> Result<(), Fault<'a>>
-        ensures { (total : ℕ) (run : ParsedLines) (lines : List RunLine)
-            → before_next self.old.read ≡ lines_before run → L.left total source.old (buffered self.old) run lines
-            → PassesSome K.takes file.now (L.left total source.new (buffered self.new)) self.old.read.next run lines
-            sink.old result self.new.read sink.new }
-    {
-        for _turn in 0..u64::MAX {
-            match self.fill(file, source) {
-                Ok(true) => {}
-                Ok(false) => return Ok(()),
-                Err(fault) => return Err(fault),
-            }
-            if self.next == Some(0) && has_large_output(&self.piece) {
-                return Ok(());
-            }
-            match self.pass_piece(alloc, file, source, sink) {
-                Ok(()) => {}
-                Err(fault) => return Err(fault),
-            }
-        }
-        Err(Fault::CannotRead { file })
-    }
-
-    /// Takes the text of the buffered lines. If there are none, it reports refused memory.
-    pub fn take_text(&mut self, alloc: Global) -> Result<Vec<u8>, OutOfMemory>
-        ensures text { IfOk result (λ text. buffered self.old ≡ split_on 10 text.items) }
-        ensures none { OnOk result (self.new.next ≡ None) }
-        ensures read { self.new.read ≡ self.old.read }
-    {
-        let at = self.next.ok_or(OutOfMemory)?;
-        self.next = None;
-        let mut piece = mem::replace(&mut self.piece, Vec::new(alloc));
-        if at == 0 {
-            return Ok(piece);
-        }
-        Ok(piece.split_off(at)?)
-    }
-
-    // Reads those of the piece. A large one is a line by itself, which gives up its memory to the output that it holds.
+    // Reads the lines of the piece. A piece that is one large line gives its memory to the output in it.
     fn pass_piece<'a, L: RunSource, K: CallSink>(
         &mut self,
         alloc: Global,
@@ -339,19 +290,6 @@ impl Reading {
     }
 }
 
-/// Whether a piece is one line of an event that has outputs, with a large field. Whose memory an output takes depends
-/// on it, and no byte that is written: so its clause is only what follows where it is.
-pub fn has_large_output(piece: &[u8]) -> bool
-    ensures { OnTrue result (split_on 10 piece.now ≡ piece.now ∷ []) }
-{
-    has_outputs(piece) && is_large_line(piece)
-}
-
-// Whether a line is of an event that has outputs.
-fn has_outputs(line: &[u8]) -> bool {
-    line.starts_with(b"done\t") || line.starts_with(b"retry\t") || line.starts_with(b"setupdone\t")
-}
-
 // Whether a piece is one line with a large field.
 fn is_large_line(piece: &[u8]) -> bool
     ensures { OnTrue result (split_on 10 piece.now ≡ piece.now ∷ []) }
@@ -365,7 +303,8 @@ fn has_large_field(line: &[u8]) -> bool {
         .any(|block| memchr(b'\t', block).is_none())
 }
 
-// Reads the lines of a piece from a place on, as long as they configure the report. It returns the place of the next.
+// Reads the lines of a piece from this place on, as long as they configure the report, and returns the place of the
+// next line.
 fn configure_piece<'a, L: RunSource>(
     alloc: Global,
     file: &'a str,
@@ -399,8 +338,8 @@ fn configure_piece<'a, L: RunSource>(
     Err(Fault::CannotRead { file })
 }
 
-/// Reads the lines of a text, and has the sink take their calls.
-pub fn pass_lines<'a, L: RunSource, K: CallSink>(
+// Reads the lines of a text, and passes their calls to the sink.
+fn pass_lines<'a, L: RunSource, K: CallSink>(
     alloc: Global,
     file: &'a str,
     source: &mut L,
@@ -430,7 +369,7 @@ pub fn pass_lines<'a, L: RunSource, K: CallSink>(
     Err(Fault::CannotRead { file })
 }
 
-/// A sink for lines without calls. It takes none.
+/// A sink for lines without calls. It refuses every call.
 #[derive(Drop)]
 struct NoCalls;
 

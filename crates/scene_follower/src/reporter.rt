@@ -1,5 +1,4 @@
-//! The reporter of a scene: what it is built from, what it decides by, and the faults of the program that its errors
-//! are.
+//! The reporter of a scene: its builder, its decider, and its errors as faults of the program.
 
 ghost use Rattle.std.specs.Prelude.{◌≡◌, IfOk, IfErr};
 ghost use Rattle.scene_follower.specs.Names.{builder_for, fault_at_call, kind_for, progress_for, surroundings_of};
@@ -35,7 +34,7 @@ pub fn decider_of(options: &Options<'_>, config: &SceneConfig) -> OutputLoadDeci
     OutputLoadDecider::new(resolved.status_levels.status_level, overrides, store)
 }
 
-// What the options and the scene ask of the display.
+// The settings of the display, from the options and the scene.
 fn display_of(options: &Options<'_>, config: &SceneConfig) -> DisplayConfig
     ensures { result ≡ (builder_for options.now config.now).display_config }
 {
@@ -47,7 +46,7 @@ fn display_of(options: &Options<'_>, config: &SceneConfig) -> DisplayConfig
     )
 }
 
-/// What the scene says of where its report goes: to no terminal, and from no build machine.
+/// The surroundings of the report, from the scene: no terminal and no build machine.
 pub fn surroundings_of(config: &SceneConfig) -> Surroundings
     ensures { result ≡ surroundings_of config.now }
 {
@@ -58,7 +57,7 @@ pub fn surroundings_of(config: &SceneConfig) -> Surroundings
     }
 }
 
-/// What the scene's reporter is built from.
+/// The builder of the scene's reporter.
 ///
 /// # Errors
 ///
@@ -85,7 +84,7 @@ pub fn builder_of(
     })
 }
 
-// What the options show of progress.
+// How progress is shown, by the options.
 fn progress_for(options: &Options<'_>) -> ShowProgress
     ensures { result ≡ progress_for options.now }
 {
@@ -96,7 +95,7 @@ fn progress_for(options: &Options<'_>) -> ShowProgress
     }
 }
 
-// Whether they show a recorded run.
+// Whether the options show a recorded run.
 fn kind_for(options: &Options<'_>) -> DisplayerKind
     ensures { result ≡ kind_for options.now }
 {
@@ -107,7 +106,7 @@ fn kind_for(options: &Options<'_>) -> DisplayerKind
     }
 }
 
-/// The fault of a call that stopped, of the line of this number: with that number only where the call is refused.
+/// The fault of a call that failed, on the line of this number. Only a refused call's fault has that number.
 pub fn fault_at_call(number: u64, error: WriteEventError) -> Fault<'static>
     ensures { result ≡ fault_at_call number error }
 {

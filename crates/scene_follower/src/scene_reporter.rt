@@ -1,10 +1,9 @@
-//! The reporter of a scene as what takes the calls of its lines: what each program does with them.
+//! The reporter of a scene, as the sink that takes the calls of its lines. Each program reports through it.
 
-ghost use Rattle.std.specs.Prelude.{◌≡◌, [], OnOk, string_bytes};
+ghost use Rattle.std.specs.Prelude.{◌≡◌, []};
 ghost use Rattle.console_reporter.specs.Names.{config_of, store_delivered};
-ghost use Rattle.scene_follower.specs.Names.{builder_for, ready_if, store_for, Follows, IsSetFor, ReportsCall, GoesOn};
+ghost use Rattle.scene_follower.specs.Names.{builder_for, ready_if, store_for, Follows, IsSetFor, ReportsCall};
 ghost use Rattle.scene_follower.specs.Names.{writers};
-ghost use Rattle.writers.specs.Writer.{Puts};
 
 use crate::outcome::RunOutcome;
 use crate::reporter::{fault_at_call, surroundings_of};
@@ -13,7 +12,7 @@ use command_line::fault::Fault;
 use console_reporter::imp::{
     DisplayReporter, DisplayReporterBuilder, OutputLoadDecider, ReportCall, Store,
 };
-use console_reporter::write_str::{WriteFault, WriteStr};
+use console_reporter::write_str::WriteStr;
 use scene_fields::stored::PlacedOutput;
 use scene_reader::reader::CallSink;
 use scene_run_lines::config::SceneConfig;
@@ -31,7 +30,7 @@ pub struct SceneReporter<'a, W, S> {
 }
 
 impl<'a, W: WriteStr, S: WriteStr> SceneReporter<'a, W, S> {
-    /// Builds the reporter of a scene that is configured so. It has made no call yet.
+    /// Builds the reporter of a scene with this configuration. It has made no call yet.
     pub fn build(
         alloc: Global,
         options: &Options<'_>,
@@ -71,34 +70,6 @@ impl<'a, W: WriteStr, S: WriteStr> SceneReporter<'a, W, S> {
     }
 }
 
-/// Delivers what a reporter has gathered to a writer, to which the reporter goes on, whatever came of that.
-pub fn deliver_to<'a, W: WriteStr, S: WriteStr>(
-    reporter: SceneReporter<'a, String, S>,
-    writer: &'a mut W,
-) -> (Result<(), WriteFault>, SceneReporter<'a, W, S>)
-    ensures same_reference { result.1.reporter.writer.ghost_name ≡ writer.entry.ghost_name }
-    ensures text { Puts W.meaning writer.old (string_bytes reporter.entry.reporter.writer.now) result.0
-        result.1.reporter.writer.now }
-    ensures store { result.1.reporter.store ≡ reporter.entry.reporter.store }
-    ensures settings { (result.1.decider ≡ reporter.entry.decider) × (result.1.unloads ≡ reporter.entry.unloads) }
-    ensures goes_on { OnOk result.0 (GoesOn W.meaning S.meaning reporter.entry writer.old result.1) }
-{
-    let SceneReporter {
-        outcome,
-        reporter,
-        decider,
-        unloads,
-    } = reporter;
-    let (delivered, reporter) = reporter.deliver_to(writer);
-    let reporter = SceneReporter {
-        outcome,
-        reporter,
-        decider,
-        unloads,
-    };
-    (delivered, reporter)
-}
-
 impl<'a, W: WriteStr, S: WriteStr> CallSink for SceneReporter<'a, W, S> {
     ghost takes = { λ old file. ReportsCall W.meaning S.meaning old };
 
@@ -123,7 +94,7 @@ impl<'a, W: WriteStr, S: WriteStr> CallSink for SceneReporter<'a, W, S> {
     }
 }
 
-// Leaves the output of a call unread, where that is asked for and the report does not show it.
+// Leaves the output of a call unread, if the options ask for that and the report does not show it.
 fn make_ready(unloads: bool, decider: &OutputLoadDecider, call: &mut ReportCall<'_>)
     ensures { call.new ≡ ready_if unloads decider.now call.old }
 {

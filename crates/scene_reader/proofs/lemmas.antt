@@ -1,2 +1,4 @@
 pub mod Passes
 pub mod Tellings
+pub mod Usual
+pub mod UsualFields

@@ -1,3 +1,4 @@
 pub mod EventLines
 pub mod Names
 pub mod SceneTexts
+pub mod Usual

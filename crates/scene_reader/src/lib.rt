@@ -5,6 +5,7 @@
 #![tactic(auto)]
 
 pub mod reader;
+pub mod usual;
 
 pub use scene_fields::fault;
 pub use scene_run_lines::config;

@@ -4,7 +4,7 @@
 //! kind of the event. `lines` knows which kinds there are; what fields each has is in the crates `scene_unit_lines` and
 //! `scene_run_lines`.
 
-ghost use Rattle.std.specs.Prelude.{◌≡◌, ◌+◌, ℕ, List, false, IfErr, Result, None, Ok, OnOk, Some, codes};
+ghost use Rattle.std.specs.Prelude.{◌≡◌, ◌+◌, ℕ, List, false, true, IfErr, Result, None, Ok, OnOk, Some, codes};
 ghost use Rattle.{scene_fields.specs.Fields.none_noted, scene_fields.specs.Fields.answered};
 ghost use Rattle.{scene_run_lines.specs.Configs.unconfigured};
 ghost use Rattle.{run_model.specs.declared.call.ReportCall.ReportCall};
@@ -16,6 +16,7 @@ ghost use Rattle.scene_reader.specs.SceneTexts.{IsReadAgain, LinesBefore, parsed
 
 pub mod lines;
 
+use crate::usual::read_usual;
 use command_line::fault::Fault;
 use lines::read_event;
 use run_model::call::ReportCall;
@@ -175,7 +176,7 @@ impl LinesRead {
                 Ok(()) => self.pass_over(),
                 Err(fault) => Err(self.fault(fault)),
             },
-            word => self.pass_other(alloc, file, word, fields, sink),
+            word => self.pass_call(alloc, file, word, fields, sink),
         }
     }
 
@@ -207,27 +208,25 @@ impl LinesRead {
         ensures { PassesValue K.takes file.now (with_stored (event_word (codes "done") fields.entry)) self.old
             sink.old result self.new sink.new }
     {
-        self.pass_call(alloc, file, "done", fields, sink)
-    }
-
-    // Reads the line of another event.
-    #[inline(never)]
-    fn pass_other<'a, K: CallSink>(
-        &mut self,
-        alloc: Global,
-        file: &'a str,
-        word: &str,
-        fields: Fields<'_>,
-        sink: &mut K,
-    ) -> Result<(), Fault<'a>>
-        ensures { PassesValue K.takes file.now (with_stored (event_word word.now fields.entry)) self.old sink.old
-            result self.new sink.new }
-    {
-        self.pass_call(alloc, file, word, fields, sink)
+        let Some(texts) = fields.plain() else {
+            return self.pass_call(alloc, file, "done", fields, sink);
+        };
+        match read_usual(alloc, texts, &mut self.names)? {
+            Some(usual) => {
+                let number = self.next;
+                // No text has that many lines.
+                let next = number.checked_add(1).ok_or(Fault::OutOfMemory)?;
+                let call = usual.into_call(alloc, &self.names);
+                lend(alloc, file, number, &[], call, sink)?;
+                self.count_event(next);
+                Ok(())
+            }
+            None => self.pass_call(alloc, file, "done", fields, sink),
+        }
     }
 
     // Reads the fields behind the word of an event. Its call is large: it is made here, and lent.
-    #[inline(always)]
+    #[inline(never)]
     fn pass_call<'a, K: CallSink>(
         &mut self,
         alloc: Global,
@@ -250,9 +249,17 @@ impl LinesRead {
             }
             Err(error) => return Err(fault_at(number, error)),
         }
+        self.count_event(next);
+        Ok(())
+    }
+
+    // The line of an event was read, and the next one has this number.
+    #[inline(always)]
+    fn count_event(&mut self, next: u64)
+        ensures { self.new ≡ record self.old { is_begun = true; next = next } }
+    {
         self.is_begun = true;
         self.next = next;
-        Ok(())
     }
 
     // A line more was read. No text has more than the number can hold.

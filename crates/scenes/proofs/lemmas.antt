@@ -1,10 +1,6 @@
 pub mod Accepted
-pub mod EndsWell
 pub mod FirstRefused
 pub mod Gathered
-pub mod Kept
-pub mod NothingStored
-pub mod PlainReports
-pub mod Rests
-pub mod SceneReports
-pub mod Scenes
+pub mod Laws
+pub mod SceneCalls
+pub mod WrittenReports

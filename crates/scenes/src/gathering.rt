@@ -1,4 +1,4 @@
-//! A reporter into memory, for a run that counts only as a whole.
+//! A reporter that writes to memory, for a report that is printed whole or not at all.
 
 ghost use Rattle.std.specs.Prelude.{◌≡◌, None};
 ghost use Rattle.scenes.specs.Gathered.{GathersCall, HoldsFault};
@@ -11,8 +11,8 @@ use scene_follower::scene_reporter::SceneReporter;
 use scene_reader::reader::CallSink;
 use std::alloc::Global;
 
-/// A reporter into memory, of lines that count only as a whole: once it refuses a call it makes no other, and the lines
-/// behind it are still read, since a line that cannot be read comes first.
+/// A reporter that writes to memory. After a refused call it makes no other, but the lines after it are still read: a
+/// line that cannot be read is reported first, wherever it is.
 #[derive(Drop)]
 pub(crate) struct Gathering<'a, W, S> {
     pub(crate) reporter: SceneReporter<'a, W, S>,
@@ -21,7 +21,7 @@ pub(crate) struct Gathering<'a, W, S> {
 }
 
 impl<'a, W: WriteStr, S: WriteStr> Gathering<'a, W, S> {
-    /// No call was made yet.
+    /// With this reporter, before its first call.
     pub(crate) fn new(reporter: SceneReporter<'a, W, S>) -> Gathering<'a, W, S>
         ensures reporter { result.reporter ≡ reporter.entry }
         ensures refused { result.refused ≡ None }
@@ -32,7 +32,7 @@ impl<'a, W: WriteStr, S: WriteStr> Gathering<'a, W, S> {
         }
     }
 
-    // Holds the fault of a line, and returns another one.
+    // Holds the fault if it is that of a line, else returns it.
     fn hold<'f>(&mut self, fault: Fault<'f>) -> Result<(), Fault<'f>>
         ensures { HoldsFault self.old fault.entry result self.new }
     {

@@ -10,8 +10,8 @@ use scene_follower::reporter::fault_at_call;
 use scene_reader::reader::CallSink;
 use std::alloc::Global;
 
-/// A sink that has each call judged. The lines behind a refused call are still read, since a line that cannot be read
-/// comes first.
+/// A sink that judges each call. The lines after a refused call are still read: a line that cannot be read is reported
+/// first, wherever it is.
 #[derive(Drop)]
 pub(crate) struct Judge {
     pub(crate) decider: OutputLoadDecider,

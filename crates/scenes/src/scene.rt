@@ -30,12 +30,12 @@ use std::marker::Model;
 pub struct Scene {
     config: SceneConfig,
     text: Vec<u8>,
-    events: Vec<EventLine>,
+    events: Vec<ReadEvent>,
 }
 
 // The line of an event: its number, from 1, and the names of its test, or empty ones.
 #[derive(Drop)]
-struct EventLine {
+struct ReadEvent {
     number: u64,
     names: OwnedTestInstanceId,
 }
@@ -59,11 +59,10 @@ impl Scene {
         ensures of_judge { IfErr result (IsJudgeFault file.now) }
     {
         let mut source = SceneSource::new(alloc, text.as_slice())?;
-        let mut reading = Reading::new(alloc);
+        let mut reading = Reading::begin(alloc, file, &mut source)?;
         let mut events = Events {
             lines: Vec::new(alloc),
         };
-        reading.configure(alloc, file, &mut source)?;
         let config = reading.read.config;
         reading.pass_to(alloc, file, &mut source, &mut events)?;
         drop(source);
@@ -74,7 +73,7 @@ impl Scene {
         })
     }
 
-    /// How it is reported, as its text says.
+    /// The configuration of its report.
     pub fn config(&self) -> &SceneConfig
         ensures config { result.now ≡ self.now.config }
         ensures of_text { OfText self.now.text (λ run. run.config ≡ self.now.config) }
@@ -84,7 +83,8 @@ impl Scene {
 
     /// Its text.
     pub fn text(&self) -> &[u8]
-        ensures { result.now ≡ self.now.text }
+        ensures text { result.now ≡ self.now.text }
+        ensures of_text { OfText self.now.text (λ run. run.config ≡ self.now.config) }
     {
         self.text.as_slice()
     }
@@ -123,7 +123,7 @@ impl Scene {
         Ok(calls)
     }
 
-    // The calls, with what they say of output. Each line is read again, which cannot fail.
+    // The calls, each with its output. The lines are read again, and each was read before, so none is malformed.
     fn whole_calls(&self, alloc: Global) -> Result<Vec<ReportCall<'_>>, OutOfMemory>
         ensures { IfOk result (λ calls. OfText self.now.text (λ run. AllZip IsCallOf run.events calls.items)) }
     {
@@ -152,7 +152,7 @@ impl Scene {
 // The lines of the events that were read.
 #[derive(Drop)]
 struct Events {
-    lines: Vec<EventLine>,
+    lines: Vec<ReadEvent>,
 }
 
 impl CallSink for Events {
@@ -173,14 +173,14 @@ impl CallSink for Events {
             }
             None => no_names(alloc),
         };
-        match self.lines.push(EventLine { number, names }) {
+        match self.lines.push(ReadEvent { number, names }) {
             Ok(()) => Ok(()),
             Err(_) => Err(Fault::OutOfMemory),
         }
     }
 }
 
-// The test of a call, if it is of one. Its names are compared with those of the line, so nothing rests on them.
+// The test of a call, if the call is about one.
 fn test_of<'c>(call: &'c ReportCall<'_>) -> Option<&'c TestInstanceId<'c>> {
     let ReportCall::Event(event) = call else {
         return None;

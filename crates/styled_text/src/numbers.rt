@@ -1,5 +1,6 @@
 //! Numbers and spaces as text.
 
+ghost use Rattle.styled_text.specs.Names.{IsUtf8, decimal};
 ghost use Rattle.std.specs.Prelude.{◌≡◌, ◌+◌, ◌/◌, ◌%◌, ◌<◌, ◌≤◌, ◌∷◌, [], ◌++◌, ◌-◌, length, chars, codes};
 ghost use Rattle.styled_text.specs.Names.{spaces, right_in, digit_column, last_digits, rounded, seconds, Puts, plain};
 
@@ -85,6 +86,18 @@ pub(crate) fn char_count(text: &str) -> usize
     ensures { result ≡ length (chars text.now) }
 {
     text.chars().count()
+}
+
+/// How many characters the number has. Most of those that are aligned number attempts, and are below ten.
+#[tactic(auto, using(crate::proofs::lemmas::Decimals::digit_laws))]
+pub(crate) fn decimal_char_count(n: u128) -> usize
+    ensures count { result ≡ length (chars (decimal n)) }
+    ensures utf8 { IsUtf8 (decimal n) }
+{
+    if n < 10 {
+        return 1;
+    }
+    char_count(Buffer::new().format(n))
 }
 
 /// Writes nanoseconds as seconds with three decimals, right-aligned in eight columns, between brackets, and a space.

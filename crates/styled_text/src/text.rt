@@ -4,9 +4,8 @@ ghost use Rattle.std.specs.Prelude.{◌≡◌, ◌++◌, ◌-◌, ℕ, List, cha
 ghost use Rattle.styled_text.specs.Names.{IsUtf8, decimal, indent, seconds, plain, styled, right_in, Puts};
 
 use crate::indenter::indented;
-use crate::numbers::{char_count, write_seconds, write_spaces};
+use crate::numbers::{char_count, decimal_char_count, write_seconds, write_spaces};
 use crate::style::Style;
-use itoa::Buffer;
 use writers::text::{Decimal, WriteText};
 use writers::write_str::{WriteFault, WriteStr};
 
@@ -86,7 +85,7 @@ impl CountedText for Decimal {
 
     #[tactic(auto, unfolding(writers::specs::Texts::plain))]
     fn columns_left(&self, columns: usize) -> usize {
-        columns.saturating_sub(char_count(Buffer::new().format(self.0)))
+        columns.saturating_sub(decimal_char_count(self.0))
     }
 }
 

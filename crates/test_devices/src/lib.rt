@@ -1,6 +1,8 @@
 //! A device for tests, which fails at a given call. All crates of tests share it.
 #![tactic(auto)]
 
+pub mod scenes;
+
 ghost use Rattle.std.specs.Prelude.{◌≤◌, IfOk, length};
 
 use std::alloc::{AllocError, Global};

@@ -1,5 +1,5 @@
 -- Captured output as a report shows it.
-use Rattle.std.specs.Prelude.{ℕ, ◌+◌, Bool, true, false, ◌&&◌, ◌||◌, ◌==◌, List, [], ◌∷◌, ◌++◌, Option, None, Some}
+use Rattle.std.specs.Prelude.{ℕ, ◌+◌, Bool, ◌&&◌, ◌||◌, ◌==◌, [], ◌∷◌, ◌++◌, Option, None, Some}
 use Rattle.std.specs.Prelude.{length, slice_index, nat_le, nat_lt, take, drop, if◌then◌else◌}
 use Rattle.styled_text.specs.Names.{starts_with, without_trailing_newline, visible, highlight_end, plain, reset_color}
 use Rattle.styled_text.specs.Names.{Text}

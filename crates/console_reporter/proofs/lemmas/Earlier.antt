@@ -1,17 +1,16 @@
 -- No report and no record depends on the output of attempts before the last one (for `RecordedRun::replay`).
-use Rattle.std.proofs.Common.{◌≡◌, ℕ, false, Option, None, Some, List, [], ◌∷◌, ◌++◌, map, reverse, not, codes}
-use Rattle.std.proofs.Common.{if◌then◌else◌, refl, sym, ap, ap₂, subst, ◌∙◌}
-use Rattle.styled_text.specs.Names.{position_or_len, slice_get, is_some, option_and_then, option_map, option_map_or}
+use Rattle.std.proofs.Common.{arith}
+use Rattle.std.proofs.Common.{◌≡◌, ℕ, Option, None, Some, List, [], ◌∷◌, map, reverse}
+use Rattle.std.proofs.Common.{refl, sym, ap, subst, ◌∙◌}
+use Rattle.styled_text.specs.Names.{position_or_len, slice_get, is_some, option_and_then, option_map}
 use Rattle.{std.proofs.lemmas.Option.slice_get-map, std.proofs.lemmas.List.length-map}
 use Rattle.{run_model.specs.declared.event.TestEventKind.TheVariants.TestFinished, report_words.specs.Parts.paint}
-use Rattle.{reporter_state.specs.declared.faults.WriteEventError.TheVariants.OutputNotLoaded}
-use Rattle.run_model.specs.Names.{Attempts, Written, has_loaded_output, summary_of, unloaded_attempt, TestOutputDisplay}
+use Rattle.run_model.specs.Names.{Attempts, summary_of, unloaded_attempt, TestOutputDisplay}
 use Rattle.run_model.specs.Names.{TestInstanceId, StressIndex, Nanos}
-use Rattle.text_parts.specs.Names.{TestEventKind, ChildOutputDescription, LiveSpec, RunStats, StatusSummary, ReportCall}
-use Rattle.text_parts.specs.Names.{short_word, display_of}
-use Rattle.reporter_state.specs.Names.{Settings, netstring, record_text, is_stored, stored_output, written_text}
+use Rattle.text_parts.specs.Names.{TestEventKind, ChildOutputDescription, LiveSpec, RunStats, ReportCall}
+use Rattle.reporter_state.specs.Names.{Settings, record_text, stored_output}
 use Rattle.reporter_state.specs.Names.{StoreConfig, FinishReport, test_finish, test_finished_text, AreAcceptedBy}
-use Rattle.reporter_state.specs.Names.{event_refusal, refusal_by, kept_entry, Finished, loads_finish}
+use Rattle.reporter_state.specs.Names.{event_refusal, refusal_by, kept_entry, Finished}
 use Rattle.console_reporter.specs.Names.{event_text, record_of, records, stored, stored_text, Configuration}
 use Rattle.console_reporter.specs.Names.{settings_of, IsIsolated, OutputLoadDecider}
 use Rattle.run_model.specs.declared.call.ReportCall.TheVariants.{Event, Header, Prefix}
@@ -37,15 +36,7 @@ module _ (s : Settings) (stress : Option StressIndex) (test : TestInstanceId) (s
 
   finish-last : (reason : ℕ)
       → test_finish s reason stress test success failure (last_alone statuses) stats ≡ finish reason
-  finish-last reason =
-      ap (λ (x : StatusSummary). record {
-        test = (finish reason).test;
-        display = display_of s success failure x;
-        row = (finish reason).row;
-        summary = x;
-        last = statuses.last;
-      })
-      (last-summary statuses)
+  finish-last reason = search last-summary
 
 -- both events have the same text and entry (`IsSameEvent`)
 pub same-last : (s : Settings) (elapsed : Nanos) (e : TestEventKind) → IsSameEvent s (record {
@@ -64,12 +55,7 @@ same-last s elapsed other = record { reason = refl; entry = λ before. refl; tex
 
 -- both events are refused for the same reason, or accepted
 pub refused-last : (d : OutputLoadDecider) (e : TestEventKind) → event_refusal d (kind_of_last e) ≡ event_refusal d e
-refused-last d (TestFinished stress test success failure statuses stats) =
-    ap
-    (λ (x : StatusSummary). if option_map_or (λ (o : Written). not (has_loaded_output o))
-    (if loads_finish d success failure x then Some statuses.last.output else None) false then Some
-    OutputNotLoaded else None)
-    (last-summary statuses)
+refused-last d (TestFinished stress test success failure statuses stats) = grind arith
 refused-last d other = refl
 
 -- both events have the same record
@@ -77,12 +63,7 @@ pub record-last : (store : Option StoreConfig) (e : TestEventKind)
     → record_of store (kind_of_last e) ≡ record_of store e
 unfolding record_text stored_output
 record-last None e = refl
-record-last (Some store) (TestFinished stress test success failure statuses stats) =
-    ap
-    (λ (x : StatusSummary). netstring test.binary_id.now
-    ++ (netstring test.test_name.now ++ (netstring (short_word statuses.last.result)
-    ++ (netstring (if is_stored store x.case then written_text statuses.last.output else []) ++ codes "\n"))))
-    (last-summary statuses)
+record-last (Some store) (TestFinished stress test success failure statuses stats) = grind arith
 record-last (Some store) other = refl
 
 -- a call with the output of the last attempt alone
@@ -100,8 +81,8 @@ same-calls config (Event e ∷ calls) =
     same-event config calls (calls_of_last calls) (same-calls config calls) e (record e {
       kind = kind_of_last e.kind;
     }) (same-last (settings_of config) e.elapsed e.kind)
-same-calls config (Header h ∷ calls) = same-call config calls (calls_of_last calls) (same-calls config calls) (Header h)
-same-calls config (Prefix p ∷ calls) = same-call config calls (calls_of_last calls) (same-calls config calls) (Prefix p)
+same-calls config (Header h ∷ calls) = search (same-call, same-calls config calls)
+same-calls config (Prefix p ∷ calls) = search (same-call, same-calls config calls)
 
 refused-call : (d : OutputLoadDecider) (call : ReportCall) → refusal_by d (call_of_last call) ≡ refusal_by d call
 refused-call d (Event e) = refused-last d e.kind
@@ -112,7 +93,7 @@ same-len : (d : OutputLoadDecider) (calls : List ReportCall) →
     position_or_len (λ call. is_some (refusal_by d call)) (calls_of_last calls)
     ≡ position_or_len (λ call. is_some (refusal_by d call)) calls
 same-len d [] = refl
-same-len d (call ∷ calls) = rw (refused-call d call, same-len d calls) refl
+same-len d (call ∷ calls) = grind (arith, same-len d calls)
 
 refused-in : (d : OutputLoadDecider) (o : Option ReportCall)
     → option_and_then (refusal_by d) (option_map call_of_last o) ≡ option_and_then (refusal_by d) o
@@ -122,7 +103,7 @@ refused-in d (Some call) = refused-call d call
 all-accepted : (d : OutputLoadDecider) (calls : List ReportCall) → AreAcceptedBy d calls
     → AreAcceptedBy d (calls_of_last calls)
 all-accepted d [] h = tt
-all-accepted d (call ∷ calls) h = (refused-call d call ∙ h.0, all-accepted d calls h.1)
+all-accepted d (call ∷ calls) h = grind (arith, all-accepted d calls h.1)
 
 stored-call : (config : Configuration) (call : ReportCall)
     → stored_text config.store (call_of_last call) ≡ stored_text config.store call
@@ -133,12 +114,12 @@ stored-call config (Prefix p) = refl
 same-records : (config : Configuration) (calls : List ReportCall)
     → records config.store (calls_of_last calls) ≡ records config.store calls
 same-records config [] = refl
-same-records config (call ∷ calls) = ap₂ (λ t ts. t ∷ ts) (stored-call config call) (same-records config calls)
+same-records config (call ∷ calls) = search (stored-call, same-records config calls)
 
 same-stored : (config : Configuration) (past : List ReportCall)
     → stored config.store (calls_of_last past) ≡ stored config.store past
 same-stored config [] = refl
-same-stored config (call ∷ past) = ap₂ (λ t u. t ++ u) (same-stored config past) (stored-call config call)
+same-stored config (call ∷ past) = search (stored-call, same-stored config past)
 
 same-past : (config : Configuration) (calls : List ReportCall)
     → AreSame config (reverse calls) (reverse (calls_of_last calls))

@@ -1,31 +1,31 @@
 -- What is observed is loaded, and in an uninterrupted run what is loaded is observed (for
 -- `DisplayReporter::output_load_decider`).
 use Rattle.text_parts.specs.Names.{TestEvent, TestEventKind, ChildOutputDescription, LiveSpec, LoadOutput, RunStats}
-use Rattle.text_parts.specs.Names.{SetupScriptExecuteStatus, StatusSummary, ReportCall, short_word, display_of}
-use Rattle.text_parts.specs.Names.{is_final_wanted, timed_at_end, timed_at_once, timed_listed, padded_instance, Script}
+use Rattle.text_parts.specs.Names.{SetupScriptExecuteStatus, StatusSummary, ReportCall, display_of}
+use Rattle.text_parts.specs.Names.{is_final_wanted, timed_at_end, timed_at_once, timed_listed, Script}
 use Rattle.text_parts.specs.Names.{finished_counter}
 use Rattle.reporter_state.specs.Names.{netstring, netstring_head, record_text, is_stored, stored_output, StoreConfig}
 use Rattle.reporter_state.specs.Names.{line_at_once, output_at_once, test_finished_text, attempt_failed_line}
-use Rattle.reporter_state.specs.Names.{attempt_failed_text, delay_line, failed_output, is_failed_output_shown}
+use Rattle.reporter_state.specs.Names.{attempt_failed_text, failed_output, is_failed_output_shown}
 use Rattle.reporter_state.specs.Names.{status_line, decider_by, entry_of}
 use Rattle.console_reporter.specs.Names.{not_seen_text, run_finished_text, failed_script_output}
-use Rattle.console_reporter.specs.Names.{setup_script_finished_text, setup_script_line, decider_of, AreUninterrupted}
+use Rattle.console_reporter.specs.Names.{setup_script_finished_text, decider_of, AreUninterrupted}
 use Rattle.console_reporter.specs.Names.{is_end_of_run, Configuration, settings_of, IsExact, IsObserved, IsSeen}
 use Rattle.console_reporter.specs.Names.{IsStoredThere, combined, with_output, writing}
 use Rattle.{text_parts.specs.Names.is_level_shown, text_parts.specs.Names.final_warnings}
 use Rattle.{run_model.specs.declared.output_event.LoadOutput.TheVariants.Load}
 use Rattle.{run_model.specs.declared.output_event.LoadOutput.TheVariants.Skip}
 use Rattle.reporter_state.specs.Names.{final_output, cancel, final_order, final_text, borrowed_test, kept_test}
-use Rattle.reporter_state.specs.Names.{decision, is_stored_by, load_if, loads_attempt, loads_script, is_skip, Settings}
+use Rattle.reporter_state.specs.Names.{decision, is_stored_by, load_if, loads_attempt, loads_script, Settings}
 use Rattle.console_reporter.specs.Names.{event_text, listed_text, script_by, text, report_texts, record_of, records}
 use Rattle.console_reporter.specs.Names.{stored_text, OutputLoadDecider}
 use Rattle.std.proofs.Common.{◌≢◌, ◌≡◌, ℕ, Bool, true, false, List, [], ◌∷◌, ◌++◌, Option, None, Some, refl, sym, ap}
-use Rattle.std.proofs.Common.{◌∙◌, reverse, append_assoc, inl, inr, codes, arith, lit<, subst, ◌<◌, ◌||◌, get_or}
+use Rattle.std.proofs.Common.{◌∙◌, reverse, append_assoc, inl, inr, codes, arith, lit<, subst, ◌<◌}
 use Rattle.styled_text.specs.Names.{flat_map, option_to_list, digits, Text}
 use Rattle.std.proofs.lemmas.Bool.{false≢true, and_parts, not-true, or_cases}
 use Rattle.std.proofs.lemmas.List.{append_cancel_left, append_cancel_right, reverse-append, same_from_push}
 use Rattle.std.proofs.lemmas.{Str.IsUtf8-from_ascii, Grind.flat_map-append}
-use Rattle.run_model.specs.Names.{Attempt, Attempts, Written, is_final, is_immediate, case_of, is_success, summary_of}
+use Rattle.run_model.specs.Names.{Attempt, Attempts, Written, is_final, is_immediate, case_of, summary_of}
 use Rattle.run_model.specs.Names.{unloaded_event, unloaded_kind, TestOutputDisplay, TestInstanceId, StressIndex, Nanos}
 use Rattle.run_model.specs.Names.{final_stats_of_run}
 use Rattle.reporter_state.{proofs.lemmas.Places.entry_with, proofs.lemmas.Places.text-place}
@@ -42,7 +42,6 @@ use Rattle.console_reporter.proofs.lemmas.UninterruptedRuns.{uninterrupted_entri
 use Rattle.console_reporter.proofs.lemmas.UninterruptedRuns.{uninterrupted_past, listing}
 use Rattle.console_reporter.proofs.lemmas.{Isolation.same-record, Isolation.same-unloaded, Same.reverse-middle}
 use Rattle.console_reporter.proofs.lemmas.{Same.same-but-one, OtherOutputs.ascii, OtherOutputs.outputs_differ}
-use Rattle.run_names.specs.declared.level.StatusLevel.TheVariants as level
 use Rattle.run_names.specs.declared.unit.UnitKind.TheVariants as unit
 
 abbrev wrote_a : Written
@@ -51,37 +50,12 @@ wrote_a = combined (codes "a")
 abbrev wrote_b : Written
 wrote_b = combined (codes "b")
 
--- the decider looks at no output
-same-decision : (d : OutputLoadDecider) (output : Written) (e : TestEventKind)
-    → decision d (with_output output e) ≡ decision d e
-same-decision d output (SetupScriptFinished stress id program args status) = refl
-same-decision d output (TestAttemptFailedWillRetry stress test status delay failure) = refl
-same-decision d output (TestFinished stress test success failure statuses stats) = refl
-same-decision d output other = refl
-
--- events that differ in a combined output alone are equal once it is unloaded
-same-unread : (t u : Text) (e : TestEventKind)
-    → unloaded_kind (with_output (combined t) e) ≡ unloaded_kind (with_output (combined u) e)
-same-unread t u (SetupScriptFinished stress id program args status) = refl
-same-unread t u (TestAttemptFailedWillRetry stress test status delay failure) = refl
-same-unread t u (TestFinished stress test success failure statuses stats) = refl
-same-unread t u other = refl
-
--- an event that is not decided has no output
-undecided : (d : OutputLoadDecider) (t : Text) (e : TestEventKind) → decision d e ≡ None
-    → with_output (combined t) e ≡ e
-undecided d t (SetupScriptFinished stress id program args status) is = cc
-undecided d t (TestAttemptFailedWillRetry stress test status delay failure) is = cc
-undecided d t (TestFinished stress test success failure statuses stats) is = cc
-undecided d t other is = refl
-
 -- records around one call
 one_record : (store : Option StoreConfig) (before after : List ReportCall) (x y : ReportCall)
     → stored_text store x ≡ stored_text store y
     → records store (before ++ x ∷ after) ≡ records store (before ++ y ∷ after)
-one_record store [] after x y is = ap (λ t. t ∷ records store after) is
-one_record store (call ∷ before) after x y is = ap (λ ts. stored_text store call ∷ ts)
-    (one_record store before after x y is)
+one_record store [] after x y is = cc
+one_record store (call ∷ before) after x y is = cc (one_record store before after x y is)
 
 record_of_one : (store : Option StoreConfig) (before after : List ReportCall) (x y : ReportCall)
     → records store (before ++ x ∷ after) ≡ records store (before ++ y ∷ after)
@@ -97,20 +71,21 @@ module _ (config : Configuration) (before after : List ReportCall) (event : Test
       report_texts config (reverse (before ++ Event (unloaded_event (record event {
         kind = with_output (combined t) event.kind;
       })) ∷ after)) ≡ report_texts config (reverse (before ++ writing t event ∷ after))
-  unread-report_texts t skips =
-      same-but-one config before after (record event { kind = with_output (combined t) event.kind }) _
+  unread-report_texts t skips = same-but-one config before after (record event {
+    kind = with_output (combined t)
+        event.kind;
+  }) _
       (same-unloaded (settings_of config) config.store event.elapsed (with_output (combined t) event.kind)
-      (ap is_skip (same-decision (decider_of config) (combined t) event.kind ∙ skips)))
+      (grind arith))
 
   -- the records do not differ if the decider skips the output
   unread-records : (t : Text) → decision (decider_of config) event.kind ≡ Some Skip →
       records config.store (before ++ Event (unloaded_event (record event {
         kind = with_output (combined t) event.kind;
       })) ∷ after) ≡ records config.store (before ++ writing t event ∷ after)
-  unread-records t skips =
-      one_record config.store before after _ _
+  unread-records t skips = one_record config.store before after _ _
       (same-record (settings_of config) config.store (with_output (combined t) event.kind)
-      (ap is_skip (same-decision (decider_of config) (combined t) event.kind ∙ skips)))
+      (grind arith))
 
   observed_is_loaded : (answer : Option LoadOutput) → decision (decider_of config) event.kind ≡ answer
       → IsObserved config before event after → answer ≡ Some Load
@@ -119,26 +94,16 @@ module _ (config : Configuration) (before after : List ReportCall) (event : Test
       (sym (unread-report_texts (codes "a") is)
       ∙ ap (λ kind. report_texts config (reverse (before ++ Event (record event {
         kind = kind;
-      }) ∷ after))) (same-unread (codes "a") (codes "b") event.kind)
+      }) ∷ after))) (grind arith)
       ∙ unread-report_texts (codes "b") is))
   observed_is_loaded (Some Skip) is (inr kept) = absurd (kept
       (sym (unread-records (codes "a") is)
       ∙ ap (λ kind. records config.store (before ++ Event (record event {
         kind = kind;
-      }) ∷ after)) (same-unread (codes "a") (codes "b") event.kind)
+      }) ∷ after)) (grind arith)
       ∙ unread-records (codes "b") is))
-  observed_is_loaded None is (inl seen) = absurd
-      (seen (ap (λ kind. report_texts config (reverse (before ++ Event (record event {
-        kind = kind;
-      }) ∷ after)))
-      (undecided (decider_of config) (codes "a") event.kind is
-      ∙ sym (undecided (decider_of config) (codes "b") event.kind is))))
-  observed_is_loaded None is (inr kept) = absurd
-      (kept (ap (λ kind. records config.store (before ++ Event (record event {
-        kind = kind;
-      }) ∷ after))
-      (undecided (decider_of config) (codes "a") event.kind is
-      ∙ sym (undecided (decider_of config) (codes "b") event.kind is))))
+  observed_is_loaded None is (inl seen) = grind arith
+  observed_is_loaded None is (inr kept) = grind arith
 
 -- texts around one call
 text_of_one : (config : Configuration) (later past : List ReportCall) (x y : ReportCall)
@@ -185,10 +150,7 @@ script_differs : (s : Settings) (script : Script) (x : SetupScriptExecuteStatus 
       output = wrote_a;
     })) ≢ paint s.styles (setup_script_finished_text s script (record x { output = wrote_b }))
 unfolding setup_script_finished_text failed_script_output
-script_differs s script x is e =
-    let failed : is_success x.result ≡ false = not-true _ is in
-    outputs_differ s unit.Script false x.result
-    (append_cancel_left (paint s.styles (setup_script_line script x.result x.time_taken.0)) _ _ (rw failed at e))
+script_differs s script x is e = grind (arith, not-true, outputs_differ, append_cancel_left)
 
 -- an attempt that failed, whose output is shown
 attempt_differs : (s : Settings) (stress : Option StressIndex) (test : TestInstanceId) (x : Attempt) (delay : ℕ)
@@ -198,14 +160,13 @@ attempt_differs : (s : Settings) (stress : Option StressIndex) (test : TestInsta
       output = wrote_a;
     }) delay failure) ≢ paint s.styles (attempt_failed_text s stress test (record x { output = wrote_b }) delay failure)
 unfolding attempt_failed_text attempt_failed_line failed_output is_level_shown is_failed_output_shown
-attempt_differs s stress test x delay failure is e =
-    let parts = and_parts _ _ is in
-    let shown : is_level_shown s level.Retry ≡ true = parts.0 in
-    let at_once : is_failed_output_shown s failure ≡ true = parts.1 in
-    let same = rw (shown, at_once) at e in
-    outputs_differ s unit.Test true x.result
-    (append_cancel_right _ _ (paint s.styles (delay_line (padded_instance s stress test) x.retry_data delay))
-    (append_cancel_left (paint s.styles (attempt_failed_line (padded_instance s stress test) x)) _ _ same))
+attempt_differs s stress test x delay failure is e = grind (
+  arith,
+  and_parts,
+  outputs_differ,
+  append_cancel_right,
+  append_cancel_left,
+)
 
 -- an entry's output, among those of a run that ends
 listed_differ : (s : Settings) (test : KeptTest) (x : StatusSummary) (front back : List FinalOutputEntry) (elapsed : ℕ)
@@ -252,7 +213,7 @@ module _ (config : Configuration) (before after : List ReportCall) (elapsed : Na
         instance = test;
       })) (summary_of statuses) output)
   unfolding final_output timed_at_end timed_listed is_final_wanted
-  kept_with output final = rw (row_below 0 statuses.last.result (omega arith), final) refl
+  kept_with output final = grind (arith, row_below)
 
   finish_at_end : (end : TestEvent) → is_end_of_run end.kind ≡ true → AreUninterrupted after → is_final display ≡ true
       → IsSeen config before finished (after ++ Event end ∷ [])
@@ -277,7 +238,7 @@ module _ (config : Configuration) (before after : List ReportCall) (elapsed : Na
 -- a finished test whose output is kept
 letters_differ : netstring (codes "a") ++ codes "\n" ≢ netstring (codes "b") ++ codes "\n"
 unfolding netstring netstring_head digits
-letters_differ e = let h : ◌≡◌ {A = ℕ} 97 98 = ap (λ l. get_or l 2 0) e in absurd (omega arith)
+letters_differ e = grind arith
 
 kept_output : (store : StoreConfig) (statuses : Attempts LiveSpec ChildOutputDescription) (b : ℕ) → b < 128
     → is_stored store (case_of statuses) ≡ true →
@@ -292,13 +253,12 @@ kept_differ : (store : Option StoreConfig) (stress : Option StressIndex) (test :
     (with_output wrote_b (TestFinished stress test success failure statuses stats))
 unfolding record_text
 kept_differ None stress test success failure statuses stats kept e = absurd (false≢true kept)
-kept_differ (Some store) stress test success failure statuses stats kept e =
-    let same = append_cancel_left (netstring (short_word statuses.last.result)) _ _
-    (append_cancel_left (netstring test.test_name.now) _ _
-    (append_cancel_left (netstring test.binary_id.now) _ _ e)) in
-    letters_differ
-    (ap (λ o. netstring o ++ codes "\n") (sym (kept_output store statuses 97 (lit< tt) kept)) ∙ same
-    ∙ ap (λ o. netstring o ++ codes "\n") (kept_output store statuses 98 (lit< tt) kept))
+kept_differ (Some store) stress test success failure statuses stats kept e = grind (
+  arith,
+  append_cancel_left,
+  letters_differ,
+  kept_output,
+)
 
 finish_kept : (config : Configuration) (before rest : List ReportCall) (elapsed : Nanos) (stress : Option StressIndex)
     (test : TestInstanceId) (success failure : TestOutputDisplay)
@@ -309,8 +269,7 @@ finish_kept : (config : Configuration) (before rest : List ReportCall) (elapsed 
       kind = TestFinished stress test success failure statuses stats;
     }) rest
 finish_kept config before rest elapsed stress test success failure statuses stats kept same =
-    kept_differ config.store stress test success failure statuses stats kept
-    (record_of_one config.store before rest _ _ same)
+    search (kept_differ, record_of_one)
 
 is_loaded : (b : Bool) → Some (load_if b) ≡ Some Load → b ≡ true
 is_loaded true h = refl
@@ -340,20 +299,7 @@ loaded_is_observed config before after elapsed (TestAttemptFailedWillRetry stres
     })
     (attempt_differs (settings_of config) stress test status delay.0 failure (is_loaded _ loads)))
 loaded_is_observed config before after elapsed (TestFinished stress test success failure statuses stats) end ends front
-    back loads =
-    let display = display_of (settings_of config) success failure (summary_of statuses) in
-    elim
-    (or_cases (is_immediate display || is_final display) (is_stored_by config.store (summary_of statuses).case)
-    (is_loaded _ loads)) [
-      | inl shown ↦ inl (elim (or_cases (is_immediate display) (is_final display) shown) [
-        | inl now ↦ finish_at_once config before after elapsed stress test success failure statuses stats front
-            (after ++ Event end ∷ []) now
-        | inr final ↦ finish_at_end config before after elapsed stress test success failure statuses stats front end
-            ends back final
-      ])
-      | inr kept ↦ inr
-          (finish_kept config before (after ++ Event end ∷ []) elapsed stress test success failure statuses stats kept)
-    ]
+    back loads = grind (arith, or_cases, is_loaded, finish_at_once, finish_at_end, finish_kept)
 loaded_is_observed config before after elapsed other end ends front back loads = cc
 
 pub exact : (config : Configuration) → IsExact config (decider_of config)

@@ -1,4 +1,5 @@
 -- Swapping neighbours, and other statistics, do not change texts (for `run_report`).
+use Rattle.std.proofs.Common.{arith}
 use Rattle.std.proofs.Common.{◌≡◌, ◌<◌, List, [], ◌∷◌, ◌++◌, Option, None, Some, refl, sym, ap, ◌∙◌, subst, reverse}
 use Rattle.std.proofs.Common.{Ordering, Less, Equal, Greater}
 use Rattle.styled_text.specs.Names.{nat_cmp-IsAntisymmetric, slice_cmp-IsAntisymmetric, flat_map, lists_total}
@@ -22,11 +23,10 @@ use Rattle.console_reporter.proofs.lemmas.UninterruptedRuns.{uninterrupted_past,
 swapped : (front back : List FinalOutputEntry) (x y : FinalOutputEntry) (c : Ordering) → entry_cmp x y ≡ c
     → (entry_key x ≡ entry_key y → ⊥) →
     final_order (front ++ y ∷ x ∷ back) ≡ final_order (front ++ x ∷ y ∷ back)
-swapped front back x y Less is h = sym (order-swap is_before is_before-ranks front back x y (ap is_lt is))
+swapped front back x y Less is h = grind (arith, order-swap, is_before-ranks)
 swapped front back x y Equal is h = absurd
     (h (slice_cmp-IsAntisymmetric (slice_cmp-IsAntisymmetric nat_cmp-IsAntisymmetric) (entry_key x) (entry_key y) is))
-swapped front back x y Greater is h =
-    let other : entry_cmp y x ≡ Less = (lists_total nat_list_cmp_total).antisymm (entry_key y) (entry_key x)
+swapped front back x y Greater is h = let other = (lists_total nat_list_cmp_total).antisymm (entry_key y) (entry_key x)
     ∙ ap ordering_reverse is in
     order-swap is_before is_before-ranks front back y x (ap is_lt other)
 
@@ -35,13 +35,12 @@ apart : (front back : List FinalOutputEntry) (x y : Option FinalOutputEntry) →
     ≡ final_order (front ++ (option_to_list x ++ (option_to_list y ++ back)))
 apart front back None y h = refl
 apart front back (Some x) None h = refl
-apart front back (Some x) (Some y) h = swapped front back x y (entry_cmp x y) refl h
+apart front back (Some x) (Some y) h = grind (arith, swapped)
 
 -- the entry of a call is the same under each uninterrupted reason
 uninterrupted_after : (config : Configuration) (past : List ReportCall) (call : ReportCall) → cancel past < 5
     → uninterrupted_entries (settings_of config) call ≡ option_to_list (entry_after config past call)
-uninterrupted_after config past (Event e) h = ap option_to_list
-    (sym (uninterrupted_entry (settings_of config) (cancel past) e.kind h))
+uninterrupted_after config past (Event e) h = search uninterrupted_entry
 uninterrupted_after config past (Header k) h = refl
 uninterrupted_after config past (Prefix p) h = refl
 
@@ -51,11 +50,12 @@ exchanged : (s : Settings) (before after : List ReportCall) (first second : Repo
     → (AreOfOneKey x y → ⊥) →
     final_order (flat_map (uninterrupted_entries s) (before ++ second ∷ first ∷ after))
     ≡ final_order (flat_map (uninterrupted_entries s) (before ++ first ∷ second ∷ after))
-exchanged s before after first second x y is_first is_second h =
-    let f = uninterrupted_entries s in
-    ap final_order (flat_map-append f before (second ∷ first ∷ after))
-    ∙ rw (is_first, is_second) (apart (flat_map f before) (flat_map f after) x y h)
-    ∙ ap final_order (sym (flat_map-append f before (first ∷ second ∷ after)))
+exchanged s before after first second x y is_first is_second h = grind (
+  arith,
+  uninterrupted_entries,
+  flat_map-append,
+  apart,
+)
 
 pub order_independent : (config : Configuration) (calls : List ReportCall) → IsOrderIndependent config calls
 order_independent config calls before after first second end is ends uninterrupted differ =
@@ -80,9 +80,8 @@ order_independent config calls before after first second end is ends uninterrupt
 same-finished : (s : Settings) (elapsed : Nanos) (e : TestEventKind) (stats : RunStats) → s.counter_width ≡ None →
     IsSameEvent s (record { elapsed = elapsed; kind = e }) (record { elapsed = elapsed; kind = with_stats stats e })
 unfolding event_text
-same-finished s elapsed (TestFinished stress test success failure statuses old) stats none =
-    record { reason = refl; entry = λ before. rw none refl; text = λ known. rw none refl }
-same-finished s elapsed other stats none = record { reason = refl; entry = λ before. refl; text = λ known. refl }
+same-finished s elapsed (TestFinished stress test success failure statuses old) stats none = grind arith
+same-finished s elapsed other stats none = search
 
 pub stats_independent : (config : Configuration) (calls : List ReportCall) → IsStatsIndependent config calls
 stats_independent config calls before after e stats is none =

@@ -1,34 +1,32 @@
 -- What the decider skips is not shown (for `unload_skipped`, `DisplayReporter::output_load_decider`).
-use Rattle.reporter_state.specs.Names.{OutputTiming, Settings, netstring, record_text, is_stored, stored_output}
+use Rattle.std.proofs.Common.{arith}
+use Rattle.reporter_state.specs.Names.{OutputTiming, Settings, record_text, is_stored, stored_output}
 use Rattle.reporter_state.specs.Names.{StoreConfig, FinishReport, line_at_once, output_at_once, test_finish}
 use Rattle.reporter_state.specs.Names.{test_finished_text, attempt_failed_text, attempt_failed_line, failed_output}
 use Rattle.reporter_state.specs.Names.{is_failed_output_shown, AreAcceptedBy}
 use Rattle.reporter_state.specs.Names.{decider_by, event_refusal, first_refused, refusal_at_by, refusal_by}
 use Rattle.reporter_state.specs.Names.{final_output, is_kept, kept_entry, Finished, kept_test, load_if, loads_attempt}
 use Rattle.reporter_state.specs.Names.{loads_finish, loads_script, is_skip, is_skipped, unread, unread_call}
-use Rattle.std.proofs.Common.{◌≡◌, ℕ, Bool, true, false, not, Option, None, Some, List, [], ◌∷◌, ◌++◌, map, reverse}
-use Rattle.std.proofs.Common.{if◌then◌else◌, refl, sym, ap, ap₂, subst, ◌∙◌, inl, inr, codes, ◌||◌}
-use Rattle.styled_text.specs.Names.{position_or_len, slice_get, is_some, option_and_then, option_map, option_map_or}
+use Rattle.std.proofs.Common.{◌≡◌, ℕ, Bool, true, false, not, Option, None, Some, List, [], ◌∷◌, map, reverse}
+use Rattle.std.proofs.Common.{if◌then◌else◌, refl, sym, ap, subst, ◌∙◌, inl, inr}
+use Rattle.styled_text.specs.Names.{position_or_len, is_some, option_and_then, option_map}
 use Rattle.std.proofs.lemmas.{Bool.cases_Bool, Bool.or_parts, Bool.false≢true, Option.slice_get-map, List.length-map}
 use Rattle.std.proofs.lemmas.{List.map-append, List.reverse-append}
-use Rattle.run_model.specs.Names.{Attempt, Attempts, Written, is_immediate, is_final, has_loaded_output, case_of}
-use Rattle.run_model.specs.Names.{is_success, summary_of, unloaded_attempt, unloaded_attempts, unloaded_event}
+use Rattle.run_model.specs.Names.{Attempt, Attempts, is_final, case_of}
+use Rattle.run_model.specs.Names.{summary_of, unloaded_attempt, unloaded_attempts, unloaded_event}
 use Rattle.run_model.specs.Names.{unloaded_kind, unloaded_script, TestOutputDisplay, TestInstanceId, StressIndex, Nanos}
 use Rattle.text_parts.specs.Names.{TestEventKind, ChildOutputDescription, LiveSpec, RunStats, SetupScriptExecuteStatus}
-use Rattle.text_parts.specs.Names.{StatusSummary, ReportCall, display_for, short_word, display_of, is_ever_shown}
+use Rattle.text_parts.specs.Names.{ReportCall, display_for, display_of, is_ever_shown}
 use Rattle.text_parts.specs.Names.{timed_at_end, timed_at_once, is_level_shown, Script}
 use Rattle.run_model.specs.declared.event.TestEventKind.TheVariants.{SetupScriptFinished, TestAttemptFailedWillRetry}
 use Rattle.run_model.specs.declared.event.TestEventKind.TheVariants.{TestFinished}
 use Rattle.{reporter_state.specs.declared.final_output.FinalOutput.FinalOutput, report_words.specs.Parts.paint}
-use Rattle.{reporter_state.specs.declared.faults.WriteEventError.TheVariants.OutputNotLoaded}
-use Rattle.{reporter_state.specs.declared.faults.WriteEventError.TheVariants.RetriedSuccess}
 use Rattle.text_parts.specs.declared.finish.OutputTiming.TheVariants.{Hidden, Shown, ShownOnce}
 use Rattle.console_reporter.specs.Names.{failed_script_output, setup_script_finished_text, decider_of, Configuration}
-use Rattle.console_reporter.specs.Names.{settings_of, IsIsolated, event_text, script_by, record_of, records, stored}
+use Rattle.console_reporter.specs.Names.{settings_of, IsIsolated, event_text, record_of, records, stored}
 use Rattle.console_reporter.specs.Names.{stored_text, OutputLoadDecider}
 use Rattle.run_model.specs.declared.call.ReportCall.TheVariants.{Event, Header, Prefix}
 use Rattle.console_reporter.proofs.lemmas.Same.{AreSame, IsSameEvent, same-call, same-event, same-itself, same-report}
-use Rattle.run_names.specs.declared.level.StatusLevel.TheVariants as level
 
 -- the decision is Skip
 not_loaded : (b : Bool) → is_skip (Some (load_if b)) ≡ true → b ≡ false
@@ -40,20 +38,11 @@ never-at_once : (row : OutputTiming) (display : TestOutputDisplay) → is_ever_s
     → timed_at_once row display ≡ false
 unfolding timed_at_once
 never-at_once Hidden display h = refl
-never-at_once Shown display h = elim (cases_Bool (is_immediate display)) [
-  | inl y ↦ absurd (false≢true (sym (rw y at h)))
-  | inr n ↦ n
-]
-never-at_once ShownOnce display h = elim (cases_Bool (is_immediate display)) [
-  | inl y ↦ absurd (false≢true (sym (rw y at h)))
-  | inr n ↦ n
-]
+never-at_once Shown display h = grind arith
+never-at_once ShownOnce display h = grind arith
 
 never-final : (display : TestOutputDisplay) → is_ever_shown display ≡ false → is_final display ≡ false
-never-final display h = elim (cases_Bool (is_immediate display)) [
-  | inl y ↦ absurd (false≢true (sym (rw y at h)))
-  | inr n ↦ rw n at h
-]
+never-final display h = grind arith
 
 never-at_end : (row : OutputTiming) (display : TestOutputDisplay) → is_ever_shown display ≡ false
     → timed_at_end row display ≡ false
@@ -100,15 +89,7 @@ module _ (s : Settings) (stress : Option StressIndex) (test : TestInstanceId) (s
   finish-unloaded : (reason : ℕ)
       → test_finish s reason stress test success failure (unloaded_attempts statuses) stats ≡ record (finish reason)
       { last = unloaded_attempt statuses.last }
-  finish-unloaded reason =
-      ap (λ (x : StatusSummary). record {
-        test = (finish reason).test;
-        display = display_of s success failure x;
-        row = (finish reason).row;
-        summary = x;
-        last = unloaded_attempt statuses.last;
-      })
-      (unloaded-summary statuses)
+  finish-unloaded reason = search unloaded-summary
 
   never-shown : (reason : ℕ) → is_ever_shown (finish reason).display ≡ false
   unfolding display_of
@@ -135,14 +116,7 @@ never-attempt : (s : Settings) (stress : Option StressIndex) (test : TestInstanc
     paint s.styles (attempt_failed_text s stress test (unloaded_attempt x) delay failure)
     ≡ paint s.styles (attempt_failed_text s stress test x delay failure)
 unfolding attempt_failed_text attempt_failed_line failed_output is_level_shown is_failed_output_shown
-never-attempt s stress test x delay failure never =
-    elim (cases_Bool (is_level_shown s level.Retry)) [
-      | inl shown ↦ elim (cases_Bool (is_failed_output_shown s failure)) [
-        | inl at_once ↦ absurd (false≢true (sym (rw (shown, at_once) at never)))
-        | inr none ↦ rw none refl
-      ]
-      | inr hidden ↦ rw hidden refl
-    ]
+never-attempt s stress test x delay failure never = grind arith
 
 -- a setup script that succeeded
 never-script : (s : Settings) (script : Script) (x : SetupScriptExecuteStatus LiveSpec ChildOutputDescription)
@@ -150,27 +124,18 @@ never-script : (s : Settings) (script : Script) (x : SetupScriptExecuteStatus Li
     paint s.styles (setup_script_finished_text s script (unloaded_script x))
     ≡ paint s.styles (setup_script_finished_text s script x)
 unfolding setup_script_finished_text failed_script_output
-never-script s script x never = elim (cases_Bool (is_success x.result)) [
-  | inl y ↦ rw y refl
-  | inr n ↦ absurd (false≢true (sym (rw n at never)))
-]
+never-script s script x never = grind arith
 
 -- an event whose output the decider skips is the same to a report without that output
 pub same-unloaded : (s : Settings) (store : Option StoreConfig) (elapsed : Nanos) (e : TestEventKind)
     → is_skipped (decider_by s store) e ≡ true →
     IsSameEvent s (record { elapsed = elapsed; kind = e }) (record { elapsed = elapsed; kind = unloaded_kind e })
 unfolding event_text
-same-unloaded s store elapsed (SetupScriptFinished stress id program args status) h = record {
-  reason = refl;
-  entry = λ before. refl;
-  text = λ known. never-script s (script_by stress id program args) status (not_loaded (loads_script status.result) h);
-}
-same-unloaded s store elapsed (TestAttemptFailedWillRetry stress test status delay failure) h = record {
-  reason = refl;
-  entry = λ before. refl;
-  text = λ known. never-attempt s stress test status delay.0 failure
-      (not_loaded (loads_attempt (decider_by s store) failure) h);
-}
+same-unloaded s store elapsed (SetupScriptFinished stress id program args status) h = search (never-script, not_loaded)
+same-unloaded s store elapsed (TestAttemptFailedWillRetry stress test status delay failure) h = search (
+  never-attempt,
+  not_loaded,
+)
 same-unloaded s store elapsed (TestFinished stress test success failure statuses stats) h =
     same-finish s stress test success failure statuses stats
     (or_parts _ _ (not_loaded (loads_finish (decider_by s store) success failure (summary_of statuses)) h)).0
@@ -190,45 +155,19 @@ same-calls config (Event e ∷ calls) =
           (same-unloaded (settings_of config) config.store e.elapsed e.kind y))
       | inr n ↦ rw n (same-call config calls (unread d calls) all (Event e))
     ]
-same-calls config (Header h ∷ calls) = same-call config calls (unread (decider_of config) calls)
-    (same-calls config calls) (Header h)
-same-calls config (Prefix p ∷ calls) = same-call config calls (unread (decider_of config) calls)
-    (same-calls config calls) (Prefix p)
-
--- what is not needed is not missing
-none-needed : (is_needed : Bool) (output : Written) → is_needed ≡ false →
-    option_map_or (λ (o : Written). not (has_loaded_output o)) (if is_needed then Some output else None) false ≡ false
-none-needed is_needed output h = rw h refl
+same-calls config (Header h ∷ calls) = search (same-call, same-calls config calls)
+same-calls config (Prefix p ∷ calls) = search (same-call, same-calls config calls)
 
 -- the refusal of an event does not depend on its skipped output
 same-refusal : (d : OutputLoadDecider) (e : TestEventKind) → is_skipped d e ≡ true
     → event_refusal d (unloaded_kind e) ≡ event_refusal d e
-same-refusal d (SetupScriptFinished stress id program args status) h =
-    let never = not_loaded (loads_script status.result) h in
-    ap (λ (lacks : Bool). if lacks then Some OutputNotLoaded else None)
-    (none-needed (loads_script status.result) (unloaded_script status).output never
-    ∙ sym (none-needed (loads_script status.result) status.output never))
-same-refusal d (TestAttemptFailedWillRetry stress test status delay failure) h =
-    let never = not_loaded (loads_attempt d failure) h in
-    ap
-    (λ (lacks : Bool). if is_success status.result then Some RetriedSuccess else
-    (if lacks then Some OutputNotLoaded else None))
-    (none-needed (loads_attempt d failure) (unloaded_attempt status).output never
-    ∙ sym (none-needed (loads_attempt d failure) status.output never))
-same-refusal d (TestFinished stress test success failure statuses stats) h =
-    let never = not_loaded (loads_finish d success failure (summary_of statuses)) h in
-    let also = ap (loads_finish d success failure) (unloaded-summary statuses) ∙ never in
-    ap (λ (lacks : Bool). if lacks then Some OutputNotLoaded else None)
-    (none-needed (loads_finish d success failure (summary_of (unloaded_attempts statuses)))
-    (unloaded_attempts statuses).last.output also
-    ∙ sym (none-needed (loads_finish d success failure (summary_of statuses)) statuses.last.output never))
+same-refusal d (SetupScriptFinished stress id program args status) h = grind arith
+same-refusal d (TestAttemptFailedWillRetry stress test status delay failure) h = grind arith
+same-refusal d (TestFinished stress test success failure statuses stats) h = grind arith
 same-refusal d other h = absurd (false≢true h)
 
 same-call-refusal : (d : OutputLoadDecider) (call : ReportCall) → refusal_by d (unread_call d call) ≡ refusal_by d call
-same-call-refusal d (Event e) = elim (cases_Bool (is_skipped d e.kind)) [
-  | inl y ↦ rw y (same-refusal d e.kind y)
-  | inr n ↦ rw n refl
-]
+same-call-refusal d (Event e) = grind (arith, same-refusal)
 same-call-refusal d (Header k) = refl
 same-call-refusal d (Prefix p) = refl
 
@@ -236,11 +175,11 @@ same-len : (d : OutputLoadDecider) (calls : List ReportCall) →
     position_or_len (λ call. is_some (refusal_by d call)) (unread d calls)
     ≡ position_or_len (λ call. is_some (refusal_by d call)) calls
 same-len d [] = refl
-same-len d (call ∷ calls) = rw (same-call-refusal d call, same-len d calls) refl
+same-len d (call ∷ calls) = search (same-call-refusal, same-len d calls)
 
 same-first : (d : OutputLoadDecider) (calls : List ReportCall)
     → first_refused d (unread d calls) ≡ first_refused d calls
-same-first d calls = rw (same-len d calls, length-map calls (unread_call d)) refl
+same-first d calls = search (same-len, length-map)
 
 same-refusal-in : (d : OutputLoadDecider) (o : Option ReportCall)
     → option_and_then (refusal_by d) (option_map (unread_call d) o) ≡ option_and_then (refusal_by d) o
@@ -249,20 +188,23 @@ same-refusal-in d (Some call) = same-call-refusal d call
 
 same-refusal-at : (d : OutputLoadDecider) (calls : List ReportCall) (i : ℕ)
     → refusal_at_by d (unread d calls) i ≡ refusal_at_by d calls i
-same-refusal-at d calls i = ap (option_and_then (refusal_by d)) (slice_get-map (unread_call d) calls i)
-    ∙ same-refusal-in d (slice_get calls i)
+same-refusal-at d calls i = search (slice_get-map, same-refusal-in)
 
 all-accepted : (d : OutputLoadDecider) (calls : List ReportCall) → AreAcceptedBy d calls
     → AreAcceptedBy d (unread d calls)
 all-accepted d [] h = tt
-all-accepted d (call ∷ calls) h = (same-call-refusal d call ∙ h.0, all-accepted d calls h.1)
+all-accepted d (call ∷ calls) h = search (same-call-refusal, all-accepted d calls h.1)
 
 pub map_reverse : {X Y : Type 0} (f : X → Y) (xs : List X) → map f (reverse xs) ≡ reverse (map f xs)
 map_reverse f [] = refl
-map_reverse f (x ∷ xs) =
-    ap (map f) (reverse-append (x ∷ []) xs) ∙ map-append f (reverse xs) (x ∷ [])
-    ∙ ap (λ ys. ys ++ f x ∷ []) (map_reverse f xs)
-    ∙ sym (reverse-append (f x ∷ []) (map f xs))
+map_reverse f (x ∷ xs) = rw (
+  reverse-append (x ∷ []) xs,
+  reverse-append (f x ∷ []) (map f xs),
+  map-append f (reverse xs)
+      (x ∷ []),
+  reverse xs,
+  map_reverse f xs,
+)
 
 -- like `same-calls`, for the calls in reverse, as a past has them
 same-past : (config : Configuration) (d : OutputLoadDecider) (calls : List ReportCall) → decider_of config ≡ d
@@ -281,15 +223,13 @@ pub same-record : (s : Settings) (store : Option StoreConfig) (e : TestEventKind
     → is_skipped (decider_by s store) e ≡ true → record_of store (unloaded_kind e) ≡ record_of store e
 unfolding record_text
 same-record s None e h = refl
-same-record s (Some store) (TestFinished stress test success failure statuses stats) h =
-    let never = (or_parts _ _
-    (not_loaded (loads_finish (decider_by s (Some store)) success failure (summary_of statuses)) h)).1 in
-    let also = ap (λ (x : StatusSummary). is_stored store x.case) (unloaded-summary statuses) ∙ never in
-    ap
-    (λ o. netstring test.binary_id.now
-    ++ (netstring test.test_name.now
-    ++ (netstring (short_word statuses.last.result) ++ (netstring o ++ codes "\n"))))
-    (stored_none store (unloaded_attempts statuses) also ∙ sym (stored_none store statuses never))
+same-record s (Some store) (TestFinished stress test success failure statuses stats) h = grind (
+  arith,
+  or_parts,
+  not_loaded,
+  unloaded-summary,
+  stored_none,
+)
 same-record s (Some store) (SetupScriptFinished stress id program args status) h = refl
 same-record s (Some store) (TestAttemptFailedWillRetry stress test status delay failure) h = refl
 same-record s (Some store) other h = absurd (false≢true h)
@@ -307,12 +247,12 @@ same-stored-text config (Prefix p) = refl
 same-records : (config : Configuration) (calls : List ReportCall)
     → records config.store (unread (decider_of config) calls) ≡ records config.store calls
 same-records config [] = refl
-same-records config (call ∷ calls) = ap₂ (λ t ts. t ∷ ts) (same-stored-text config call) (same-records config calls)
+same-records config (call ∷ calls) = search (same-stored-text, same-records config calls)
 
 same-stored : (config : Configuration) (past : List ReportCall)
     → stored config.store (unread (decider_of config) past) ≡ stored config.store past
 same-stored config [] = refl
-same-stored config (call ∷ past) = ap₂ (λ t u. t ++ u) (same-stored config past) (same-stored-text config call)
+same-stored config (call ∷ past) = search (same-stored-text, same-stored config past)
 
 pub isolated : (d : OutputLoadDecider) (calls : List ReportCall) → IsIsolated d calls (unread d calls)
 isolated d calls = (

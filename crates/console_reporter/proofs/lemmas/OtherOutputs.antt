@@ -1,6 +1,6 @@
 -- Outputs "a" and "b" are shown as different texts, wherever an output is shown (for the lemmas of Exactness).
-use Rattle.std.proofs.Common.{◌≢◌, ◌≡◌, ℕ, zero, suc, ◌<◌, Bool, true, false, [], ◌∷◌, ◌++◌, refl, sym, ◌∙◌, ap, arith}
-use Rattle.std.proofs.Common.{get_or, inl, inr, append_assoc, None, codes, lit<}
+use Rattle.std.proofs.Common.{◌≢◌, ◌≡◌, ℕ, zero, suc, ◌<◌, Bool, true, false, [], ◌∷◌, ◌++◌, refl, arith}
+use Rattle.std.proofs.Common.{inl, inr, append_assoc, None, codes, lit<}
 use Rattle.styled_text.specs.Names.{IsAscii, without_trailing_newline, visible_after, indent, plain, Text}
 use Rattle.{report_words.specs.Names.Styles, report_words.specs.Names.paint}
 use Rattle.{run_names.specs.declared.unit.UnitKind.UnitKind, run_model.proofs.lemmas.Decoded.decoded-same}
@@ -16,14 +16,10 @@ shown no_indent s t = indent (output_margin no_indent) true (captured s t None)
 shown_differ : (no_indent : Bool) (s : Styles) (c : Bool) → s.is_colorized ≡ c
     → shown no_indent s (codes "a") ≢ shown no_indent s (codes "b")
 unfolding indent captured coloured_output plain_output reset_output without_trailing_newline visible_after
-shown_differ true s true is e = let f = rw is at e in let h : ◌≡◌ {A = ℕ} 97 98 = ap (λ l. get_or l 0 0) f in absurd
-    (omega arith)
-shown_differ true s false is e = let f = rw is at e in let h : ◌≡◌ {A = ℕ} 97 98 = ap (λ l. get_or l 0 0) f in absurd
-    (omega arith)
-shown_differ false s true is e = let f = rw is at e in let h : ◌≡◌ {A = ℕ} 97 98 = ap (λ l. get_or l 4 0) f in absurd
-    (omega arith)
-shown_differ false s false is e = let f = rw is at e in let h : ◌≡◌ {A = ℕ} 97 98 = ap (λ l. get_or l 4 0) f in absurd
-    (omega arith)
+shown_differ true s true is e = grind arith
+shown_differ true s false is e = grind arith
+shown_differ false s true is e = grind arith
+shown_differ false s false is e = grind arith
 
 pub ascii : (b : ℕ) → b < 128 → IsAscii (b ∷ [])
 ascii b h zero = h
@@ -50,8 +46,7 @@ module _ (s : Settings) (kind : UnitKind) (is_retry : Bool) (x : ExecutionResult
 
   pub outputs_differ : paint s.styles (unit_output s kind is_retry x (combined (codes "a"))) ≢ paint s.styles
       (unit_output s kind is_retry x (combined (codes "b")))
-  outputs_differ e =
-      let place = output-place in
+  outputs_differ e = let place = output-place in
       shown_differ s.no_output_indent s.styles s.styles.is_colorized refl
       (append_cancel_right _ _ place.1
-      (append_cancel_left place.0 _ _ (sym (place.2 97 (lit< tt)) ∙ e ∙ place.2 98 (lit< tt))))
+      (append_cancel_left place.0 _ _ (grind arith)))

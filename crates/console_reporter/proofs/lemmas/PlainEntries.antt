@@ -1,15 +1,16 @@
 -- The entries of the calls, and what is given for them (for `free-event_parts`).
-use Rattle.std.proofs.Common.{◌≡◌, ℕ, Bool, true, false, cond, refl, List, [], ◌∷◌, ◌++◌, Option, None, Some, ap₂}
+use Rattle.std.proofs.Common.{arith}
+use Rattle.std.proofs.Common.{◌≡◌, ℕ, Bool, true, false, cond, refl, List, [], ◌∷◌, ◌++◌, Option, None, Some}
 use Rattle.report_words.specs.Names.{Styles, HoldsIf, paint}
 use Rattle.{styled_text.specs.Names.AllByRecursion, styled_text.specs.Names.option_to_list}
 use Rattle.{reporter_state.proofs.lemmas.Keys.is_before-ranks, reporter_state.proofs.lemmas.Orders.All-ordered_by}
 use Rattle.text_parts.specs.Names.{TestEventKind, ReportCall, IsPlainResult, IsPlainWritten, unit_output, display_of}
-use Rattle.text_parts.specs.Names.{is_final_wanted, timed_at_end}
+use Rattle.text_parts.specs.Names.{is_final_wanted}
 use Rattle.run_model.specs.declared.call.ReportCall.TheVariants.{Event, Header, Prefix}
 use Rattle.run_model.specs.declared.{event.TestEventKind.TheVariants.TestFinished}
 use Rattle.run_model.specs.declared.{event.TestEventKind.TheVariants.TestSkipped}
 use Rattle.reporter_state.specs.Names.{CountedInstance, Settings, FinishReport, test_finish, final_output}
-use Rattle.reporter_state.specs.Names.{finished_entry, is_kept, is_skip_kept, entry_of, cancel, prefix, kept}
+use Rattle.reporter_state.specs.Names.{finished_entry, is_kept, entry_of, prefix, kept}
 use Rattle.reporter_state.specs.Names.{final_order, is_before, final_text, entries_text, borrowed_test}
 use Rattle.reporter_state.specs.declared.final_output.FinalOutput.TheVariants.{Executed, ExecutedWithOutput, Skipped}
 use Rattle.reporter_state.specs.declared.final_output.{FinalOutput.FinalOutput, FinalOutputEntry.FinalOutputEntry}
@@ -17,11 +18,10 @@ use Rattle.{report_words.proofs.lemmas.PartsInColour.AreFree}
 use Rattle.{text_parts.proofs.lemmas.OutputColourPairs.free-unit_output}
 use Rattle.{test_text.specs.declared.status_line.StatusLineKind.TheVariants.Final}
 use Rattle.{test_text.proofs.lemmas.FreeTests.free-skip_line}
-use Rattle.text_parts.proofs.lemmas.LineColourPairs.{painted, IsPlainTest, plain-finished_counter, plain-padded}
+use Rattle.text_parts.proofs.lemmas.LineColourPairs.{painted, IsPlainTest}
 use Rattle.console_reporter.specs.Names.{IsPlainPrefix, IsPlainKind, IsPlainCall}
 use Rattle.{test_text.proofs.lemmas.FreeStatusLines.IsPlainFinish}
 use Rattle.{test_text.proofs.lemmas.FreeStatusLines.free-status_line}
-use Rattle.run_names.specs.declared.unit.UnitKind.TheVariants as unit
 
 -- an entry holds no escape character, except in an output that may
 abbrev IsPlainFinal : Bool → FinalOutput → Type 0
@@ -36,15 +36,13 @@ free-final_text : (k : Bool) (s : Settings) (test : CountedInstance) (x : FinalO
     → IsPlainFinal k x → AreFree k (final_text s test x)
 unfolding final_text
 free-final_text k s test (Executed summary) h j = free-status_line k Final test summary h j
-free-final_text k s test (ExecutedWithOutput summary output) h j =
-    (free-status_line k Final test summary h j.0, free-unit_output k s unit.Test false summary.result output j.0 j.1)
+free-final_text k s test (ExecutedWithOutput summary output) h j = search (free-status_line, free-unit_output)
 free-final_text k s test Skipped h j = free-skip_line k test h
 
 pub free-entries_text : (k : Bool) (s : Settings) (es : List FinalOutputEntry) → AllByRecursion (IsPlainEntry k) es
     → AreFree k (entries_text s es)
 free-entries_text k s [] h = tt
-free-entries_text k s (e ∷ es) h =
-    (free-final_text k s (borrowed_test e.test) e.output h.0.0 h.0.1, free-entries_text k s es h.1)
+free-entries_text k s (e ∷ es) h = search (free-final_text, free-entries_text k s es h.1)
 
 -- lists of what is plain
 pub All-append : {X : Type 0} (P : X → Type 0) (xs ys : List X) → AllByRecursion P xs → AllByRecursion P ys
@@ -60,11 +58,7 @@ All-final_order P es h = All-ordered_by is_before is_before-ranks P es h
 -- the entry of a finished test
 plain-finished : (k : Bool) (f : FinishReport) → IsPlainFinish k f → IsPlainFinal k (final_output f)
 unfolding final_output
-plain-finished k f h = go (timed_at_end f.row f.display)
-  where
-    go : (b : Bool) → IsPlainFinal k (cond b (ExecutedWithOutput f.summary f.last.output) (Executed f.summary))
-    go true = (h.summary, h.output)
-    go false = h.summary
+plain-finished k f h = grind arith
 
 -- an entry, if it is kept
 abbrev entry_if : Bool → FinalOutputEntry → Option FinalOutputEntry
@@ -80,8 +74,7 @@ pub plain-test_finish : (k : Bool) (s : Settings) (reason : ℕ) (stress : _) (i
     (statuses : _) (stats : _)
     → IsPlainKind k (TestFinished stress instance success failure statuses stats)
     → IsPlainFinish k (test_finish s reason stress instance success failure statuses stats)
-plain-test_finish k s reason stress instance success failure statuses stats h =
-    record { test = (plain-finished_counter s stats, h.0); summary = h.1.0; last = h.1.0; output = h.1.1 }
+plain-test_finish k s reason stress instance success failure statuses stats h = grind arith
 
 plain-entry_of : (k : Bool) (s : Settings) (reason : ℕ) (e : TestEventKind) → IsPlainKind k e
     → AllByRecursion (IsPlainEntry k) (option_to_list (entry_of s reason e))
@@ -89,16 +82,14 @@ plain-entry_of k s reason (TestFinished stress instance success failure statuses
     let f = test_finish s reason stress instance success failure statuses stats in
     let all = plain-test_finish k s reason stress instance success failure statuses stats h in
     plain-entry_if k (is_kept s f) (finished_entry f) (all.test, plain-finished k f all)
-plain-entry_of k s reason (TestSkipped stress instance) h = plain-entry_if k (is_skip_kept s) _
-    (plain-padded s stress instance h, tt)
+plain-entry_of k s reason (TestSkipped stress instance) h = grind arith
 plain-entry_of k s reason other h = tt
 
 pub plain-kept : (k : Bool) (s : Settings) (past : List ReportCall) → AllByRecursion (IsPlainCall k) past
     → AllByRecursion (IsPlainEntry k) (kept s past)
 unfolding kept
 plain-kept k s [] h = tt
-plain-kept k s (Event e ∷ past) h = All-append (IsPlainEntry k) (kept s past) _ (plain-kept k s past h.1)
-    (plain-entry_of k s (cancel past) e.kind h.0)
+plain-kept k s (Event e ∷ past) h = search (All-append, plain-entry_of, plain-kept k s past h.1)
 plain-kept k s (Header x ∷ past) h = plain-kept k s past h.1
 plain-kept k s (Prefix p ∷ past) h = plain-kept k s past h.1
 
@@ -113,8 +104,7 @@ same-entry_of s reason other = refl
 pub same-kept : (s : Settings) (past : List ReportCall) → kept (painted true s) past ≡ kept (painted false s) past
 unfolding kept
 same-kept s [] = refl
-same-kept s (Event e ∷ past) = ap₂ (λ es o. es ++ option_to_list o) (same-kept s past)
-    (same-entry_of s (cancel past) e.kind)
+same-kept s (Event e ∷ past) = search (same-entry_of, same-kept s past)
 same-kept s (Header x ∷ past) = same-kept s past
 same-kept s (Prefix p ∷ past) = same-kept s past
 
@@ -129,8 +119,7 @@ same-final b t s test Skipped = refl
 pub same-entries : (b : Bool) (t : Styles) (s : Settings) (es : List FinalOutputEntry)
     → paint t (entries_text (painted b s) es) ≡ paint t (entries_text s es)
 same-entries b t s [] = refl
-same-entries b t s (e ∷ es) = ap₂ (λ x y. x ++ y) (same-final b t s (borrowed_test e.test) e.output)
-    (same-entries b t s es)
+same-entries b t s (e ∷ es) = search (same-final, same-entries b t s es)
 
 -- the current prefix
 pub plain-prefix : (k : Bool) (past : List ReportCall) → AllByRecursion (IsPlainCall k) past

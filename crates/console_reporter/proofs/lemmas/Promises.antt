@@ -1,32 +1,18 @@
 -- What each call promises, by how it ends (for `DisplayReporter::write_event`, `DisplayReporter::write_replay_header`,
 -- `DisplayReporter::copy_prefix`, `DisplayReporter::finish`).
-use Rattle.std.proofs.Common.{◌≡◌, ◌⊎◌, Bool, true, false, inl, inr, List, [], Option, None, Some, IfSome, Ok, Err}
-use Rattle.std.proofs.Common.{refl, ap, ap₂, sym, subst, ◌∙◌}
+use Rattle.std.proofs.Common.{arith}
+use Rattle.std.proofs.Common.{◌≡◌, ◌⊎◌, Bool, true, false, List, Option, None, Some, IfSome, Ok, Err}
+use Rattle.std.proofs.Common.{refl, ap, ap₂, ◌∙◌}
 use Rattle.styled_text.specs.Names.{is_some, Text, Meaning, WriterLaws}
 use Rattle.console_reporter.specs.Names.{Configuration, config_of, HasFailed, MayGrowIn, StandsAfter, HasFront}
 use Rattle.console_reporter.specs.Names.{AreDelivered, Breaks, IsDelivered, IsNeverRefused, IsSameReporter, Promises}
 use Rattle.console_reporter.specs.Names.{Tells, refusal_for, DisplayReporter, WriteEventError}
-use Rattle.console_reporter.proofs.lemmas.{Refusals.breaks_refused, Refusals.not_refused, Refusals.told_none}
-use Rattle.console_reporter.proofs.lemmas.{Stores.same-store, Stores.store-laws, Texts.of_lines-told}
+use Rattle.console_reporter.proofs.lemmas.{Refusals.not_refused, Refusals.told_none}
+use Rattle.console_reporter.proofs.lemmas.{Texts.of_lines-told}
 use Rattle.reporter_state.specs.Refusals.{decider_by, event_refusal, refusal_in}
 use Rattle.{text_parts.specs.Names.ReportCall, text_parts.specs.Names.TestEvent}
 use Rattle.{run_model.specs.declared.call.ReportCall.TheVariants.Event}
 use Rattle.reporter_state.specs.declared.faults.WriteEventError.TheVariants.{Failed, Io, Memory, StoreIo}
-
-failed_not_io : Failed ≡ Io → ⊥
-failed_not_io is = cc
-
-failed_not_store_io : Failed ≡ StoreIo → ⊥
-failed_not_store_io is = cc
-
-failed_not_memory : Failed ≡ Memory → ⊥
-failed_not_memory is = cc
-
-memory_not_io : Memory ≡ Io → ⊥
-memory_not_io is = cc
-
-memory_not_store_io : Memory ≡ StoreIo → ⊥
-memory_not_store_io is = cc
 
 not_both : (b : Bool) → b ≡ false → b ≡ true → ⊥
 not_both b is_false is_true = cc
@@ -40,7 +26,7 @@ pub failed_stands : {W S : Type 0} (config : Configuration) (past : List ReportC
 failed_stands config past reporter failed stands = not_both _ stands.works failed
 
 pub same-reporter : {W S : Type 0} (a : DisplayReporter W S) → IsSameReporter a a
-same-reporter a = record { writer = refl; store = same-store a.store; settings = refl }
+same-reporter a = grind arith
 
 module _ {W S : Type 0} (m : Meaning W) (n : Meaning S) (old new : DisplayReporter W S) (call : Option ReportCall) where
   -- a reporter that has failed only has to say so and not change
@@ -49,15 +35,7 @@ module _ {W S : Type 0} (m : Meaning W) (n : Meaning S) (old new : DisplayReport
     same = same-reporter old;
     ok = tt;
     delivered = λ before. tt;
-    err = record {
-      stopped = λ config past stands. absurd (failed_stands config past old failed stands);
-      store_stopped = λ config past stands. absurd (failed_stands config past old failed stands);
-      order = λ config past stands. absurd (failed_stands config past old failed stands);
-      io = λ is. absurd (failed_not_io is);
-      store_io = λ is. absurd (failed_not_store_io is);
-      memory = λ is. absurd (failed_not_memory is);
-      delivered = λ is. absurd (failed_not_store_io is);
-    };
+    err = grind arith;
     lines = λ config past. of_lines-told config past call;
     refused = λ config past stands. absurd (failed_stands config past old failed stands);
     unrefused = λ never. refl;
@@ -75,7 +53,7 @@ module _ {W S : Type 0} (m : Meaning W) (n : Meaning S) (old new : DisplayReport
     same = same-reporter old;
     ok = tt;
     delivered = λ before. tt;
-    err = breaks_refused m n old call e is;
+    err = grind arith;
     lines = λ config past. of_lines-told config past call;
     refused = λ config past stands. is ∙ why config past stands;
     unrefused = λ never. absurd (may never);
@@ -119,36 +97,18 @@ module _ {W S : Type 0} (m : Meaning W) (n : Meaning S) (old new : DisplayReport
       failed = λ before. absurd (not_both _ works before);
     }
 
--- nothing was accepted of a text that was not begun
-nothing_accepted : {S : Type 0} {m : Meaning S} → WriterLaws m → (a b : S) (t : Text) → b ≡ a → HasFront m a t b
-nothing_accepted {S} {m} laws a b t same = record {
-  front = [];
-  rest = t;
-  whole = refl;
-  accepted = subst (λ x. m.accepts a [] x) (sym same) (laws.nothing a);
-}
-
 -- memory is refused to the reporter itself before a byte of a call is written
 pub memory_broken : {W S : Type 0} {m : Meaning W} {n : Meaning S} → WriterLaws m → WriterLaws n
     → (old new : DisplayReporter W S) (call : ReportCall) →
     MayGrowIn old call → new.writer.now ≡ old.writer.now → new.store ≡ old.store → Breaks m n old (Some call) Memory new
-memory_broken {W} {S} {m} {n} laws store_laws old new call grows same same_store = record {
-  stopped = λ config past stands. inr (nothing_accepted laws _ _ _ same);
-  store_stopped = λ config past stands. inr (nothing_accepted (store-laws store_laws) _ _ _ same_store);
-  order = λ config past stands. inl same_store;
-  io = λ is. absurd (memory_not_io is);
-  store_io = λ is. absurd (memory_not_store_io is);
-  memory = λ is. inr (inl grows);
-  delivered = λ is. absurd (memory_not_store_io is);
-}
+memory_broken {W} {S} {m} {n} laws store_laws old new call grows same same_store = grind arith
 
 -- an event that the reporter accepts is accepted by every configuration that it can have
 pub event_accepted : {W S : Type 0} (reporter : DisplayReporter W S) (event : TestEvent)
     → event_refusal (decider_by reporter.state.settings (config_of reporter.store)) event.kind ≡ None →
     (config : Configuration) (past : List
     ReportCall) → StandsAfter config past reporter → None ≡ refusal_for config (Some (Event event))
-event_accepted reporter event none config past stands = sym none
-    ∙ ap (λ d. event_refusal d event.kind) (ap₂ decider_by stands.settings stands.store)
+event_accepted reporter event none config past stands = cc
 
 -- an event that the reporter refuses changes nothing
 pub event_refused : {W S : Type 0} (m : Meaning W) (n : Meaning S) (reporter : DisplayReporter W S) (event : TestEvent)

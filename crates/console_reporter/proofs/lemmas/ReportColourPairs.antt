@@ -1,15 +1,16 @@
 -- The report in colour and plain (for `run_report`).
+use Rattle.std.proofs.Common.{arith}
 use Rattle.reporter_state.specs.Names.{Settings, line_at_once, output_at_once, test_finished_text, attempt_failed_text}
 use Rattle.reporter_state.specs.Names.{failed_output, is_failed_output_shown, test_skipped_text, has_number}
 use Rattle.reporter_state.specs.Names.{is_level_exceeded, slow_text, terminating_text, terminating_word, test_slow_text}
 use Rattle.reporter_state.specs.Names.{command_text}
-use Rattle.console_reporter.specs.Names.{IsPlainPrefix, replay_header_text, failed_script_output}
+use Rattle.console_reporter.specs.Names.{IsPlainPrefix, failed_script_output}
 use Rattle.console_reporter.specs.Names.{setup_script_finished_text, setup_script_slow_text, run_started_text}
 use Rattle.console_reporter.specs.Names.{starting_line, info_response_text, script_answer, test_answer, unit_answer}
 use Rattle.console_reporter.specs.Names.{valid_output, in_colour, ColourLaw, Configuration}
-use Rattle.std.proofs.Common.{◌≡◌, ℕ, zero, suc, Bool, true, false, refl, sym, subst, List, [], ◌∷◌, Option, None, Some}
+use Rattle.std.proofs.Common.{◌≡◌, ℕ, zero, suc, Bool, true, false, refl, sym, subst, List, [], ◌∷◌}
 use Rattle.std.proofs.Common.{take, reverse, slice_get}
-use Rattle.styled_text.specs.Names.{AllByRecursion, option_map_or, HasNoEscape, styles_of}
+use Rattle.styled_text.specs.Names.{AllByRecursion, HasNoEscape, styles_of}
 use Rattle.report_words.specs.Names.{Styles, HoldsIf, IsColourPair, paint}
 use Rattle.{std.proofs.lemmas.List.reverse-append, text_parts.proofs.lemmas.LineColourPairs.painted}
 use Rattle.{test_text.proofs.lemmas.FreeStatusLines.free-test_finished_text}
@@ -31,8 +32,8 @@ use Rattle.reporter_state.specs.Names.{prefix, kept, final_order}
 use Rattle.test_text.proofs.lemmas.FreeTests.{free-test_started_text, free-test_slow_text, free-attempt_failed_text}
 use Rattle.test_text.proofs.lemmas.FreeTests.{free-test_retry_started_text, free-test_skipped_text}
 use Rattle.console_reporter.specs.Names.{settings_of, IsPlainConfiguration, IsPlainKind, IsPlainCall, ArePlain}
-use Rattle.console_reporter.specs.Names.{IsPlainReport, PlainLaw, Known, script_by, listed_text, event_parts}
-use Rattle.console_reporter.specs.Names.{event_text, text, report, past_at, text_at}
+use Rattle.console_reporter.specs.Names.{IsPlainReport, PlainLaw, Known, listed_text, event_parts}
+use Rattle.console_reporter.specs.Names.{event_text, text, report, text_at}
 use Rattle.run_text.proofs.lemmas.FreeRuns.{free-not_seen_text, free-replay_header_text, free-run_started_text}
 use Rattle.run_text.proofs.lemmas.FreeRuns.{free-setup_script_finished_text, free-setup_script_slow_text}
 use Rattle.run_text.proofs.lemmas.FreeRuns.{free-setup_script_started_text}
@@ -50,29 +51,28 @@ free-event_parts : (k : Bool) (s : Settings) (known : Known) (elapsed : ℕ) (e 
     → HasNoEscape s.default_filter.profile → IsPlainKnown k known → IsPlainKind k e
     → AreFree k (event_parts s known elapsed e)
 unfolding listed_text
-free-event_parts k s known elapsed (RunStarted counts id profile) c p h = free-run_started_text k s known.prefix counts
-    id profile c p.prefix h
+free-event_parts k s known elapsed (RunStarted counts id profile) c p h = search free-run_started_text
 free-event_parts k s known elapsed (SetupScriptStarted stress index total id program args) c p h =
-    free-setup_script_started_text k index total (script_by stress id program args) h
-free-event_parts k s known elapsed (SetupScriptSlow stress id program args taken b) c p h = free-setup_script_slow_text
-    k s (script_by stress id program args) taken.0 b h
+    search free-setup_script_started_text
+free-event_parts k s known elapsed (SetupScriptSlow stress id program args taken b) c p h =
+    search free-setup_script_slow_text
 free-event_parts k s known elapsed (SetupScriptFinished stress id program args status) c p h =
-    free-setup_script_finished_text k s (script_by stress id program args) status h.0 h.1
-free-event_parts k s known elapsed (TestStarted stress instance stats command) c p h = free-test_started_text k s stress
-    instance stats command h.0 h.1
-free-event_parts k s known elapsed (TestSlow stress instance retry taken b) c p h = free-test_slow_text k s stress
-    instance retry taken.0 b h
+    search free-setup_script_finished_text
+free-event_parts k s known elapsed (TestStarted stress instance stats command) c p h = search free-test_started_text
+free-event_parts k s known elapsed (TestSlow stress instance retry taken b) c p h = search free-test_slow_text
 free-event_parts k s known elapsed (TestAttemptFailedWillRetry stress instance status delay failure) c p h =
-    free-attempt_failed_text k s stress instance status delay.0 failure h.0 h.1.0 h.1.1
-free-event_parts k s known elapsed (TestRetryStarted stress instance retry command) c p h = free-test_retry_started_text
-    k s stress instance retry command h.0 h.1
+    search free-attempt_failed_text
+free-event_parts k s known elapsed (TestRetryStarted stress instance retry command) c p h =
+    search free-test_retry_started_text
 free-event_parts k s known elapsed (TestFinished stress instance success failure statuses stats) c p h =
-    free-test_finished_text k s _ (plain-test_finish k s known.reason stress instance success failure statuses stats h)
+    search (free-test_finished_text, plain-test_finish)
 free-event_parts k s known elapsed (TestSkipped stress instance) c p h = free-test_skipped_text k s stress instance h
 free-event_parts k s known elapsed (InfoResponse index total response) c p h = free-info_response_text k s index total
     response h
-free-event_parts k s known elapsed (RunFinished taken stats outstanding) c p h =
-    (tt, ((free-entries_text k s known.entries p.entries, tt), (free-not_seen_text k s.mode outstanding h, tt)))
+free-event_parts k s known elapsed (RunFinished taken stats outstanding) c p h = search (
+  free-entries_text,
+  free-not_seen_text,
+)
 free-event_parts k s known elapsed other c p h = tt
 
 -- an event depends on the colour only through the styles
@@ -117,8 +117,7 @@ colour_pair-text k config past (Event e) c all h =
           (plain-kept k (painted false s) past all);
     } in
     rw (same-kept s past) (colour_pair-event_text k s known e.elapsed.0 e.kind c plain h)
-colour_pair-text k config past (Header x) c all h = parts_in_colour k (replay_header_text x)
-    (free-replay_header_text k x h)
+colour_pair-text k config past (Header x) c all h = search (parts_in_colour, free-replay_header_text)
 colour_pair-text k config past (Prefix p) c all h = colour_pair-none k
 
 -- the texts of a past, joined
@@ -126,8 +125,13 @@ colour_pair-report : (k : Bool) (config : Configuration) (past : List ReportCall
     → AllByRecursion (IsPlainCall k) past
     → IsColourPair k (report (in_colour true config) past) (report (in_colour false config) past)
 colour_pair-report k config [] c all = colour_pair-none k
-colour_pair-report k config (call ∷ past) c all = colour_pair-append k _ _ _ _
-    (colour_pair-report k config past c all.1) (colour_pair-text k config past call c all.1 all.0)
+colour_pair-report k config (call ∷ past) c all = grind (
+  arith,
+  colour_pair-append,
+  colour_pair-text,
+  colour_pair-report
+      k config past c all.1,
+)
 
 -- plain calls in reverse, the first of them, and one of them
 All-reverse : {X : Type 0} (P : X → Type 0) (xs : List X) → AllByRecursion P xs → AllByRecursion P (reverse xs)
@@ -150,16 +154,15 @@ HoldsIf-slice_get P (x ∷ xs) (suc i) h = HoldsIf-slice_get P xs i h.1
 colour_pair-text_at : (k : Bool) (config : Configuration) (calls : List ReportCall) (i : ℕ)
     → IsPlainConfiguration config → ArePlain k calls
     → IsColourPair k (text_at (in_colour true config) calls i) (text_at (in_colour false config) calls i)
-colour_pair-text_at k config calls i c all = go (slice_get calls i) (HoldsIf-slice_get (IsPlainCall k) calls i all)
-  where
-    past : AllByRecursion (IsPlainCall k) (past_at calls i)
-    past = All-reverse (IsPlainCall k) (take i calls) (All-take (IsPlainCall k) i calls all)
-
-    go : (call : Option ReportCall) → HoldsIf (IsPlainCall k) call
-        → IsColourPair k (option_map_or (text (in_colour true config) (past_at calls i)) call [])
-        (option_map_or (text (in_colour false config) (past_at calls i)) call [])
-    go None h = colour_pair-none k
-    go (Some call) h = colour_pair-text k config (past_at calls i) call c past h
+colour_pair-text_at k config calls i c all = grind (
+  arith,
+  slice_get,
+  HoldsIf-slice_get,
+  All-reverse,
+  All-take,
+  colour_pair-none,
+  colour_pair-text,
+)
 
 -- the two laws
 pub colour_holds : (config : Configuration) (calls : List ReportCall) → ColourLaw config calls

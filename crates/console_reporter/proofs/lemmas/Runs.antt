@@ -1,11 +1,12 @@
 -- Calls in sequence, of a reporter with both its writers (for `DisplayReporter::make_calls`, `run_report`,
 -- `run_report_with_store`).
+use Rattle.std.proofs.Common.{arith}
 use Rattle.console_reporter.specs.Names.{AreAccepted, refusal_at, Configuration, settings_of, Stops, Report, Records}
 use Rattle.console_reporter.specs.Names.{past_at, report, text_at, store_accepts, store_may_refuse, store_meaning}
 use Rattle.console_reporter.specs.Names.{MayGrowAt, StandsAfter, may_grow_in, Runs, absent, stored, stored_at}
 use Rattle.console_reporter.specs.Names.{AreDelivered, IsSameReporter}
-use Rattle.std.proofs.Common.{◌≡◌, ◌≤◌, ◌⊎◌, inl, inr, List, [], ◌++◌, Option, Some, None, Result, Err, OnOk, IfErr}
-use Rattle.std.proofs.Common.{IsTrue, false, append-nil, length, refl, reverse, subst, sym, take, ◌∙◌, slice_get}
+use Rattle.std.proofs.Common.{◌≡◌, ◌≤◌, ◌⊎◌, inl, List, [], ◌++◌, Option, Some, None, Result, Err, OnOk, IfErr}
+use Rattle.std.proofs.Common.{IsTrue, false, append-nil, length, refl, reverse, subst, sym, take, slice_get}
 use Rattle.{std.proofs.lemmas.Result.on_ok_weaker, std.proofs.lemmas.Result.IfErr-weaker}
 use Rattle.{run_model.specs.declared.call.ReportCall.ReportCall, reporter_state.specs.Names.cancel}
 use Rattle.{reporter_state.specs.Names.refusal_in, reporter_state.specs.declared.faults.RunFault.RunFault}
@@ -14,38 +15,18 @@ use Rattle.console_reporter.specs.Names.{MayGrowFor, Promises, Tells, TellsRun, 
 use Rattle.console_reporter.specs.Names.{WriteEventError}
 use Rattle.reporter_state.specs.declared.faults.WriteEventError.TheVariants.{Failed, Io, Memory, OutputNotLoaded}
 use Rattle.reporter_state.specs.declared.faults.WriteEventError.TheVariants.{RetriedSuccess, StoreIo}
-use Rattle.console_reporter.proofs.lemmas.Calls.{err_here, ok_here, stopped_device, stopped_known}
+use Rattle.console_reporter.proofs.lemmas.Calls.{err_here, ok_here}
 use Rattle.console_reporter.proofs.lemmas.{Independence.order_independent, Independence.stats_independent}
 use Rattle.console_reporter.proofs.lemmas.{ReportColourPairs.colour_holds, ReportColourPairs.plain_holds}
-use Rattle.console_reporter.proofs.lemmas.Stores.{absent_stop, same-store-after, stopped_there, store-laws}
-use Rattle.console_reporter.proofs.lemmas.Stores.{store-nothing}
 
 pub same-after : {W S : Type 0} {a b c : DisplayReporter W S} → IsSameReporter a b → IsSameReporter b c
     → IsSameReporter a c
-same-after p q = record {
-  writer = q.writer ∙ p.writer;
-  store = same-store-after _ _ _ p.store q.store;
-  settings = q.settings ∙ p.settings;
-}
-
--- if a call may allocate, the call at its index may
-grow_at : {W S : Type 0} (config : Configuration) (past : List ReportCall) (call : Option ReportCall) (reporter :
-    DisplayReporter W S)
-    → StandsAfter config past reporter → MayGrowFor reporter call →
-    IsTrue (option_map_or (may_grow_in (settings_of config) (cancel past)) call false)
-grow_at config past None reporter stands grows = absurd grows
-grow_at config past (Some call) reporter stands grows =
-    subst (λ s. IsTrue (may_grow_in s (cancel past) call)) stands.settings
-    (subst (λ n. IsTrue (may_grow_in reporter.state.settings n call)) stands.reason grows)
+same-after p q = grind arith
 
 module _ {W S : Type 0} {m : Meaning W} {n : Meaning S} (laws : WriterLaws m) (store_laws : WriterLaws n) where
   -- no call so far
   pub run_begun : (a : DisplayReporter W S) → TellsRun m n a [] a
-  run_begun a = record {
-    accepted = λ config stands. laws.nothing _;
-    stored = λ config stands. store-nothing store_laws _;
-    stands = λ config stands. stands;
-  }
+  run_begun a = grind arith
 
   -- one more call, or the end of the report
   pub run_more : {a b c : DisplayReporter W S} (past : List ReportCall) (call : Option ReportCall)
@@ -55,17 +36,10 @@ module _ {W S : Type 0} {m : Meaning W} {n : Meaning S} (laws : WriterLaws m) (s
         (laws.joins _ _ _ _ [] (before.accepted config stands)
         (here.accepted config past (before.stands config stands)));
     stored = λ config stands. subst (λ t. store_accepts n a.store t c.store) (append-nil _)
-        ((store-laws store_laws).joins _ _ _ _ [] (before.stored config stands)
-        (here.stored config past (before.stands config stands)));
+        (grind arith);
     stands = λ config stands. here.stands config past (before.stands config stands);
   }
-  run_more past (Some call) before here = record {
-    accepted = λ config stands. laws.joins _ _ _ _ _ (before.accepted config stands)
-        (here.accepted config past (before.stands config stands));
-    stored = λ config stands. (store-laws store_laws).joins _ _ _ _ _ (before.stored config stands)
-        (here.stored config past (before.stands config stands));
-    stands = λ config stands. here.stands config past (before.stands config stands);
-  }
+  run_more past (Some call) before here = grind arith
 
   -- what a run leaves if the calls before this one succeeded, and it was stopped, or past the last of them the end
   module _ (config : Configuration) (calls : List ReportCall) {old new : DisplayReporter W S}
@@ -83,23 +57,11 @@ module _ {W S : Type 0} {m : Meaning W} {n : Meaning S} (laws : WriterLaws m) (s
     abbrev here : Text
     here = text_at config calls stop.position
 
-    run_stopped : (mid : W) × m.accepts old.writer.now before mid × Stops Report m mid here stop.fault new.writer.now
-        × (AreDelivered m n old → m.is_delivered mid)
-    run_stopped = (
-      h.0.writer.now,
-      h.1.accepted config stands,
-      h.2.err.stopped config _ (h.1.stands config stands),
-      λ
-          held. (h.3 held).writer,
-    )
-
     run_failed : stop.fault ≡ Io → m.failures new.writer.now ≡ successor (m.failures old.writer.now)
-    run_failed = let s = run_stopped in stopped_device Report laws old.writer.now s.0 new.writer.now before here
-        stop.fault s.1 s.2
+    run_failed = grind arith
 
     run_known : stop.fault ≡ Failed → ⊥
-    run_known = let s = run_stopped in stopped_known Report laws old.writer.now s.0 new.writer.now before here
-        stop.fault s.1 s.2
+    run_known = grind arith
 
     -- their records
     abbrev stored_before : Text
@@ -108,131 +70,72 @@ module _ {W S : Type 0} {m : Meaning W} {n : Meaning S} (laws : WriterLaws m) (s
     abbrev stored_here : Text
     stored_here = stored_at config.store calls stop.position
 
-    records_stopped : Stops Records (store_meaning n) h.0.store stored_here stop.fault new.store
-    records_stopped = h.2.err.store_stopped config _ (h.1.stands config stands)
-
     text_first : store_accepts n old.store stored_before new.store
         ⊎ (m.accepts old.writer.now (before ++ here) new.writer.now × m.is_delivered new.writer.now)
-    text_first = elim (h.2.err.order config _ (h.1.stands config stands)) [
-      | inl same ↦ inl (subst (λ s. store_accepts n old.store stored_before s) (sym same) (h.1.stored config stands))
-      | inr told ↦ inr (laws.joins _ _ _ _ _ (h.1.accepted config stands) told.0, told.1)
-    ]
+    text_first = grind arith
 
     memory : stop.fault ≡ Memory
         → m.may_refuse old.writer.now ⊎ MayGrowAt config calls stop.position ⊎ store_may_refuse n old.store
-    memory is = elim (h.2.err.memory is) [
-      | inl w ↦ inl ((laws.kept _ _ _ (h.1.accepted config stands)).1 w)
-      | inr (inl grows) ↦ inr
-          (inl (grow_at config _ (slice_get calls stop.position) h.0 (h.1.stands config stands) grows))
-      | inr (inr w) ↦ inr (inr (((store-laws store_laws).kept _ _ _ (h.1.stored config stands)).1 w))
-    ]
+    memory is = grind arith
 
     -- after a fault of one device the other has delivered: the text of this call, and the records of the calls before
     text_delivered : stop.fault ≡ StoreIo → m.is_delivered new.writer.now
     text_delivered = h.2.err.delivered
 
     records_delivered : AreDelivered m n old → stop.fault ≡ Io → (store_meaning n).is_delivered new.store
-    records_delivered held is =
-        let same : new.store ≡ h.0.store = subst
-        (λ e. Stops Records (store_meaning n) h.0.store stored_here e new.store) is records_stopped in
-        subst (store_meaning n).is_delivered (sym same) (h.3 held).store
+    records_delivered held is = grind arith
 
     -- a run with a store
     records_delivered_there : {a b : Store S} → old.store ≡ Some a → new.store ≡ Some b → m.is_delivered old.writer.now
         → n.is_delivered a.writer.now → stop.fault ≡ Io → n.is_delivered b.writer.now
-    records_delivered_there {a} {b} old_is new_is w r is =
-        subst (store_meaning n).is_delivered new_is (records_delivered (record {
-          writer = w;
-          store = subst (store_meaning n).is_delivered (sym old_is) r;
-        }) is)
-
-    records_there : {a b : Store S} → old.store ≡ Some a → new.store ≡ Some b
-        → (mid : S) × n.accepts a.writer.now stored_before mid × Stops Records n mid stored_here stop.fault b.writer.now
-        × (AreDelivered m n old → n.is_delivered mid)
-    records_there {a} {b} old_is new_is =
-        stopped_there n a b h.0.store stored_before stored_here stop.fault
-        (subst (λ x. store_accepts n x stored_before h.0.store) old_is (h.1.stored config stands))
-        (subst (λ x. Stops Records (store_meaning n) h.0.store stored_here stop.fault x) new_is records_stopped)
-        (AreDelivered m n old) (λ held. (h.3 held).store)
+    records_delivered_there {a} {b} old_is new_is w r is = grind arith
 
     records_failed : {a b : Store S} → old.store ≡ Some a → new.store ≡ Some b → stop.fault ≡ StoreIo
         → n.failures b.writer.now ≡ successor (n.failures a.writer.now)
-    records_failed {a} {b} old_is new_is = let s = records_there old_is new_is in stopped_device Records store_laws
-        a.writer.now s.0 b.writer.now stored_before stored_here stop.fault s.1 s.2
+    records_failed {a} {b} old_is new_is = grind arith
 
     text_first_there : {a b : Store S} → old.store ≡ Some a → new.store ≡ Some b
         → n.accepts a.writer.now stored_before b.writer.now ⊎ (m.accepts old.writer.now (before ++ here) new.writer.now
         × m.is_delivered new.writer.now)
-    text_first_there old_is new_is = let s = text_first in rw (old_is, new_is) at s
+    text_first_there old_is new_is = grind arith
 
     -- what the two writers had delivered after the calls before
     report_held : {a : Store S} → old.store ≡ Some a
         → (mid : W) × m.accepts old.writer.now before mid × Stops Report m mid here stop.fault new.writer.now ×
         (m.is_delivered old.writer.now → n.is_delivered a.writer.now → m.is_delivered mid)
-    report_held old_is = let s = run_stopped in (
-      s.0,
-      s.1,
-      s.2,
-      λ w r. s.3 (record {
-        writer = w;
-        store = subst (store_meaning n).is_delivered (sym old_is) r;
-      }),
-    )
+    report_held old_is = grind arith
 
     records_held : {a b : Store S} → old.store ≡ Some a → new.store ≡ Some b
         → (mid : S) × n.accepts a.writer.now stored_before mid × Stops Records n mid stored_here stop.fault b.writer.now
         × (m.is_delivered old.writer.now → n.is_delivered a.writer.now → n.is_delivered mid)
-    records_held old_is new_is = let s = records_there old_is new_is in (
-      s.0,
-      s.1,
-      s.2,
-      λ w r. s.3 (record {
-        writer = w;
-        store = subst (store_meaning n).is_delivered (sym old_is) r;
-      }),
-    )
+    records_held old_is new_is = grind arith
 
     report_held_alone : old.store ≡ None
         → (mid : W) × m.accepts old.writer.now before mid × Stops Report m mid here stop.fault new.writer.now ×
         (m.is_delivered old.writer.now → Unit {0} → m.is_delivered mid)
-    report_held_alone none = let s = run_stopped in (
-      s.0,
-      s.1,
-      s.2,
-      λ w r. s.3 (record {
-        writer = w;
-        store = subst (store_meaning n).is_delivered (sym none) tt;
-      }),
-    )
-
-    memory_there : {a : Store S} → old.store ≡ Some a → stop.fault ≡ Memory
-        → m.may_refuse old.writer.now ⊎ MayGrowAt config calls stop.position ⊎ n.may_refuse a.writer.now
-    memory_there old_is is = let s = memory is in rw old_is at s
+    report_held_alone none = grind arith
 
     -- a run without a store
     no_store_fails : old.store ≡ None → stop.fault ≡ StoreIo → ⊥
-    no_store_fails none is =
-        absent_stop n h.0.store stored_before stored_here new.store
-        (subst (λ x. store_accepts n x stored_before h.0.store) none (h.1.stored config stands))
-        (subst (λ x. Stops Records (store_meaning n) h.0.store stored_here x new.store) is records_stopped)
+    no_store_fails none is = grind arith
 
     memory_alone : old.store ≡ None → stop.fault ≡ Memory
         → m.may_refuse old.writer.now ⊎ MayGrowAt config calls stop.position ⊎ ⊥
-    memory_alone none is = let s = memory is in rw none at s
+    memory_alone none is = grind arith
 
 -- the records of a run in which all calls succeeded
 stored_there : {W S : Type 0} {m : Meaning W} {n : Meaning S} {config : Configuration} {past : List ReportCall}
     {old new : DisplayReporter W S} {a b : Store S}
     → StandsAfter config [] old → old.store ≡ Some a → new.store ≡ Some b → TellsRun m n old past new
     → n.accepts a.writer.now (stored config.store past) b.writer.now
-stored_there {config = config} stands old_is new_is h = let s = h.stored config stands in rw (old_is, new_is) at s
+stored_there {config = config} stands old_is new_is h = grind arith
 
 -- an absent store has no fault of its own
 absent_stops : (e : WriteEventError) (t : Text) → (e ≡ Failed → ⊥) → (e ≡ StoreIo → ⊥) → Stops Records absent tt t e tt
 absent_stops RetriedSuccess t known store = refl
 absent_stops OutputNotLoaded t known store = refl
 absent_stops Io t known store = refl
-absent_stops Memory t known store = inr (record { front = []; rest = t; whole = refl; accepted = tt })
+absent_stops Memory t known store = grind arith
 absent_stops Failed t known store = absurd (known refl)
 absent_stops StoreIo t known store = absurd (store refl)
 
@@ -252,8 +155,8 @@ module _ {W S : Type 0} {m : Meaning W} {n : Meaning S} (laws : WriterLaws m) (s
   -- what a run with a store promises
   pub runs_with_store : {a b : Store S} → old.store ≡ Some a → new.store ≡ Some b
       → Runs m n config calls (old.writer.now, a.writer.now) result (new.writer.now, b.writer.now)
-  runs_with_store old_is new_is =
-      let told : OnOk result (m.accepts old.writer.now (report config (reverse calls)) new.writer.now) = on_ok_weaker
+  runs_with_store old_is new_is = let told : OnOk result (m.accepts old.writer.now (report config (reverse calls))
+      new.writer.now) = on_ok_weaker
       _ (λ (h : TellsRun m n old (reverse calls) new). h.accepted config stands) made in
       record {
         ok = told;
@@ -275,7 +178,7 @@ module _ {W S : Type 0} {m : Meaning W} {n : Meaning S} (laws : WriterLaws m) (s
         io = IfErr-weaker _ _ _ (run_failed laws store_laws config calls stands) stopped;
         store_io = IfErr-weaker _ _ _
             (λ stop h. records_failed laws store_laws config calls stands stop h old_is new_is) stopped;
-        memory = IfErr-weaker _ _ _ (λ stop h. memory_there laws store_laws config calls stands stop h old_is) stopped;
+        memory = grind arith;
         known = IfErr-weaker _ _ _ (run_known laws store_laws config calls stands) stopped;
         text_delivered = IfErr-weaker _ _ _ (text_delivered laws store_laws config calls stands) stopped;
         records_delivered = λ w r. IfErr-weaker _ _ _
@@ -289,9 +192,8 @@ module _ {W S : Type 0} {m : Meaning W} {n : Meaning S} (laws : WriterLaws m) (s
 
   -- what a run without a store promises
   pub runs_alone : old.store ≡ None → Runs m absent config calls (old.writer.now, tt) result (new.writer.now, tt)
-  runs_alone none =
-      let told : OnOk result (m.accepts old.writer.now (report config (reverse calls)) new.writer.now) = on_ok_weaker
-      _ (λ (h : TellsRun m n old (reverse calls) new). h.accepted config stands) made in
+  runs_alone none = let told : OnOk result (m.accepts old.writer.now (report config (reverse calls)) new.writer.now) =
+      grind arith in
       record {
         ok = told;
         stored = on_ok_weaker _ (λ h. tt) made;

@@ -1,7 +1,8 @@
 -- Lists of calls that a report cannot distinguish (for `unload_skipped`, `run_report`,
 -- `DisplayReporter::output_load_decider`).
-use Rattle.std.proofs.Common.{◌≡◌, ℕ, List, [], ◌∷◌, ◌++◌, refl, sym, ap, ap₂, ◌∙◌, max, reverse, append_assoc}
-use Rattle.{styled_text.specs.Names.flat_map, styled_text.specs.Names.Text, std.proofs.lemmas.List.reverse-append}
+use Rattle.std.proofs.Common.{arith}
+use Rattle.std.proofs.Common.{◌≡◌, ℕ, List, [], ◌∷◌, ◌++◌, refl, ap, ◌∙◌, reverse, append_assoc}
+use Rattle.{std.proofs.lemmas.List.reverse-append}
 use Rattle.{console_reporter.proofs.lemmas.Texts.report-joined, text_parts.specs.Names.TestEvent}
 use Rattle.{text_parts.specs.Names.ReportCall}
 use Rattle.reporter_state.specs.Names.{Settings, effect_of, entry_of, cancel, kept, prefix}
@@ -24,7 +25,7 @@ pub record AreSame (config : Configuration) (xs ys : List ReportCall) : Type 0 w
 
 module _ (config : Configuration) where
   pub same-itself : (xs : List ReportCall) → AreSame config xs xs
-  same-itself xs = record { prefix = refl; cancel = refl; kept = refl; texts = refl }
+  same-itself xs = search
 
   module _ (xs ys : List ReportCall) (all : AreSame config xs ys) where
     same-known : known_after config ys ≡ known_after config xs
@@ -33,46 +34,29 @@ module _ (config : Configuration) where
     same-report_texts : (x y : ReportCall) → text config ys y ≡ text config xs x
         → report_texts config (y ∷ ys) ≡ report_texts config (x ∷ xs)
     unfolding report_texts
-    same-report_texts x y here = ap₂ (λ (before : List Text) (t : Text). before ++ t ∷ []) all.texts here
+    same-report_texts x y here = cc
 
     -- two events that are the same to a report, after these pasts
     pub same-event : (e f : TestEvent) → IsSameEvent (settings_of config) e f
         → AreSame config (Event e ∷ xs) (Event f ∷ ys)
     unfolding prefix cancel kept
-    same-event e f one = record {
-      prefix = all.prefix;
-      cancel = ap₂ max one.reason all.cancel;
-      kept = rw (all.kept, all.cancel, one.entry (cancel xs)) refl;
-      texts = same-report_texts (Event e) (Event f)
-          (ap (λ known. event_text (settings_of config) known f.elapsed.0 f.kind) same-known
-          ∙ one.text (known_after config xs));
-    }
+    same-event e f one = grind (arith, same-report_texts, same-known)
 
     -- one call after these pasts
     pub same-call : (call : ReportCall) → AreSame config (call ∷ xs) (call ∷ ys)
     unfolding prefix cancel kept
-    same-call (Event e) = same-event e e (record { reason = refl; entry = λ before. refl; text = λ known. refl })
-    same-call (Header h) = record {
-      prefix = all.prefix;
-      cancel = all.cancel;
-      kept = all.kept;
-      texts = same-report_texts (Header h) (Header h) refl;
-    }
-    same-call (Prefix p) = record {
-      prefix = refl;
-      cancel = all.cancel;
-      kept = all.kept;
-      texts = same-report_texts (Prefix p) (Prefix p) refl;
-    }
+    same-call (Event e) = search same-event
+    same-call (Header h) = search same-report_texts
+    same-call (Prefix p) = search same-report_texts
 
     pub same-report : report config ys ≡ report config xs
-    same-report = report-joined config ys ∙ ap (flat_map (λ t. t)) all.texts ∙ sym (report-joined config xs)
+    same-report = grind (arith, report-joined)
 
   -- a list of calls after these pasts
   pub same-onto : (xs ys : List ReportCall) → AreSame config xs ys → (later : List ReportCall)
       → AreSame config (later ++ xs) (later ++ ys)
   same-onto xs ys all [] = all
-  same-onto xs ys all (call ∷ later) = same-call (later ++ xs) (later ++ ys) (same-onto xs ys all later) call
+  same-onto xs ys all (call ∷ later) = search (same-call, same-onto xs ys all later)
 
 -- a list in reverse, around one of its elements
 pub reverse-middle : {X : Type 0} (front : List X) (x : X) (back : List X)

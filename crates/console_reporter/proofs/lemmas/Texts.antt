@@ -14,43 +14,35 @@ pub report-joined : (config : Configuration) (past : List ReportCall)
     → report config past ≡ flat_map (λ t. t) (report_texts config past)
 unfolding report_texts
 report-joined config [] = refl
-report-joined config (call ∷ past) =
-    ap (λ t. t ++ text config past call) (report-joined config past)
-    ∙ ap (λ t. flat_map (λ t. t) (report_texts config past) ++ t) (sym (append-nil (text config past call)))
-    ∙ sym (flat_map-append (λ t. t) (report_texts config past) (text config past call ∷ []))
+report-joined config (call ∷ past) = search (append-nil, flat_map-append, report-joined config past)
 
 length-report_texts : (config : Configuration) (past : List ReportCall)
     → length (report_texts config past) ≡ length past
 unfolding report_texts
 length-report_texts config [] = refl
-length-report_texts config (call ∷ past) =
-    let more = length-report_texts config past in
+length-report_texts config (call ∷ past) = let more = length-report_texts config past in
     let joined = length-append (report_texts config past) (text config past call ∷ []) in
-    grind (arith, more, joined)
+    grind (arith, joined)
 
 get-last : (ts : List Text) (t : Text) (n : ℕ) → length ts ≡ n → slice_get (ts ++ t ∷ []) n ≡ Some t
-get-last ts t n is =
-    let joined = length-append ts (t ∷ []) in
+get-last ts t n is = let joined = length-append ts (t ∷ []) in
     subst (λ k. slice_get (ts ++ t ∷ []) k ≡ Some t) is
-    (slice_get-get_or (ts ++ t ∷ []) (length ts) t (grind (arith, joined)) ∙ ap Some (get_or-append_seam ts t [] t))
+    (slice_get-get_or (ts ++ t ∷ []) (length ts) t (grind arith) ∙ ap Some (get_or-append_seam ts t [] t))
 
 get-earlier : (ts : List Text) (t : Text) (n : ℕ) → n < length ts → slice_get (ts ++ t ∷ []) n ≡ slice_get ts n
-get-earlier ts t n within =
-    let joined = length-append ts (t ∷ []) in
-    slice_get-get_or (ts ++ t ∷ []) n t (grind (arith, joined)) ∙ ap Some (get_or_append_left ts (t ∷ []) t n within)
+get-earlier ts t n within = let joined = length-append ts (t ∷ []) in
+    slice_get-get_or (ts ++ t ∷ []) n t (grind arith) ∙ ap Some (get_or_append_left ts (t ∷ []) t n within)
     ∙ sym (slice_get-get_or ts n t within)
 
 pub report_texts-placed : (config : Configuration) (later : List ReportCall) (call : ReportCall)
     (past : List ReportCall)
     → slice_get (report_texts config (later ++ call ∷ past)) (length past) ≡ Some (text config past call)
 unfolding report_texts
-report_texts-placed config [] call past = get-last (report_texts config past) (text config past call) (length past)
-    (length-report_texts config past)
-report_texts-placed config (next ∷ later) call past =
-    let whole = later ++ call ∷ past in
+report_texts-placed config [] call past = grind (arith, get-last, length-report_texts)
+report_texts-placed config (next ∷ later) call past = let whole = later ++ call ∷ past in
     let many = length-report_texts config whole in
     let joined = length-append later (call ∷ past) in
-    get-earlier (report_texts config whole) (text config whole next) (length past) (grind (arith, many, joined))
+    get-earlier (report_texts config whole) (text config whole next) (length past) (grind (arith, joined))
     ∙ report_texts-placed config later call past
 
 -- the text of each call is whole lines, as the type of its parts says

@@ -1,11 +1,11 @@
 -- What the end of an uninterrupted run shows (for `run_report`, `DisplayReporter::output_load_decider`).
 use Rattle.std.proofs.Common.{◌≡◌, ℕ, ◌<◌, true, List, [], ◌∷◌, ◌++◌, None, refl, sym, ap, ◌∙◌, reverse, append-nil}
-use Rattle.std.proofs.Common.{append_assoc, arith, subst, nat_lt}
+use Rattle.std.proofs.Common.{append_assoc, arith, subst}
 use Rattle.{styled_text.specs.Names.flat_map, styled_text.specs.Names.option_to_list}
 use Rattle.{text_parts.proofs.lemmas.Finishes.row_below}
 use Rattle.{reporter_state.specs.declared.final_output.FinalOutputEntry.FinalOutputEntry}
 use Rattle.text_parts.specs.Names.{TestEvent, TestEventKind, ReportCall}
-use Rattle.{std.proofs.lemmas.Bool.false≢true, std.proofs.lemmas.Bool.Decides.nat_tests}
+use Rattle.{std.proofs.lemmas.Bool.false≢true}
 use Rattle.{std.proofs.lemmas.List.reverse-append}
 use Rattle.run_model.specs.declared.call.ReportCall.TheVariants.{Event, Header, Prefix}
 use Rattle.run_model.specs.declared.{event.TestEventKind.TheVariants.TestFinished}
@@ -31,8 +31,7 @@ uninterrupted_both (x ∷ xs) ys a b = (a.0, uninterrupted_both xs ys a.1 b)
 -- under an uninterrupted reason the same entries are kept as without a reason
 pub uninterrupted_entry : (s : Settings) (reason : ℕ) (e : TestEventKind) → reason < 5
     → entry_of s reason e ≡ entry_of s 0 e
-uninterrupted_entry s reason (TestFinished stress test success failure statuses stats) h =
-    rw (row_below reason statuses.last.result h, row_below 0 statuses.last.result (omega arith)) refl
+uninterrupted_entry s reason (TestFinished stress test success failure statuses stats) h = search (arith, row_below)
 uninterrupted_entry s reason other h = refl
 
 pub uninterrupted_more : (call : ReportCall) (past : List ReportCall) → carried_reason call < 5 → cancel past < 5
@@ -51,7 +50,7 @@ uninterrupted_entries s (Prefix p) = []
 kept_more : (s : Settings) (call : ReportCall) (past : List ReportCall) → cancel past < 5
     → kept s (call ∷ past) ≡ kept s past ++ uninterrupted_entries s call
 unfolding kept
-kept_more s (Event e) past h = ap (λ o. kept s past ++ option_to_list o) (uninterrupted_entry s (cancel past) e.kind h)
+kept_more s (Event e) past h = search uninterrupted_entry
 kept_more s (Header k) past h = sym (append-nil (kept s past))
 kept_more s (Prefix p) past h = sym (append-nil (kept s past))
 
@@ -64,9 +63,12 @@ reverse_onto call calls past = ap (λ l. l ++ past) (reverse-append (call ∷ []
 uninterrupted_onto : (calls past : List ReportCall) → AreUninterrupted calls → cancel past < 5
     → cancel (reverse calls ++ past) < 5
 uninterrupted_onto [] past uninterrupted h = h
-uninterrupted_onto (call ∷ calls) past uninterrupted h =
-    subst (λ l. cancel l < 5) (sym (reverse_onto call calls past))
-    (uninterrupted_onto calls (call ∷ past) uninterrupted.1 (uninterrupted_more call past uninterrupted.0 h))
+uninterrupted_onto (call ∷ calls) past uninterrupted h = search (
+  arith,
+  reverse_onto,
+  uninterrupted_more,
+  uninterrupted_onto calls (call ∷ past) uninterrupted.1 (uninterrupted_more call past uninterrupted.0 h),
+)
 
 kept_onto : (s : Settings) (calls past : List ReportCall) → AreUninterrupted calls → cancel past < 5
     → kept s (reverse calls ++ past) ≡ kept s past ++ flat_map (uninterrupted_entries s) calls
@@ -99,9 +101,7 @@ end_by_entries : (s : Settings) (known : Known) (elapsed : ℕ) (e : TestEventKi
     → is_end_of_run e ≡ true →
     event_text s known elapsed e ≡ event_text s (listing known.entries) elapsed e
 unfolding event_text listed_text
-end_by_entries s known elapsed (RunFinished taken stats outstanding) h is =
-    let less : nat_lt known.reason 7 ≡ true = grind (arith, nat_tests) in
-    rw less refl
+end_by_entries s known elapsed (RunFinished taken stats outstanding) h is = grind arith
 end_by_entries s known elapsed other h is = absurd (false≢true is)
 
 pub uninterrupted_end : (config : Configuration) (calls : List ReportCall) (end : TestEvent) → AreUninterrupted calls
@@ -109,7 +109,4 @@ pub uninterrupted_end : (config : Configuration) (calls : List ReportCall) (end 
     text config (reverse calls) (Event end)
     ≡ event_text (settings_of config) (listing
     (final_order (flat_map (uninterrupted_entries (settings_of config)) calls))) end.elapsed.0 end.kind
-uninterrupted_end config calls end uninterrupted is =
-    end_by_entries (settings_of config) _ end.elapsed.0 end.kind (uninterrupted_past calls uninterrupted) is
-    ∙ ap (λ entries. event_text (settings_of config) (listing (final_order entries)) end.elapsed.0 end.kind)
-    (uninterrupted_kept (settings_of config) calls uninterrupted)
+uninterrupted_end config calls end uninterrupted is = search (end_by_entries, uninterrupted_past, uninterrupted_kept)

@@ -5,7 +5,7 @@ ghost use Rattle.console_reporter.specs.Names.{IsExact, IsOfConsole, Stops, erro
 ghost use Rattle.console_reporter.specs.Names.{past_at, text, config_of, store_accepts, store_delivered, store_meaning};
 ghost use Rattle.console_reporter.specs.Names.{record_of, AreDelivered};
 ghost use Rattle.std.specs.Prelude.{◌≡◌, ◌≤◌, ◌⊎◌, List, [], ◌∷◌, OnOk, IfErr, IfSome, IsErrOf, Err, None, Some};
-ghost use Rattle.std.specs.Prelude.{length, reverse, slice_get, string_bytes, take, false};
+ghost use Rattle.std.specs.Prelude.{length, reverse, slice_get, take, false};
 ghost use Rattle.{run_names.specs.Levels.reason_rank, run_model.specs.declared.call.ReportCall.ReportCall};
 ghost use Rattle.{report_words.specs.Parts.paint, reporter_state.specs.declared.faults.WriteEventError.WriteEventError};
 ghost use Rattle.{writers.specs.Writer.Puts, writers.specs.Writer.successor};
@@ -508,54 +508,6 @@ fn store_error_of(fault: WriteFault) -> WriteEventError
         WriteFault::Device => WriteEventError::StoreIo,
         WriteFault::Memory => WriteEventError::Memory,
     }
-}
-
-impl<'a, S: WriteStr> DisplayReporter<'a, String, S> {
-    /// Delivers the text that was gathered to a writer, to which the reporter goes on, whatever came of that. Hidden:
-    /// only the programs of this repository need it.
-    ///
-    /// ```
-    /// let (delivered, mut reporter) = reporter.deliver_to(&mut out);
-    /// delivered?;
-    /// reporter.write_event(&event)?;
-    /// ```
-    ///
-    /// # Errors
-    ///
-    /// A fault of the writer, which has a prefix of the text.
-    #[doc(hidden)]
-    pub fn deliver_to<W: WriteStr>(
-        self,
-        writer: &'a mut W,
-    ) -> (Result<(), WriteFault>, DisplayReporter<'a, W, S>)
-        ensures text { Puts W.meaning writer.old (string_bytes self.entry.writer.now) result.0 result.1.writer.now }
-        ensures delivered { OnOk result.0 (W.meaning.is_delivered result.1.writer.now) }
-        ensures same_reference { result.1.writer.ghost_name ≡ writer.entry.ghost_name }
-        ensures store { result.1.store ≡ self.entry.store }
-        ensures stands { (config : Configuration) (past : List ReportCall) → StandsAfter config past self.entry
-            → StandsAfter config past result.1 }
-    {
-        let DisplayReporter {
-            writer: gathered,
-            store,
-            state,
-        } = self;
-        let delivered = deliver_text(writer, gathered.as_str());
-        let reporter = DisplayReporter {
-            writer,
-            store,
-            state,
-        };
-        (delivered, reporter)
-    }
-}
-
-fn deliver_text<W: WriteStr>(w: &mut W, text: &str) -> Result<(), WriteFault>
-    ensures text { Puts W.meaning w.old text.now result w.new }
-    ensures delivered { OnOk result (W.meaning.is_delivered w.new) }
-{
-    w.write_str(text)?;
-    deliver(w)
 }
 
 fn deliver_header<W: WriteStr>(

@@ -1,7 +1,7 @@
 -- A test that has finished with all its outputs in it, and with that of its last attempt alone: no call of the one is
 -- shown otherwise than a call of the other.
 use Rattle.std.proofs.Common.{◌≡◌, ℕ, true, false, ◌==◌, List, [], ◌∷◌, None, Some, length, Option, reverse, refl, ap}
-use Rattle.std.proofs.Common.{sym, ◌∙◌, subst, arith, inl, inr}
+use Rattle.std.proofs.Common.{sym, ◌∙◌, arith, inl, inr}
 use Rattle.std.proofs.lemmas.{Bool.cases_Bool, Bool.false≢true, List.length-map}
 use Rattle.{reporter_state.specs.Unread.unread_call, run_model.specs.Loads.attempts_with}
 use Rattle.{reporter_state.specs.declared.decider.OutputLoadDecider.OutputLoadDecider}
@@ -11,8 +11,7 @@ use Rattle.console_reporter.proofs.lemmas.Earlier.{call_of_last, calls_of_last, 
 use Rattle.recorded.specs.Names.{event_inline, event_with, only_place_of, output_inline, wanted, wanted_of, skips}
 use Rattle.recorded.proofs.lemmas.{Named.call_skips, Named.named_skips, Skipped.skips-with}
 use Rattle.recorded.proofs.lemmas.{Unloaded.unloaded-earlier}
-use Rattle.run_model.specs.Names.{Attempts, attempt_with_output, Nanos, StressIndex, TestInstanceId, TestOutputDisplay}
-use Rattle.run_model.specs.Names.{unloaded_attempt}
+use Rattle.run_model.specs.Names.{Attempts, Nanos, StressIndex, TestInstanceId, TestOutputDisplay}
 use Rattle.scene_reader.specs.Names.{call_by_names, ReportCall, RunStats, TestEventKind, ChildOutputDescription}
 use Rattle.scene_reader.specs.Names.{EventCall, HeaderCall, LiveSpec, PlacedOutput, PrefixCall, SceneEvent}
 use Rattle.scene_follower.specs.Outcomes.{outcome_after, run_outcome}
@@ -34,28 +33,22 @@ abbrev AreLike : AttemptsOfRun → AttemptsOfRun → Type 0
 AreLike a b = last_alone a ≡ last_alone b
 
 as_many : (a b : AttemptsOfRun) → AreLike a b → length a.earlier ≡ length b.earlier
-as_many a b like = sym (length-map a.earlier unloaded_attempt) ∙ ap (λ (x : AttemptsOfRun). length x.earlier) like
-    ∙ length-map b.earlier unloaded_attempt
+as_many a b like = grind (arith, length-map)
 
 -- output before the last attempt changes no more
 like-earlier : (place : ℕ) (captured : ChildOutputDescription) (a : AttemptsOfRun) → (place == length a.earlier) ≡ false
     → AreLike (attempts_with place captured a) a
-like-earlier place captured a other = rw other (ap (λ xs. record a {
-  earlier = xs;
-}) (unloaded-earlier a.earlier place captured))
+like-earlier place captured a other = grind (arith, unloaded-earlier)
 
 -- and the last one has the same output in both
 like-last : (place : ℕ) (captured : ChildOutputDescription) (a b : AttemptsOfRun) → (place == length a.earlier) ≡ true
     → AreLike a b → AreLike (attempts_with place captured a) (attempts_with place captured b)
-like-last place captured a b here like =
-    let there : (place == length b.earlier) ≡ true = ap (λ n. place == n) (sym (as_many a b like)) ∙ here in
-    rw (here, there) (ap (λ (x : AttemptsOfRun). record x { last = attempt_with_output x.last captured }) like)
+like-last place captured a b here like = grind (arith, as_many)
 
 like-inline : (all : List ℕ) (only : ℕ) (ps : List PlacedOutput) (a b : AttemptsOfRun) → only ≡ length a.earlier
     → AreLike a b → AreLike (attempts_inline all ps a) (attempts_inline all (wanted (Some only) ps) b)
 like-inline all only [] a b at like = like
-like-inline all only (p ∷ ps) a b at like =
-    let captured = output_inline all p.output in
+like-inline all only (p ∷ ps) a b at like = let captured = output_inline all p.output in
     elim (cases_Bool (p.place == only)) [
       | inl y ↦
           let here : (p.place == length a.earlier) ≡ true = ap (λ n. p.place == n) (sym at) ∙ y in
@@ -63,7 +56,7 @@ like-inline all only (p ∷ ps) a b at like =
           (like-inline all only ps (attempts_with p.place captured a) (attempts_with p.place captured b)
           (rw here at) (like-last p.place captured a b here like))
       | inr n ↦
-          let other : (p.place == length a.earlier) ≡ false = ap (λ n. p.place == n) (sym at) ∙ n in
+          let other : (p.place == length a.earlier) ≡ false = search in
           let same = like-earlier p.place captured a other in
           rw n
           (like-inline all only ps (attempts_with p.place captured a) b
@@ -78,13 +71,16 @@ shown_call d c = call_of_last (unread_call d c)
 -- where no place is meant, all outputs are
 all_wanted : (ps : List PlacedOutput) → wanted None ps ≡ ps
 all_wanted [] = refl
-all_wanted (p ∷ ps) = ap (λ qs. p ∷ qs) (all_wanted ps)
+all_wanted (p ∷ ps) = cc (all_wanted ps)
 
 skips-inline : (d : OutputLoadDecider) (all : List ℕ) (ps : List PlacedOutput) (event : SceneEvent)
     → skips d (event_inline all ps event) ≡ skips d event
 skips-inline d all [] event = refl
-skips-inline d all (p ∷ ps) event = skips-inline d all ps (event_with p.place (output_inline all p.output) event)
-    ∙ skips-with d p.place (output_inline all p.output) event
+skips-inline d all (p ∷ ps) event = search (
+  skips-with,
+  skips-inline d all ps
+      (event_with p.place (output_inline all p.output) event),
+)
 
 -- it is not skipped
 unread-loaded : (d : OutputLoadDecider) (c : ReportCall) → call_skips d c ≡ false → unread_call d c ≡ c
@@ -116,14 +112,13 @@ same_some a b h = cc
 -- it is none that has no attempts
 no_attempts : (event finish : SceneEvent) → event ≡ finish → is_some (event_attempts finish) ≡ true
     → is_some (event_attempts event) ≡ true
-no_attempts event finish is has = ap (λ e. is_some (event_attempts e)) is ∙ has
+no_attempts event finish is has = cc
 
 -- a call of an event with the outputs in it that are loaded is shown as one of the event with all of them
 module _ (d : OutputLoadDecider) (all : List ℕ) (ps : List PlacedOutput) where
   loads-inline : (event : SceneEvent) (c : ReportCall) (qs : List PlacedOutput) → skips d event ≡ false
       → call_by_names c ≡ event_inline all qs event → unread_call d c ≡ c
-  loads-inline event c qs loads is = unread-loaded d c
-      (sym (named_skips d c) ∙ ap (skips d) is ∙ skips-inline d all qs event ∙ loads)
+  loads-inline event c qs loads is = grind (arith, unread-loaded, named_skips, skips-inline)
 
   -- there is one
   abbrev IsShown : SceneEvent → ReportCall → Type 0
@@ -133,7 +128,7 @@ module _ (d : OutputLoadDecider) (all : List ℕ) (ps : List PlacedOutput) where
   -- it is the call itself, of an event of which all outputs are loaded
   all_loaded : (event : SceneEvent) (c : ReportCall) → call_by_names c ≡ event_inline all (wanted None ps) event
       → IsShown event c
-  all_loaded event c is = (c, subst (λ qs. call_by_names c ≡ event_inline all qs event) (all_wanted ps) is, refl)
+  all_loaded event c is = grind (arith, all_wanted)
 
   -- a test that has finished
   module _ (elapsed : Nanos) (stress : Option StressIndex) (test : TestInstanceId)
@@ -154,15 +149,14 @@ module _ (d : OutputLoadDecider) (all : List ℕ) (ps : List PlacedOutput) where
         → call_by_names (call.Event (record { elapsed = at; kind = k }))
         ≡ finished (attempts_inline all (wanted_of (finished a) ps) a)
         → skips d (finished a) ≡ false → IsShown (finished a) (call.Event (record { elapsed = at; kind = k }))
-    of_finish a at (kind.TestFinished s t on_success on_failure b counts) is loads =
-        let loaded = wanted_of (finished a) ps in
+    of_finish a at (kind.TestFinished s t on_success on_failure b counts) is loads = let loaded = wanted_of (finished a)
+        ps in
         let with_attempts : AttemptsOfRun → ReportCall = λ x. call.Event (record {
           elapsed = at;
           kind = kind.TestFinished s t on_success on_failure x counts;
         }) in
         let other = with_attempts (attempts_inline all ps a) in
-        let same : b ≡ attempts_inline all loaded a =
-        same_some b (attempts_inline all loaded a) (ap event_attempts is) in
+        let same : b ≡ attempts_inline all loaded a = grind arith in
         let named : call_by_names other ≡ finished (attempts_inline all ps a) =
         ap (event_put (attempts_inline all ps a)) is in
         let of_all = named ∙ sym (finished_inline ps a) in (
@@ -189,13 +183,11 @@ module _ (d : OutputLoadDecider) (all : List ℕ) (ps : List PlacedOutput) where
       let loaded = wanted (Some (length a.earlier)) ps in
       of_finish elapsed stress test success failure stats a x.elapsed x.kind
       (is ∙ finished_inline elapsed stress test success failure stats loaded a) loads
-  of_event elapsed (kind.TestFinished stress test success failure a stats) (call.Header h) is loads = absurd
-      (let loaded = wanted (Some (length a.earlier)) ps in
-      false≢true (no_attempts _ _ (is ∙ finished_inline elapsed stress test success failure stats loaded a) refl))
-  of_event elapsed (kind.TestFinished stress test success failure a stats) (call.Prefix p) is loads = absurd
-      (let loaded = wanted (Some (length a.earlier)) ps in
-      false≢true (no_attempts _ _ (is ∙ finished_inline elapsed stress test success failure stats loaded a) refl))
-  of_event elapsed k c is loads = all_loaded (EventCall (record { elapsed = elapsed; kind = k })) c is
+  of_event elapsed (kind.TestFinished stress test success failure a stats) (call.Header h) is loads =
+      grind (arith, false≢true, no_attempts, finished_inline)
+  of_event elapsed (kind.TestFinished stress test success failure a stats) (call.Prefix p) is loads =
+      grind (arith, false≢true, no_attempts, finished_inline)
+  of_event elapsed k c is loads = search all_loaded
 
   pub loaded_call : (event : SceneEvent) (c : ReportCall)
       → call_by_names c ≡ event_inline all (wanted_of event ps) event → skips d event ≡ false → IsShown event c
@@ -212,7 +204,7 @@ outcome_behind : (calls past other : List ReportCall) → run_outcome other ≡ 
 unfolding run_outcome
 outcome_behind [] past other same = same
 outcome_behind (c ∷ calls) past other same = outcome_behind calls (c ∷ past) (call_of_last c ∷ other)
-    (outcome-call (run_outcome other) c ∙ ap (λ before. outcome_after before c) same)
+    (grind arith)
 
 pub outcome_last : (calls : List ReportCall) → run_outcome (reverse (calls_of_last calls)) ≡ run_outcome (reverse calls)
 outcome_last calls = outcome_behind calls [] [] refl

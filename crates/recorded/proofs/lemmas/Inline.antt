@@ -1,21 +1,22 @@
--- A recorded run as it is replayed, and with every output in its place: the events are the same but for outputs that
--- are not loaded (for `RecordedRun::replay`).
+-- A recorded run as it is replayed, and the run with every output in its place, have the same events but for outputs
+-- that are not loaded (for `RecordedRun::replay`).
+use Rattle.std.proofs.Common.{arith}
 use Rattle.std.proofs.Common.{◌≡◌, ◌⊎◌, ℕ, Bool, true, false, List, [], ◌∷◌, map, Option, None, Some, Result, Ok, Err}
-use Rattle.std.proofs.Common.{refl, sym, ap, ◌∙◌, subst, inl, inr, if◌then◌else◌}
+use Rattle.std.proofs.Common.{refl, sym, subst, inl, inr, if◌then◌else◌}
 use Rattle.{std.specs.List.AllZip, reporter_state.specs.declared.decider.OutputLoadDecider.OutputLoadDecider}
 use Rattle.scene_follower.proofs.lemmas.ReadLines.{kept_config}
 use Rattle.{std.proofs.lemmas.Bool.cases_Bool, std.proofs.lemmas.Bool.false≢true}
 use Rattle.std.proofs.lemmas.Slice.Zip.{all_zipped_more}
 use Rattle.scene_follower.specs.Names.{Options, decider_for}
-use Rattle.recorded.specs.Names.{event_inline, event_replayed, first_field_not, is_there, is_undamaged, unless_bad}
+use Rattle.recorded.specs.Names.{event_inline, event_replayed, unless_bad}
 use Rattle.recorded.specs.Names.{wanted_of, skips, line_inline, line_replayed}
 use Rattle.scene_reader.specs.Names.{PlacedOutput, SceneEvent, LineFault, AllRead, ParsedLines, event_line, is_begun}
 use Rattle.scene_reader.specs.Names.{line_read, lines_before, lines_with, recorded_line, with_line, with_made}
 use Rattle.scene_reader.specs.Names.{ParsedLine}
 use Rattle.scene_reader.specs.SceneTexts.{ConfigLine, EventLine, NoEvent}
 
--- an event with every output in its place: the decider skips those of the one that is replayed, or that one has those
--- in it that are loaded
+-- An event with every output in its place: either the decider skips the replayed event's outputs, or the replayed event
+-- holds those that were loaded.
 abbrev pub IsInline : List ℕ → OutputLoadDecider → SceneEvent → SceneEvent → Type 0
 IsInline all d replayed inline =
     ((stored : List PlacedOutput) × (skips d replayed ≡ true) × (inline ≡ event_inline all stored replayed))
@@ -47,18 +48,13 @@ module _ (all : List ℕ) (d : OutputLoadDecider) (stored : List PlacedOutput) (
       (Ok (event_inline all (wanted_of event stored) event))) ≡ Ok made
       → IsInline all d made (event_inline all stored event)
   made_so (Some field) skipped is damaged h = absurd (cc)
-  made_so None true is damaged h =
-      let same : event ≡ made = cc in
-      inl (stored, ap (skips d) (sym same) ∙ is, ap (event_inline all stored) same)
+  made_so None true is damaged h = grind arith
   made_so None false is (Some field) h = absurd (cc)
-  made_so None false is None h =
-      let same : event_inline all (wanted_of event stored) event ≡ made = cc in
-      inr (event, stored, is, sym same, refl)
+  made_so None false is None h = grind arith
 
   pub is_inline : event_replayed all d stored event ≡ Ok made → IsInline all d made (event_inline all stored event)
   unfolding event_replayed
-  is_inline h = made_so (first_field_not (is_there all) stored) (skips d event) refl
-      (first_field_not (is_undamaged all) (wanted_of event stored)) h
+  is_inline h = grind arith
 
 module _ (options : Options) (all : List ℕ) where
   -- one line of both
@@ -85,25 +81,23 @@ module _ (options : Options) (all : List ℕ) where
         → lines_with replayed (with_made (λ stored e. event_replayed all d stored e) says) ≡ Ok after →
         (next : ParsedLines) × (lines_with inline (with_made (λ stored e. Ok (event_inline all stored e)) says)
         ≡ Ok next) × AreInline options all after next
-    line_goes (Ok (NoEvent, stored)) is h =
-        (inline, refl, (let same : replayed ≡ after = cc in subst (λ x. AreInline options all x inline) same are))
-    line_goes (Ok (ConfigLine c, stored)) is h =
-        let same : with_line replayed (ConfigLine c) ≡ after = cc in (
-          with_line inline (ConfigLine c),
-          refl,
-          subst (λ x. AreInline options all x (with_line inline (ConfigLine c))) same (record {
-            config = refl;
-            events = elim (cases_Bool (is_begun replayed.events)) [
-              | inl begun ↦
-                  let kept : c ≡ replayed.config =
-                  kept_config replayed (line_replayed options all t) (ConfigLine c) begun
-                  (ap (with_made (λ stored e. event_replayed all d stored e)) is) in
-                  subst (λ k. AllZip (IsInline all (decider_for options k)) replayed.events inline.events) (sym kept)
-                  are.events
-              | inr none ↦ none_zipped _ _ replayed.events inline.events none are.events
-            ];
-          }),
-        )
+    line_goes (Ok (NoEvent, stored)) is h = grind arith
+    line_goes (Ok (ConfigLine c, stored)) is h = let same : with_line replayed (ConfigLine c) ≡ after = cc in (
+      with_line inline (ConfigLine c),
+      refl,
+      subst (λ x. AreInline options all x (with_line inline (ConfigLine c))) same (record {
+        config = refl;
+        events = elim (cases_Bool (is_begun replayed.events)) [
+          | inl begun ↦
+              let kept : c ≡ replayed.config =
+              kept_config replayed (line_replayed options all t) (ConfigLine c) begun
+              (search) in
+              subst (λ k. AllZip (IsInline all (decider_for options k)) replayed.events inline.events) (sym kept)
+              are.events
+          | inr none ↦ none_zipped _ _ replayed.events inline.events none are.events
+        ];
+      }),
+    )
     line_goes (Ok (EventLine e, stored)) is h = (
       with_line inline (EventLine (event_inline all stored e)),
       refl,
@@ -114,23 +108,12 @@ module _ (options : Options) (all : List ℕ) where
 
     goes : (next : ParsedLines) × (line_read inline (line_inline all t) ≡ Ok next) × AreInline options all after next
     unfolding line_read
-    goes =
-        let same_before : lines_before inline ≡ lines_before replayed = rw
-        (are.config, same_begun _ replayed.events inline.events are.events) refl in
-        let next = line_goes (recorded_line (lines_before replayed) t) refl reads in (
-          next.0,
-          ap (λ b. lines_with inline
-              (with_made (λ stored e. Ok (event_inline all stored e)) (recorded_line b t))) same_before
-              ∙ next.1,
-          next.2,
-        )
+    goes = grind (arith, same_begun, line_goes)
 
   -- all lines
   pub go_on : (ts : List (List ℕ)) (replayed inline run : ParsedLines) → AreInline options all replayed inline
       → AllRead replayed (map (line_replayed options all) ts) run →
       (next : ParsedLines) × AllRead inline (map (line_inline all) ts) next × AreInline options all run next
-  go_on [] replayed inline run are h = (inline, refl, subst (λ x. AreInline options all x inline) h are)
-  go_on (t ∷ ts) replayed inline run are h =
-      let one = goes replayed inline h.0 are t h.1 in
-      let more = go_on ts h.0 one.0 run one.2 h.2 in
-      (more.0, (one.0, one.1, more.1), more.2)
+  go_on [] replayed inline run are h = grind arith
+  go_on (t ∷ ts) replayed inline run are h = let one = goes replayed inline h.0 are t h.1 in
+      grind (arith, go_on ts h.0 one.0 run one.2 h.2)

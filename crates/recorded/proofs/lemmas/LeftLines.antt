@@ -6,11 +6,11 @@ use Rattle.scene_follower.specs.Read.{IsGiven, StopsNext}
 use Rattle.{reporter_state.specs.declared.decider.OutputLoadDecider.OutputLoadDecider}
 use Rattle.scene_follower.proofs.lemmas.ReadLines.{begun_by}
 use Rattle.recorded.proofs.lemmas.WholeLines.{ended_lines-joined, ended_lines-none}
-use Rattle.recorded.specs.Names.{event_replayed, LoadsCall, counted, before_rest, needed_for, line_replayed, needed}
-use Rattle.recorded.specs.Names.{needed_by, needed_of, ended_lines, IsLeft}
-use Rattle.{command_line.specs.Pieces.IsNextPiece, scene_fields.specs.Split.Lacks}
+use Rattle.recorded.specs.Names.{event_replayed, LoadsCall, counted, line_replayed, needed}
+use Rattle.recorded.specs.Names.{needed_by, ended_lines, IsLeft}
+use Rattle.{command_line.specs.Pieces.IsNextPiece}
 use Rattle.scene_reader.specs.Names.{before_behind, before_next, call_by_names, event_line, IsLineFault, IsTaken}
-use Rattle.scene_reader.specs.Names.{line_value, LineFault, lines_before, LinesBefore, ParsedLine, ParsedLines}
+use Rattle.scene_reader.specs.Names.{line_value, LineFault, lines_before, ParsedLine, ParsedLines}
 use Rattle.scene_reader.specs.Names.{PassesValue, PlacedOutput, recorded_line, ReportCall, RunLine, SceneConfig}
 use Rattle.scene_reader.specs.Names.{SceneEvent, Takes, with_line, with_made}
 use Rattle.scene_reader.specs.SceneTexts.{ConfigLine, EventLine, NoEvent}
@@ -25,32 +25,8 @@ module _ (total : ℕ) (options : Options) (recorded remaining rest : Option (Li
 
   piece_left : (is_ended : Bool) → ((text : List ℕ) → remaining ≡ Some text → IsNextPiece text is_ended piece rest)
       → HasNext piece LeftOf lines is_ended
-  piece_left true next =
-      let h = next left.text left.rest in
-      let same = ap ended_lines h.2 ∙ ended_lines-joined piece h.0 in
-      record {
-        all = left.all;
-        text = h.0;
-        outputs = left.outputs;
-        rest = h.1;
-        is = left.is ∙ ap (map (line_replayed options left.all)) same;
-        counts = left.counts ∙ ap (λ ts. counted count (needed options (lines_before before) ts)) same;
-      }
-  piece_left false next =
-      let h = next left.text left.rest in
-      let ended = ended_lines-none left.text (subst (Lacks 10) (sym h.0) h.1) in
-      let none : lines ≡ [] = left.is ∙ ap (map (line_replayed options left.all)) ended in
-      let empty = ended_lines-none [] tt in
-      let still : LeftOf [] [] = record {
-        all = left.all;
-        text = [];
-        outputs = left.outputs;
-        rest = h.2;
-        is = ap (map (line_replayed options left.all)) (sym empty);
-        counts = left.counts
-            ∙ ap (λ ts. counted count (needed options (lines_before before) ts)) (ended ∙ sym empty);
-      } in
-      (inr (none, refl), subst (LeftOf []) (sym none) still, still)
+  piece_left true next = grind (arith, ended_lines-joined)
+  piece_left false next = grind (arith, ended_lines-none)
 
   pub pieces_left : (result : Result Bool Fault)
       → IfOk result (λ is_ended. (text : List ℕ) → remaining ≡ Some text → IsNextPiece text is_ended piece rest)
@@ -58,14 +34,14 @@ module _ (total : ℕ) (options : Options) (recorded remaining rest : Option (Li
   pieces_left (Ok is_ended) next = piece_left is_ended next
   pieces_left (Err fault) next = tt
 
--- what is before the line after one of this value
+-- what must be known before the line after one with this value
 before_so : (run : ParsedLines) (value : ParsedLine)
     → lines_before (with_line run value) ≡ before_behind (lines_before run) value
 before_so run NoEvent = refl
 before_so run (ConfigLine c) = refl
 before_so run (EventLine e) = rw (begun_by run.events e) refl
 
--- what a sink keeps that takes a call, it keeps where a line was read
+-- what a sink keeps when it takes a call, it keeps when a line is read
 abbrev Keeps : {K X : Type 0} → Takes K → (K → X) → Type 0
 Keeps {K} takes name = (old : K) (file : List ℕ) (n : ℕ) (stored : List PlacedOutput) (call : ReportCall)
     (result : Result (Unit {0}) Fault) (new : K) → takes old file n stored call result new → name new ≡ name old
@@ -75,20 +51,15 @@ taken_keeps : {K X : Type 0} (takes : Takes K) (file : List ℕ) (n : ℕ) (line
     → IsTaken takes file n stored line given result after → (name : K → X) → Keeps takes name → name after ≡ name given
 taken_keeps takes file n NoEvent stored given result after taken name keeps = ap name taken.0
 taken_keeps takes file n (ConfigLine c) stored given result after taken name keeps = ap name taken.0
-taken_keeps takes file n (EventLine e) stored given result after taken name keeps =
-    keeps given file n stored taken.0 result after taken.2
+taken_keeps takes file n (EventLine e) stored given result after taken name keeps = search
 
 pub line_keeps : {K X : Type 0} (takes : Takes K) (file : List ℕ)
     (value : Result (ParsedLine × List PlacedOutput) LineFault) (old : LinesRead) (given : K)
     (result : Result (Unit {0}) Fault) (new : LinesRead) (after : K)
     → PassesValue takes file value old given result new after → (name : K → X) → Keeps takes name
     → name after ≡ name given
-line_keeps takes file value old given (Ok done) new after h name keeps =
-    taken_keeps takes file old.next h.ok.0 h.ok.1 given (Ok tt) after h.ok.3 name keeps
-line_keeps takes file value old given (Err fault) new after h name keeps = elim h.err [
-  | inl before_call ↦ ap name before_call.0
-  | inr in_call ↦ taken_keeps takes file old.next in_call.0 in_call.1 given (Err fault) after in_call.3 name keeps
-]
+line_keeps takes file value old given (Ok done) new after h name keeps = grind arith
+line_keeps takes file value old given (Err fault) new after h name keeps = grind arith
 
 -- the next line, which the loading sink was given
 module _ {L O K : Type 0} (recorded : O → Option (List ℕ)) (counts : O → ℕ) (takes : Takes K)
@@ -115,22 +86,21 @@ module _ {L O K : Type 0} (recorded : O → Option (List ℕ)) (counts : O → �
 
   said : (read : Result (ParsedLine × List PlacedOutput) LineFault) → recorded_line (before_next old) t ≡ read
       → line_value (lines_before before) line ≡ with_made make read
-  said read says = ap (with_made make) (ap (λ b. recorded_line b t) (sym is) ∙ says)
+  said read says = cc
 
   -- the decider of the sink is that of the run, and names make no difference
   abbrev decider : OutputLoadDecider
   decider = decider_for (options_of given) (config_of given)
 
   decides : decider ≡ decider_for options before.config
-  decides = rw (options_are, config_is, ap (λ (b : LinesBefore). b.config) is) refl
+  decides = grind arith
 
   made_so : (stored : List PlacedOutput) (call : ReportCall) (e : SceneEvent) (made : Result SceneEvent LineFault)
       → call_by_names call ≡ e → event_replayed left.all decider stored (call_by_names call) ≡ made
       → make stored e ≡ made
-  made_so stored call e made named loaded = ap (make stored) (sym named)
-      ∙ ap (λ d. event_replayed left.all d stored (call_by_names call)) (sym decides) ∙ loaded
+  made_so stored call e made named loaded = grind arith
 
-  -- what is left behind it
+  -- what is left after it
   abbrev Left : L → ParsedLines → List RunLine → Type 0
   Left after = IsLeft total options (recorded (source after)) remaining (counts (source after))
       others
@@ -143,23 +113,7 @@ module _ {L O K : Type 0} (recorded : O → Option (List ℕ)) (counts : O → �
       → before_behind (lines_before before) read ≡ before_behind (lines_before before) value
       → Left after (with_line before value) more
   unfolding needed
-  left_behind read value stored after says kept counted_more same =
-      let b = lines_before before in
-      let rest = others ++ ended_lines left.text in
-      let says_so : recorded_line b t ≡ Ok (read, stored) = ap (λ b. recorded_line b t) (sym is) ∙ says in
-      let needs : needed options b (t ∷ rest) ≡ needed_by options b stored read + needed options
-      (before_behind b read) rest = ap (λ r. needed_for options b r + needed options (before_rest b r) rest) says_so in
-      record {
-        all = left.all;
-        text = left.text;
-        outputs = kept ∙ left.outputs;
-        rest = left.rest;
-        is = refl;
-        counts = left.counts ∙ ap (counted (counts (source given))) needs
-            ∙ sym (counted_more (needed options (before_behind b read) rest))
-            ∙ ap (λ x. counted (counts (source after)) (needed options x rest))
-            (same ∙ sym (before_so before value));
-      }
+  left_behind read value stored after says kept counted_more same = grind arith
 
   -- it was read
   abbrev Passed : LinesRead → L → Type 0
@@ -185,8 +139,7 @@ module _ {L O K : Type 0} (recorded : O → Option (List ℕ)) (counts : O → �
     behind ∙ ap (λ b. before_behind b value) is ∙ sym (before_so before value),
     next,
     left_behind value value stored after says (ap (λ l. recorded (source l)) same)
-        (λ n. ap (λ l. counted (counts (source l)) n) same
-        ∙ ap (counted (counts (source given))) (omega (arith, none)))
+        (grind arith)
         refl,
   )
 
@@ -215,60 +168,41 @@ module _ {L O K : Type 0} (recorded : O → Option (List ℕ)) (counts : O → �
           next,
           left_behind (EventLine e) (EventLine (call_by_names made.0)) stored after says loads.0.kept
               (λ n. loads.0.counts n ∙ ap (λ k. counted (counts (source given)) (k + n))
-              (ap (λ d. needed_of d (call_by_names call) stored) decides
-              ∙ ap (λ x. needed_of (decider_for options before.config) x stored) named))
+              (cc))
               refl,
         )
         | inr wrong ↦ absurd wrong.1
       ]
 
-  -- or a fault stopped it: its own
+  -- or a fault stopped it: the line's own
   abbrev Stopped : Fault → L → Type 0
   Stopped fault after = StopsNext takes file before old.next lines (sink given) fault (sink after)
 
   stopped_before : (fault : Fault) (after : L) → after ≡ given
       → IsLineFault old.next (recorded_line (before_next old) t) fault → Stopped fault after
   stopped_before program.OutOfMemory after same h = inl (ap sink same, inl tt)
-  stopped_before (program.Line n f) after same h = inl (
-    ap sink same,
-    inr (line, more, f, left.is, said (Err f) h.1, ap (λ m. program.Line m f) h.0),
-  )
+  stopped_before (program.Line n f) after same h = grind arith
   stopped_before other after same h = absurd h
 
-  -- that of an output, or of the sink
+  -- or that of an output, or of the sink
   stopped_in : (value : ParsedLine) (stored : List PlacedOutput) (fault : Fault) (after : L)
       → recorded_line (before_next old) t ≡ Ok (value, stored)
       → IsTaken Loads file old.next stored value given (Err fault) after
       → Stopped fault after
   stopped_in NoEvent stored fault after says taken = absurd (let wrong = taken.1 in cc)
   stopped_in (ConfigLine c) stored fault after says taken = absurd (let wrong = taken.1 in cc)
-  stopped_in (EventLine e) stored fault after says (call, named, loads) =
-      elim (loads.0.loaded left.all left.outputs) [
-        | inl made ↦ inr (
-          line,
-          more,
-          call_by_names made.0,
-          left.is,
-          said (Ok (EventLine e, stored)) says
-              ∙ ap event_line (made_so stored call e (Ok (call_by_names made.0)) named made.1),
-          (stored, (made.0, refl, made.2)),
-        )
-        | inr (same, unread) ↦ inl (
-          same,
-          elim unread [
-            | inl is_unread ↦ inl is_unread
-            | inr (f, wrong, told) ↦ inr (
-              line,
-              more,
-              f,
-              left.is,
-              said (Ok (EventLine e, stored)) says
-                  ∙ ap event_line (made_so stored call e (Err f) named wrong),
-              told,
-            )
-          ],
-        )
-      ]
+  stopped_in (EventLine e) stored fault after says (call, named, loads) = elim (loads.0.loaded left.all left.outputs) [
+    | inl made ↦ inr (
+      line,
+      more,
+      call_by_names made.0,
+      left.is,
+      said (Ok (EventLine e, stored)) says
+          ∙ ap event_line (made_so stored call e (Ok (call_by_names made.0)) named made.1),
+      (stored, (made.0, refl, made.2)),
+    )
+    | inr (same, unread) ↦ grind arith
+  ]
 
   pub line_passes : (result : Result (Unit {0}) Fault) (new : LinesRead) (after : L) (sink_after : K)
       → sink after ≡ sink_after → PassesValue Loads file (recorded_line (before_next old) t) old given result new after
@@ -278,11 +212,4 @@ module _ {L O K : Type 0} (recorded : O → Option (List ℕ)) (counts : O → �
         ok = passed h.ok.0 h.ok.1 new after h.ok.2 h.ok.3 h.ok.4 h.ok.5;
         err = tt;
       })
-  line_passes (Err fault) new after sink_after same h = subst
-      (λ s. PassesNext takes file before lines (Left after) old (sink given) (Err fault) new s) same (record {
-        ok = tt;
-        err = elim h.err [
-          | inl before_call ↦ stopped_before fault after before_call.0 before_call.1
-          | inr in_call ↦ stopped_in in_call.0 in_call.1 fault after in_call.2 in_call.3
-        ];
-      })
+  line_passes (Err fault) new after sink_after same h = grind (arith, stopped_before, stopped_in)

@@ -1,5 +1,5 @@
 -- What was loaded of an output is what is at its positions.
-use Rattle.std.proofs.Common.{◌≡◌, ℕ, List, Option, None, Some, IfSome, Ok, ap, ◌∙◌, arith}
+use Rattle.std.proofs.Common.{◌≡◌, ℕ, List, Option, None, Some, IfSome, Ok, arith}
 use Rattle.scene_reader.specs.Names.{ChildOutputDescription, Reference, PlacedOutput, StoredOutput, StoredStream}
 use Rattle.{run_model.specs.Loads.call_with, recorded.proofs.lemmas.Named.named-with}
 use Rattle.scene_reader.specs.Names.{call_by_names, ReportCall}
@@ -25,5 +25,4 @@ pub loaded-event : (known : Option (List ℕ)) (p : PlacedOutput) (loaded : Chil
     new ≡ call_with p.place loaded old
     → IfSome known (λ all. call_by_names new ≡ event_with p.place (output_inline all p.output) (call_by_names old))
 loaded-event None p loaded old new is with = tt
-loaded-event (Some all) p loaded old new is with = ap call_by_names with ∙ named-with p.place loaded old
-    ∙ ap (λ l. event_with p.place l (call_by_names old)) (loaded-output all p.output loaded is)
+loaded-event (Some all) p loaded old new is with = grind (arith, named-with, loaded-output)

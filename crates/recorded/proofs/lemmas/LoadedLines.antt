@@ -1,9 +1,9 @@
 -- A call whose stored outputs a replay loads (for `Loading::load`, `Loading::take`).
 use Rattle.scene_reader.specs.Names.{SceneEvent, PlacedOutput}
-use Rattle.std.proofs.Common.{◌≡◌, ℕ, Bool, true, List, [], Option, Some, Ok, Err, length, sym, ◌∙◌, subst, arith, ◌==◌}
+use Rattle.std.proofs.Common.{◌≡◌, ℕ, Bool, true, List, [], Option, Some, Ok, Err, length, sym, subst, arith, ◌==◌}
 use Rattle.std.proofs.Common.{inl, inr, IfSome}
 use Rattle.{reporter_state.specs.declared.decider.OutputLoadDecider.OutputLoadDecider}
-use Rattle.{std.proofs.lemmas.Bool.Decides.nat_tests, std.proofs.lemmas.List.nil_from_length}
+use Rattle.{std.proofs.lemmas.List.nil_from_length}
 use Rattle.scene_follower.specs.Names.{IsUnread, Fault}
 use Rattle.recorded.specs.Names.{IfDamaged, IsReplayed, IsUnloaded, event_replayed, IsFaultOfLoad, LoadEventFault}
 use Rattle.recorded.specs.Names.{LoadFault}
@@ -12,11 +12,9 @@ use Rattle.scene_fields.specs.declared.fault.LineFault.TheVariants as wrong
 
 pub none_in : (ps : List PlacedOutput) (size : ℕ) (none : Bool) → none ≡ (size == 0) → none ≡ true → size ≡ length ps
     → ps ≡ []
-none_in ps size none says is same =
-    let zero_size : size ≡ 0 = (let tested = sym says ∙ is in grind (arith, nat_tests, tested)) in
-    nil_from_length ps (sym same ∙ zero_size)
+none_in ps size none says is same = search (arith, nil_from_length)
 
--- an event with no stored output says what it says
+-- an event without a stored output stays as it is
 pub none_replayed : (all : List ℕ) (d : OutputLoadDecider) (stored : List PlacedOutput) (e : SceneEvent) → stored ≡ []
     → event_replayed all d stored e ≡ Ok e
 unfolding event_replayed
@@ -38,5 +36,4 @@ pub load_left : (all : List ℕ) (d : OutputLoadDecider) (stored : List PlacedOu
     → IsFaultOfLoad file n f.field f.fault told → (recorded : Option (List ℕ)) → recorded ≡ Some all
     → IfSome recorded (λ outputs. IsReplayed outputs d stored event (Err f) after) →
     IsUnloaded file n (event_replayed all d stored event) told
-load_left all d stored event file n f told after is recorded known loaded = left_by all d stored event file n f.field
-    f.fault told is (subst (λ r. IfSome r (λ outputs. IsReplayed outputs d stored event (Err f) after)) known loaded)
+load_left all d stored event file n f told after is recorded known loaded = grind arith

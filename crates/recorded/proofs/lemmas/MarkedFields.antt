@@ -1,13 +1,13 @@
--- What a reference begins with begins no value of any other kind of field.
+-- No value of any other kind of field begins like a reference.
 use Rattle.scene_reader.specs.Names.{in_turn, skips_in, stats_in, code_in, nanos_in, number_in, after_mark, mark}
 use Rattle.scene_reader.specs.Names.{reference_in, result_in, cut, split_on, stress_in, highlight_in, moment_in}
 use Rattle.scene_reader.specs.Names.{progress_in}
-use Rattle.std.proofs.Common.{◌≡◌, ℕ, List, [], ◌∷◌, true, false, drop, refl, arith, Option, None, inl, inr, ◌⊎◌}
+use Rattle.std.proofs.Common.{◌≡◌, ℕ, List, [], ◌∷◌, true, false, drop, refl, arith, Option, None, ◌⊎◌}
 use Rattle.std.proofs.Common.{nat_eq}
 use Rattle.{std.specs.List.list_all, std.specs.List.starts_with, std.specs.Option.option_flatten}
 use Rattle.{scene_reader.specs.Names.result_or_none_in, scene_reader.specs.Names.state_in}
-use Rattle.std.proofs.lemmas.Bool.{and_right, cases_Bool, Decides.nat_tests}
-use Rattle.uuid.specs.Text.{by_index, digits_of, is_hex_digit, parsed, parsed_hyphenated, parsed_simple}
+use Rattle.std.proofs.lemmas.Bool.{and_right, Decides.nat_tests}
+use Rattle.uuid.specs.Text.{by_index, is_hex_digit, parsed, parsed_hyphenated, parsed_simple}
 
 -- what a reference begins with
 begins : (t : List ℕ) → starts_with nat_eq t mark ≡ true → t ≡ 92 ∷ 64 ∷ drop 2 t
@@ -15,12 +15,12 @@ begins [] h = cc
 begins (c ∷ []) h = grind (arith, nat_tests)
 begins (c ∷ d ∷ u) h = grind (arith, nat_tests)
 
--- a field is no reference, or begins so
+-- a field is no reference, or begins like one
 pub marked : (t : List ℕ) → (reference_in t ≡ None) ⊎ (t ≡ 92 ∷ 64 ∷ drop 2 t)
 unfolding reference_in after_mark
-marked t = elim (cases_Bool (starts_with nat_eq t mark)) [ inl y ↦ inr (begins t y) | inr n ↦ inl (rw n refl) ]
+marked t = grind arith
 
--- of what a reference begins with nothing is read
+-- what begins like a reference is read as no value
 abbrev pub MarkedIsNone : {X : Type 0} → (List ℕ → Option X) → Type 0
 MarkedIsNone value_in = (u : List ℕ) → value_in (92 ∷ 64 ∷ u) ≡ None
 
@@ -38,10 +38,10 @@ no_simple s h = grind (arith, and_right)
 
 marked_hyphenated : MarkedIsNone parsed_hyphenated
 unfolding by_index
-marked_hyphenated u = rw (no_simple (digits_of (92 ∷ 64 ∷ u)) refl) (grind arith)
+marked_hyphenated u = grind arith
 
 pub marked_run_id : MarkedIsNone parsed
-marked_run_id u = rw (no_simple (92 ∷ 64 ∷ u) refl, marked_hyphenated u) (grind (arith, and_right))
+marked_run_id u = search (arith, no_simple, marked_hyphenated, and_right)
 
 -- iterations
 pub marked_stress : MarkedIsNone stress_in

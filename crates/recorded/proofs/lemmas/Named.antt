@@ -1,4 +1,4 @@
--- What is put into a call is put into what it says, wherever the names of its test are.
+-- To put an output into a call is to put it into what the call says, wherever the names of its test are.
 use Rattle.std.proofs.Common.{◌≡◌, ℕ, List, [], ◌∷◌, Bool, false, refl, ap, ◌∙◌, arith}
 use Rattle.{run_model.specs.Loads.call_with}
 use Rattle.recorded.specs.Names.{event_inline, event_with, output_inline, skips}

@@ -68,7 +68,7 @@ module _ (d : OutputLoadDecider) (stress : Option StressIndex) (id program : Lis
   abbrev finished : SetupScriptExecuteStatus LiveSpec ChildOutputDescription → SceneEvent
   finished status = event_at 0 (SetupScriptFinished stress id program args status)
 
-  -- of a script that succeeded it is not looked at, but must be there
+  -- the output of a script that succeeded is not read, but must be there
   row_skipped : is_success status.result ≡ true → event_replayed all d combined (finished status) ≡ Ok (finished status)
   unfolding event_replayed
   row_skipped passed = rw passed refl
@@ -77,7 +77,7 @@ module _ (d : OutputLoadDecider) (stress : Option StressIndex) (id program : Lis
   unfolding event_replayed
   row_not_there = refl
 
-  -- that of one that failed is put into it, if it is what was recorded
+  -- that of a script that failed is put into the event, if it is undamaged
   row_loaded : is_success status.result ≡ false → stream_at all here ≡ Some (codes "bc") →
       event_replayed all d second (finished status) ≡ Ok (finished (record status {
         output = execution_with_output status.output (captured.Split (Some []) (Some (codes "bc")));

@@ -1,22 +1,21 @@
--- Outputs that are put into an event which the decider skips are gone once its skipped outputs are left unread.
-use Rattle.std.proofs.Common.{◌≡◌, ℕ, true, ◌==◌, List, [], ◌∷◌, Some, refl, ap, ◌∙◌, arith, inl, inr}
+-- If the decider skips an event, the outputs put into it are gone once its skipped outputs are left unread.
+use Rattle.std.proofs.Common.{◌≡◌, ℕ, true, List, [], ◌∷◌, refl, ◌∙◌, arith}
 use Rattle.recorded.specs.Names.{event_with, output_inline, skips}
-use Rattle.{std.proofs.lemmas.Bool.cases_Bool, std.proofs.lemmas.Bool.false≢true}
+use Rattle.{std.proofs.lemmas.Bool.false≢true}
 use Rattle.run_model.specs.{Loads.call_with, Loads.kind_with, Names.unloaded_kind}
 use Rattle.scene_reader.specs.Names.{EventCall, HeaderCall, PrefixCall, ReportCall, SceneEvent, TestEventKind}
 use Rattle.scene_reader.specs.Names.{ChildOutputDescription, PlacedOutput}
-use Rattle.reporter_state.specs.{Loads.load_if, Names.loads_finish, Names.is_skip, Names.is_skipped, Names.unread_call}
+use Rattle.reporter_state.specs.{Names.is_skipped, Names.unread_call}
 use Rattle.reporter_state.specs.{declared.decider.OutputLoadDecider.OutputLoadDecider}
 use Rattle.recorded.proofs.lemmas.Named.{call_inline, call_skips}
-use Rattle.recorded.proofs.lemmas.Unloaded.{same-summary, unloaded-attempt, unloaded-attempts, unloaded-script}
+use Rattle.recorded.proofs.lemmas.Unloaded.{unloaded-attempts}
 use Rattle.run_model.specs.declared.call.ReportCall.TheVariants as call
 use Rattle.run_model.specs.declared.event.TestEventKind.TheVariants as kind
 
 -- output that is put into an event does not change whether it is skipped
 skipped-with : (d : OutputLoadDecider) (place : ℕ) (captured : ChildOutputDescription) (k : TestEventKind)
     → is_skipped d (kind_with place captured k) ≡ is_skipped d k
-skipped-with d place captured (kind.TestFinished stress test success failure statuses stats) =
-    ap (λ x. is_skip (Some (load_if (loads_finish d success failure x)))) (same-summary place captured statuses)
+skipped-with d place captured (kind.TestFinished stress test success failure statuses stats) = grind arith
 skipped-with d place captured k = grind arith
 
 pub call_skips-with : (d : OutputLoadDecider) (place : ℕ) (captured : ChildOutputDescription) (c : ReportCall)
@@ -31,37 +30,25 @@ skips-with d place captured (EventCall e) = skipped-with d place captured e.kind
 skips-with d place captured (HeaderCall h) = refl
 skips-with d place captured (PrefixCall p) = refl
 
--- it is gone from one that is, once that is left unread
+-- output is gone from a skipped event, once that is left unread
 unread-with : (d : OutputLoadDecider) (place : ℕ) (captured : ChildOutputDescription) (k : TestEventKind)
     → is_skipped d k ≡ true → unloaded_kind (kind_with place captured k) ≡ unloaded_kind k
 unread-with d place captured (kind.TestFinished stress test success failure statuses stats) skipped =
-    ap (λ s. kind.TestFinished stress test success failure s stats) (unloaded-attempts place captured statuses)
-unread-with d place captured (kind.SetupScriptFinished stress id program args status) skipped =
-    elim (cases_Bool (place == 0)) [
-      | inl y ↦ rw y (ap (λ s. kind.SetupScriptFinished stress id program args s) (unloaded-script status captured))
-      | inr n ↦ rw n refl
-    ]
-unread-with d place captured (kind.TestAttemptFailedWillRetry stress test status delay failure) skipped =
-    elim (cases_Bool (place == 0)) [
-      | inl y ↦ rw y
-          (ap (λ s. kind.TestAttemptFailedWillRetry stress test s delay failure) (unloaded-attempt status captured))
-      | inr n ↦ rw n refl
-    ]
+    search unloaded-attempts
+unread-with d place captured (kind.SetupScriptFinished stress id program args status) skipped = grind arith
+unread-with d place captured (kind.TestAttemptFailedWillRetry stress test status delay failure) skipped = grind arith
 unread-with d place captured k skipped = absurd (false≢true skipped)
 
 same-call : (d : OutputLoadDecider) (place : ℕ) (captured : ChildOutputDescription) (c : ReportCall)
     → call_skips d c ≡ true → unread_call d (call_with place captured c) ≡ unread_call d c
-same-call d place captured (call.Event e) skipped = rw (skipped-with d place captured e.kind, skipped)
-    (ap (λ (k : TestEventKind). call.Event (record { elapsed = e.elapsed; kind = k }))
-    (unread-with d place captured e.kind skipped))
+same-call d place captured (call.Event e) skipped = grind (arith, skipped-with, unread-with)
 same-call d place captured (call.Header h) skipped = refl
 same-call d place captured (call.Prefix p) skipped = refl
 
--- so are any outputs
+-- and so are several outputs
 pub skipped_call : (d : OutputLoadDecider) (all : List ℕ) (stored : List PlacedOutput) (c : ReportCall)
     → call_skips d c ≡ true → unread_call d (call_inline all stored c) ≡ unread_call d c
 skipped_call d all [] c skipped = refl
-skipped_call d all (p ∷ ps) c skipped =
-    let captured = output_inline all p.output in
-    skipped_call d all ps (call_with p.place captured c) (call_skips-with d p.place captured c ∙ skipped)
+skipped_call d all (p ∷ ps) c skipped = let captured = output_inline all p.output in
+    skipped_call d all ps (call_with p.place captured c) (grind arith)
     ∙ same-call d p.place captured c skipped

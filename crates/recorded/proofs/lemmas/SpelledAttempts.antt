@@ -1,16 +1,15 @@
 -- The attempts of a test, spelled out: each is read with its own output in it.
-use Rattle.std.proofs.Common.{◌≡◌, ℕ, zero, suc, ◌+◌, ◌/◌, ◌^◌, ◌==◌, true, false, List, [], ◌∷◌, ◌++◌, length, Option}
-use Rattle.std.proofs.Common.{None, Some, refl, sym, ap, ◌∙◌, arith, append_assoc, nat_lt, slice_get}
+use Rattle.std.proofs.Common.{◌≡◌, ℕ, zero, suc, ◌+◌, ◌/◌, ◌==◌, false, List, [], ◌∷◌, ◌++◌, length, Option}
+use Rattle.std.proofs.Common.{None, Some, refl, sym, ap, ◌∙◌, arith, append_assoc, slice_get}
 use Rattle.scene_reader.specs.Names.{ChildOutputDescription, LiveSpec, FlakyResult, Noted, Place}
-use Rattle.scene_reader.specs.Names.{none_noted, noted_outputs, with_noted, placed, PlacedOutput, StoredOutput}
+use Rattle.scene_reader.specs.Names.{none_noted, noted_outputs, placed, PlacedOutput, StoredOutput}
 use Rattle.scene_reader.specs.Names.{all_attempts}
 use Rattle.std.proofs.{Common.length-append, Math.Seq.set-append_seam, lemmas.Bool.Decides.nat_tests}
 use Rattle.std.proofs.{lemmas.List.length-map}
 use Rattle.recorded.proofs.lemmas.SpelledOutputs.{attempt_loads, attempt_reads}
 use Rattle.recorded.proofs.lemmas.SpelledPlaces.{Change, Follows, HasNoted, HasOutput, Reads, Same, bind_follows}
-use Rattle.recorded.proofs.lemmas.SpelledPlaces.{checked_reads, place_spelled, says_spells, with_put}
+use Rattle.recorded.proofs.lemmas.SpelledPlaces.{place_spelled, with_put}
 use Rattle.{recorded.specs.Names.output_inline, recorded.specs.Names.AreBytes}
-use Rattle.{scene_fields.specs.declared.fault.LineFault.TheVariants.WrongNumberOfFields}
 use Rattle.run_model.specs.{Attempts.Attempt, Attempts.Attempts, Attempts.attempt_with_output, Loads.attempts_with}
 use Rattle.scene_reader.specs.Names.{attempt_fields, attempt_number, attempts_from, retry_numbered}
 
@@ -29,7 +28,7 @@ inline_append : (all : List ℕ) (ps qs : List PlacedOutput) (a : TestAttempts)
 inline_append all [] qs a = refl
 inline_append all (p ∷ ps) qs a = inline_append all ps qs (attempts_with p.place (output_inline all p.output) a)
 
--- an attempt behind others, and those that follow it
+-- an attempt after others, and those that follow it
 abbrev attempts_of : FlakyResult → List Attempt → Attempt → List Attempt → TestAttempts
 attempts_of flaky earlier a [] = record { earlier = earlier; last = a; flaky_result = flaky }
 attempts_of flaky earlier a (next ∷ rest) = attempts_of flaky (earlier ++ a ∷ []) next rest
@@ -62,8 +61,7 @@ module _ (flaky : FlakyResult) (captured : ChildOutputDescription) where
   put_here : (earlier : List Attempt) (a : Attempt) (rest : List Attempt) →
       attempts_with (length earlier) captured (attempts_of flaky earlier a rest)
       ≡ attempts_of flaky earlier (attempt_with_output a captured) rest
-  put_here earlier a [] = (let same : (length earlier == length earlier)
-      ≡ true = grind (arith, nat_tests) in rw same refl)
+  put_here earlier a [] = grind arith
   put_here earlier a (next ∷ rest) = put_before earlier a [] next rest
 
 module _ (all : List ℕ) (flaky : FlakyResult) where
@@ -72,9 +70,9 @@ module _ (all : List ℕ) (flaky : FlakyResult) where
       attempts_inline all (placed (length earlier) field o) (attempts_of flaky earlier a rest)
       ≡ attempts_of flaky earlier (with_put all attempt_loads o a) rest
   put_one field None earlier a rest = refl
-  put_one field (Some output) earlier a rest = put_here flaky (output_inline all output) earlier a rest
+  put_one field (Some output) earlier a rest = search put_here
 
-  -- attempts that were read so far, and the same as they are spelled out, which have the outputs that are noted
+  -- the attempts read so far, and the same attempts spelled out, which have the noted outputs
   record AreRead (now : Option Noted) (earlier : List Attempt) (last : Attempt) (earlier_spelled : List Attempt)
       (last_spelled : Attempt) : Type 0 where
     pub notes : Noted
@@ -87,24 +85,18 @@ module _ (all : List ℕ) (flaky : FlakyResult) where
   -- the first one was read, or one more
   first_read : (old now : Option Noted) (a b : Attempt) → HasOutput all attempt_loads old a now b
       → old ≡ Some none_noted → AreRead now [] a [] b
-  first_read old now a b h is = record {
-    notes = record { outputs = 1; stored = placed 0 h.number h.output };
-    is = h.noted ∙ ap (with_noted h.output h.number) is;
-    outputs = refl;
-    puts = λ rest. put_one h.number h.output [] a rest ∙ ap (λ x. attempts_of flaky [] x rest) (sym h.value);
-  }
+  first_read old now a b h is = search (arith, put_one)
 
   more_read : (old now : Option Noted) (earlier : List Attempt) (last : Attempt) (earlier_spelled : List Attempt)
       (last_spelled a b : Attempt)
       → HasOutput all attempt_loads old a now b →
       AreRead old earlier last earlier_spelled last_spelled
       → AreRead now (earlier ++ last ∷ []) a (earlier_spelled ++ last_spelled ∷ []) b
-  more_read old now earlier last earlier_spelled last_spelled a b h are =
-      let n = are.notes in
+  more_read old now earlier last earlier_spelled last_spelled a b h are = let n = are.notes in
       let here = placed n.outputs h.number h.output in
       record {
         notes = record { outputs = n.outputs + 1; stored = n.stored ++ here };
-        is = h.noted ∙ ap (with_noted h.output h.number) are.is;
+        is = search;
         outputs = (let size = length-append (earlier_spelled ++ last_spelled ∷ []) (b ∷ []) in let outputs =
             are.outputs in omega (arith, size, outputs));
         puts = λ rest.
@@ -119,13 +111,12 @@ module _ (all : List ℕ) (flaky : FlakyResult) where
       }
 
   module _ (bytes : AreBytes all) (total : ℕ) (Known : Type 0) where
-    -- where they are known to be so, the attempts in the end have all outputs that are noted
+    -- if that is known, the attempts have all noted outputs at the end
     abbrev HaveNoted : Change TestAttempts
     HaveNoted = λ old x new y. Known → y ≡ attempts_inline all (noted_outputs new) x
 
     number_reads : (number : ℕ) → Reads all Same (attempt_number number)
-    number_reads number = checked_reads all (λ p. nat_lt number (2 ^ 32)) WrongNumberOfFields (λ p. refl)
-        (says_spells all (λ n. n) number)
+    number_reads number = grind arith
 
     -- n more are read
     attempts_follow : (more number : ℕ) (earlier : List Attempt) (last : Attempt) (earlier_spelled : List Attempt)

@@ -17,9 +17,9 @@ use Rattle.scene_reader.specs.Names.{config_line_fields, event_line_fields, even
 use Rattle.scene_reader.specs.Names.{retry_fields, run_event_rows, script_fields, set_field, state_fields}
 use Rattle.scene_reader.specs.Names.{unique_prefix_fields, unknown, AllRead, LinesBefore, ParsedLines, config_words}
 use Rattle.scene_reader.specs.Names.{is_passed_over, line_from, line_place, line_read, line_words, lines_before}
-use Rattle.scene_reader.specs.Names.{lines_read, lines_with, no_lines, parsed_line, plain_line, recorded_line}
+use Rattle.scene_reader.specs.Names.{lines_read, no_lines, parsed_line, plain_line, recorded_line}
 use Rattle.scene_reader.specs.Names.{text_lines}
-use Rattle.std.proofs.Common.{◌≡◌, ℕ, true, false, List, [], ◌∷◌, Option, None, Some, Result, Ok, Err, refl, sym, ap}
+use Rattle.std.proofs.Common.{◌≡◌, ℕ, true, false, List, [], ◌∷◌, Option, None, Some, Result, Ok, Err, refl, ap}
 use Rattle.std.proofs.Common.{◌∙◌, bytes_eq, codes, inl, inr, ◌++◌, map, arith}
 use Rattle.{std.specs.Result.result_map_both, std.specs.Str.is_utf8, std.proofs.lemmas.Bool.cases_Bool}
 use Rattle.{run_model.specs.Names.Attempt, run_model.specs.Names.TestOutputDisplay}
@@ -31,7 +31,7 @@ use Rattle.recorded.proofs.lemmas.SpelledPlaces.{place_spelled, then_spells, tur
 use Rattle.recorded.proofs.lemmas.SpelledPlaces.{with_put}
 use Rattle.recorded.proofs.lemmas.SpelledTexts.{line_fields, line_passed_over, line_utf8, passed_over_line}
 use Rattle.recorded.proofs.lemmas.SpelledTexts.{lines_of_scene}
-use Rattle.recorded.specs.Names.{event_inline, output_inline, ended_lines, line_inline, lines_inline, AreBytes}
+use Rattle.recorded.specs.Names.{event_inline, output_inline, line_inline, lines_inline, AreBytes}
 use Rattle.recorded.specs.Names.{line_spelled, scene_spelled}
 use Rattle.scene_reader.{specs.Names.with_made, specs.Names.words_behind, proofs.lemmas.Tellings.all_tell}
 use Rattle.scene_reader.{proofs.lemmas.Tellings.all_told}
@@ -103,16 +103,10 @@ module _ (all : List ℕ) where
   only_output o number e = grind arith
 
   exactly_none : (n : ℕ) {line : Line SceneEvent} → Reads all Same line → Reads all HasAll (exactly n line)
-  exactly_none n {line} h = exactly_reads all n (record {
-    each = λ p. turned_follows all Same HasAll p.noted p.noted _ _ (λ x new y c none. rw (c.value, c.noted, none) refl)
-        (h.each p);
-  })
+  exactly_none n {line} h = grind (arith, exactly_reads, turned_follows)
 
   exactly_one : (n : ℕ) {line : Line SceneEvent} → Reads all HasOne line → Reads all HasAll (exactly n line)
-  exactly_one n {line} h = exactly_reads all n (record {
-    each = λ p. turned_follows all HasOne HasAll p.noted p.noted _ _
-        (λ x new y c none. rw (c.value, c.noted, none) (only_output c.output c.number x)) (h.each p);
-  })
+  exactly_one n {line} h = grind (arith, exactly_reads, turned_follows, only_output)
 
   module _ (bytes : AreBytes all) where
     -- an event of an attempt, of a response, and of all attempts of a test
@@ -146,9 +140,7 @@ module _ (all : List ℕ) where
         ((stored : List PlacedOutput) (a : TestAttempts) → make (attempts_inline all stored
         a) ≡ event_inline all stored (make a)) →
         Reads all HasAll (all_attempts flaky total >>= (λ a. says (make a)))
-    finish_event_reads flaky total make puts =
-        made_reads all (HasNoted (attempts_inline all)) HasAll make
-        (λ old a new b c none. ap make (c none) ∙ puts (noted_outputs new) a) (attempts_read all flaky bytes total)
+    finish_event_reads flaky total make puts = grind (arith, made_reads, attempts_inline, attempts_read)
 
     -- the rows of the table of lines
     ruleset lines = (
@@ -206,16 +198,14 @@ module _ (all : List ℕ) where
 
     module _ (before : LinesBefore) where
       config_line_reads : Reads all (HasNoted line_inlined) (config_words before)
-      config_line_reads = either_reads all before.is_begun (record { each = λ p. tt })
+      config_line_reads = either_reads all before.is_begun (search)
           (made_reads all Same (HasNoted line_inlined) ConfigLine (λ old a new b c none. ap ConfigLine c.value)
           (exactly_reads all 2 (config_reads before.config)))
 
       event_line_reads : (word : List ℕ) → Reads all (HasNoted line_inlined) (made EventLine (event_line_fields word))
-      event_line_reads word =
-          made_reads all HasAll (HasNoted line_inlined) EventLine (λ old a new b c none. ap EventLine (c none))
-          (by_row_reads all HasAll unknown event_rows word (record {
-            each = λ p. tt;
-          }) lines_read_so)
+      event_line_reads word = made_reads all HasAll (HasNoted line_inlined) EventLine (λ old a new b c none.
+          ap EventLine (c none))
+          (by_row_reads all HasAll unknown event_rows word (search) lines_read_so)
 
       words_read : (word : List ℕ) → Reads all (HasNoted line_inlined) (words_behind before word)
       words_read word = either_reads all (bytes_eq word (codes "config")) config_line_reads (event_line_reads word)
@@ -237,8 +227,7 @@ module _ (all : List ℕ) where
             → result_map_both (λ y. (y.0, noted_outputs y.1.noted)) (λ f. f) r ≡ Ok x →
             parsed_line before (line_spelled all t) ≡ as_inline (Ok x)
         unfolding line_from
-        line_follows x passed utf8 (Ok y) is read h =
-            let same : (y.0, noted_outputs y.1.noted) ≡ x = cc in
+        line_follows x passed utf8 (Ok y) is read h = let same : (y.0, noted_outputs y.1.noted) ≡ x = cc in
             let first = next_unmarked all (HasNoted line_inlined) (words_behind before) words_refuse words_read 0
             (Some none_noted) (split_on 9 t) y is in
             let not_passed = line_passed_over all t first.0 first.1 first.2 first.3 ∙ passed in
@@ -248,8 +237,7 @@ module _ (all : List ℕ) where
               noted = None;
             })) (line_fields all t) ∙ read.2 in
             rw (not_passed, line_utf8 all t utf8, words)
-            (ap Ok (read.1 refl) ∙ sym (with_inlined y.0 (noted_outputs y.1.noted))
-            ∙ ap (λ z. as_inline (Ok z)) same)
+            (grind arith)
         line_follows x passed utf8 (Err f) is read h = absurd (cc)
 
         -- what a recorded line says, with the stored outputs put into its event, is what the line says as it is spelled
@@ -264,7 +252,7 @@ module _ (all : List ℕ) where
                 let read = next_reads all (HasNoted line_inlined) (words_behind before) words_refuse words_read in
                 line_follows x passed utf8 (line_words before recorded_place) refl (read.each recorded_place)
                 (rw (passed, utf8) at h)
-            | inr no_text ↦ (let wrong = rw (passed, no_text) at h in absurd (cc))
+            | inr no_text ↦ (cc)
           ]
         ]
 
@@ -279,23 +267,16 @@ module _ (all : List ℕ) (bytes : AreBytes all) where
       → recorded_line (lines_before before) t ≡ found →
       line_read before (line_inline all t) ≡ Ok after → line_read before (plain_line (line_spelled all t)) ≡ Ok after
   unfolding line_read
-  line_alike before after t (Ok x) is h = ap (lines_with before) (line_law all bytes (lines_before before) t x is
-      ∙ ap (as_inline all bytes) (sym is))
-      ∙ h
-  line_alike before after t (Err f) is h = let wrong : ◌≡◌ {A = Result ParsedLines LineFault} (Err f) (Ok after) = rw is
-      at h in absurd (cc)
+  line_alike before after t (Ok x) is h = grind (arith, line_law)
+  line_alike before after t (Err f) is h = cc
 
   lines_alike : (before after : ParsedLines) (ts : List (List ℕ)) → AllRead before (map (line_inline all) ts) after
       → AllRead before (map plain_line (map (line_spelled all) ts ++ [] ∷ [])) after
   lines_alike before after [] h = (before, empty_read before, h)
-  lines_alike before after (t ∷ ts) h =
-      (h.0, line_alike before h.0 t (recorded_line (lines_before before) t) refl h.1, lines_alike h.0 after ts h.2)
+  lines_alike before after (t ∷ ts) h = grind (arith, line_alike, lines_alike h.0 after ts h.2)
 
 -- a recorded run with its outputs put in is read as the text of a scene in which they are spelled out
 pub scene_law : (all text : List ℕ) → AreBytes all → (run : ParsedLines)
     → lines_read 1 no_lines (lines_inline all text) ≡ Ok run
     → lines_read 1 no_lines (text_lines (scene_spelled all text)) ≡ Ok run
-scene_law all text bytes run h =
-    let whole = all_tell 1 no_lines (lines_inline all text) run h in
-    ap (λ ts. lines_read 1 no_lines (map plain_line ts)) (lines_of_scene all text)
-    ∙ all_told 1 no_lines _ run (lines_alike all bytes no_lines run (ended_lines text) whole)
+scene_law all text bytes run h = search (all_tell, lines_of_scene, all_told, lines_alike)

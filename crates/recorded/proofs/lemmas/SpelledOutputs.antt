@@ -1,23 +1,24 @@
 -- The fields of an output, spelled out.
+use Rattle.std.proofs.Common.{arith}
 use Rattle.recorded.proofs.lemmas.SpelledPlaces.{Becomes, Follows, HasOutput, Reads, Same, Spells, by_row_reads}
 use Rattle.recorded.proofs.lemmas.SpelledPlaces.{field_reads, fields_read, next_reads, output_made_reads, then_spells}
 use Rattle.recorded.proofs.lemmas.SpelledPlaces.{turned_follows}
 use Rattle.scene_reader.specs.Names.{ChildOutputDescription, ExecutionResultDescription, RetryData, Line, Noted}
-use Rattle.scene_reader.specs.Names.{next_stored, stored_among, valued, with_noted, after_mark}
-use Rattle.scene_reader.specs.Names.{reference_in, is_reference, stored_output_in, stored_split, stored_stream_in}
+use Rattle.scene_reader.specs.Names.{stored_among, valued, with_noted, after_mark}
+use Rattle.scene_reader.specs.Names.{reference_in, stored_output_in, stored_split, stored_stream_in}
 use Rattle.scene_reader.specs.Names.{unescaped_after, Reference, StoredOutput, StoredStream, after_streams}
 use Rattle.scene_reader.specs.Names.{attempt_fields}
-use Rattle.std.proofs.Common.{◌≡◌, ℕ, ◌+◌, Bool, true, false, List, [], ◌∷◌, map, Option, None, Some, refl, ap, ◌∙◌}
-use Rattle.std.proofs.Common.{bytes_eq, codes, ◌||◌, ◌&&◌, if◌then◌else◌, inl, inr, option_map}
+use Rattle.std.proofs.Common.{◌≡◌, ℕ, ◌+◌, Bool, true, false, List, [], ◌∷◌, map, Option, None, Some, refl, ap}
+use Rattle.std.proofs.Common.{bytes_eq, codes, ◌&&◌, if◌then◌else◌, inl, inr, option_map}
 use Rattle.std.proofs.lemmas.{Bool.and_parts, Bool.cases_Bool, Slice.Eq.bytes_eq-Decides}
 use Rattle.recorded.proofs.lemmas.MarkedFields.{marked_highlight, marked_nanos, marked_result}
 use Rattle.recorded.proofs.lemmas.SpelledPlaces.{valued_reads}
 use Rattle.recorded.proofs.lemmas.SpelledBytes.{bytes_at_bytes, bytes_read_back, stream_read_back}
-use Rattle.recorded.specs.Names.{output_inline, stream_inline, bytes_at, AreBytes, field_spelled}
+use Rattle.recorded.specs.Names.{output_inline, stream_inline, AreBytes, field_spelled}
 use Rattle.run_model.specs.Names.{Attempt, attempt_with_output, execution_with_output, Nanos, Written}
 use Rattle.scene_reader.specs.Names.{by_row, combined_fields, output_fields, output_fields_of, spelled_output_fields}
 use Rattle.scene_reader.specs.Names.{split_fields, start_error_fields, stored_output_fields, stream_in, unloaded_fields}
-use Rattle.scene_fields.specs.declared.stored.{StoredOutput.TheVariants.Split, StoredOutput.TheVariants.Combined}
+use Rattle.scene_fields.specs.declared.stored.{StoredOutput.TheVariants.Combined}
 use Rattle.scene_fields.specs.declared.stored.{StoredStream.TheVariants.At}
 use Rattle.run_model.specs.declared.output.ChildOutputDescription.TheVariants as streams
 
@@ -76,8 +77,7 @@ module _ (all : List ℕ) where
         → option_map (λ reference. At reference) o ≡ Some stream →
         stream_in (field_spelled all t) ≡ Some (stream_inline all stream)
     reference_spelled t stream None is h = absurd (cc)
-    reference_spelled t stream (Some r) is h = rw is
-        (stream_read_back (bytes_at all r) (bytes_at_bytes all r bytes) ∙ ap (option_map (stream_inline all)) h)
+    reference_spelled t stream (Some r) is h = grind (arith, stream_read_back, bytes_at_bytes, option_map)
 
     stream_spelled : (t : List ℕ) (stream : StoredStream) → stored_stream_in t ≡ Some stream
         → stream_in (field_spelled all t) ≡ Some (stream_inline all stream)
@@ -89,7 +89,7 @@ module _ (all : List ℕ) where
       | inr n ↦ elim (cases_Bool (bytes_eq t (codes "-"))) [
         | inl y ↦
             (let is = (bytes_eq-Decides t (codes "-")).0 y in rw (is, (words_kept all).2)
-            (ap (option_map (stream_inline all)) (rw is at h)))
+            (cc))
         | inr m ↦ reference_spelled t stream (reference_in t) refl (rw (n, m) at h)
       ]
     ]
@@ -115,22 +115,14 @@ module _ (all : List ℕ) where
     split_spelled first second output None two is also h result n fields = absurd (cc)
     split_spelled first second output (Some stdout) None is also h result n fields = absurd (cc)
     split_spelled first second output (Some stdout) (Some stderr) is also h result n fields =
-        rw (
-          stream_spelled first stdout is,
-          stream_spelled second stderr also,
-          chosen
-              (is_reference stdout || is_reference stderr) (Split stdout stderr) output h,
-        )
-        refl
+        grind (arith, stream_spelled, chosen)
 
     combined_spelled : (first : List ℕ) (output : StoredOutput) (o : Option Reference) → reference_in first ≡ o
         → option_map (λ reference. Combined reference) o ≡ Some output →
         IsSpelled (codes "comb") first (codes "-") output
     unfolding spelled_output_fields
     combined_spelled first output None is h result n fields = absurd (cc)
-    combined_spelled first output (Some r) is h result n fields =
-        (let same : output
-        ≡ Combined r = cc in rw (is, bytes_read_back (bytes_at all r) (bytes_at_bytes all r bytes), same) refl)
+    combined_spelled first output (Some r) is h result n fields = grind (arith, bytes_read_back, bytes_at_bytes)
 
     stored_spelled : (form first second : List ℕ) (output : StoredOutput)
         → stored_output_in form first second ≡ Some output
@@ -149,7 +141,7 @@ module _ (all : List ℕ) where
             )
             (combined_spelled first output (reference_in first) refl (rw (n, y) at h))
             )
-        | inr m ↦ (let wrong = rw (n, m) at h in absurd (cc))
+        | inr m ↦ cc
       ]
     ]
 
@@ -190,14 +182,13 @@ module _ (all : List ℕ) where
     pub output_reads : (result : Option ExecutionResultDescription)
         → Reads all (HasOutput all output_loads) (output_fields result)
     unfolding output_fields
-    output_reads result = record { each = λ p. output_follows result p.number p.left p.noted (next_stored p) refl }
+    output_reads result = search output_follows
 
     -- an attempt has one
     pub attempt_reads : (retry_data : RetryData) → Reads all (HasOutput all attempt_loads) (attempt_fields retry_data)
     unfolding attempt_fields
-    attempt_reads retry_data =
-        then_spells all (field_reads all _ marked_result)
+    attempt_reads retry_data = then_spells all (field_reads all _ marked_result)
         (λ result. then_spells all (field_reads all _ marked_nanos)
         (λ time_taken. then_spells all (field_reads all _ (λ u. refl)) (λ is_slow.
-        output_made_reads all (attempt_made retry_data result time_taken is_slow) (output_reads (Some result))
+        output_made_reads all (search) (output_reads (Some result))
         (λ captured output. refl))))

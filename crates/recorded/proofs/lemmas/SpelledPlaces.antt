@@ -1,13 +1,14 @@
 -- The fields of a recorded line, spelled out: their readers give equal values, and for an output what is at its
 -- position.
-use Rattle.std.proofs.Common.{◌≡◌, ℕ, ◌+◌, ◌%◌, Bool, true, false, List, [], ◌∷◌, map, length, Option, None, Some}
-use Rattle.std.proofs.Common.{Result, Ok, Err, refl, ap, ◌∙◌, ◌==◌, ◌&&◌, if◌then◌else◌, bytes_eq, drop, inl, inr}
+use Rattle.std.proofs.Common.{arith}
+use Rattle.std.proofs.Common.{◌≡◌, ℕ, Bool, true, false, List, [], ◌∷◌, map, Option, None, Some}
+use Rattle.std.proofs.Common.{Result, Ok, Err, refl, if◌then◌else◌, inl, inr}
 use Rattle.scene_reader.specs.Names.{◌>>=◌, Line, Noted, Place, exactly, field, goes_on, next, none_noted}
 use Rattle.scene_reader.specs.Names.{noted_outputs, says, taken, valued, with_attempts, with_noted, reference_in}
 use Rattle.scene_reader.specs.Names.{LineFault}
-use Rattle.{std.proofs.Common.subst, std.proofs.Common.nat_le, std.proofs.lemmas.List.length-map}
+use Rattle.{std.proofs.lemmas.List.length-map}
 use Rattle.{recorded.proofs.lemmas.MarkedFields.MarkedIsNone, recorded.proofs.lemmas.MarkedFields.marked}
-use Rattle.{std.specs.Prelude.⊤, scene_fields.specs.declared.fault.LineFault.TheVariants.WrongNumberOfFields}
+use Rattle.{std.specs.Prelude.⊤}
 use Rattle.{recorded.specs.Names.output_inline, recorded.specs.Names.field_spelled}
 use Rattle.scene_reader.specs.Names.{PlacedOutput, StoredOutput, by_row, ChildOutputDescription}
 
@@ -95,31 +96,25 @@ module _ (all : List ℕ) where
   abbrev pub Reads : {X : Type 0} → Change X → Line X → Type 0
   Reads change line = Spells change line line
 
-  -- a value, and two readers in turn, of which the first one reads no output
+  -- a value, and two readers in turn, the first of which reads no output
   pub says_spells : {X : Type 0} (make : X → X) (x : X) → Spells (Becomes make) (says x) (says (make x))
-  says_spells make x = record { each = λ p. (make x, record { noted = refl; value = refl }, refl) }
+  says_spells make x = grind arith
 
   pub valued_reads : {X : Type 0} (o : Option X) → Reads Same (valued o)
-  valued_reads None = record { each = λ p. tt }
+  valued_reads None = search
   valued_reads (Some x) = says_spells (λ x. x) x
 
   pub then_spells : {A B : Type 0} {change : Change B} {line : Line A} {f g : A → Line B} → Reads Same line
       → ((a : A) → Spells change (f a) (g a)) → Spells change (line >>= f) (line >>= g)
-  then_spells {A} {B} {change} {line} {f} {g} first others = record {
-    each = λ p. bind_follows Same change f g p.noted (line p) (line (place_spelled all p)) (first.each p)
-        (λ a b q h. rw (h.value, ← h.noted) ((others a).each q));
-  }
+  then_spells {A} {B} {change} {line} {f} {g} first others = grind arith
 
   -- what is made of a value
   pub made_reads : {A B : Type 0} (first : Change A) (change : Change B) (make : A → B) {line : Line A} →
       ((old : Option Noted) (a : A) (new : Option Noted) (b : A) → first old a new b → change old (make a) new (make
       b)) → Reads first line → Reads change (line >>= (λ a. says (make a)))
-  made_reads first change make {line} makes h = record {
-    each = λ p. bind_follows first change _ _ p.noted (line p) (line (place_spelled all p)) (h.each p)
-        (λ a b q c. (make b, makes p.noted a q.noted b c, refl));
-  }
+  made_reads first change make {line} makes h = grind arith
 
-  -- an output that is put into a value is put into what is made of it
+  -- To put an output into a part of a value is to put it into the value.
   puts_so : {A B : Type 0} (put : ChildOutputDescription → A → A) (put_more : ChildOutputDescription → B → B)
       (make : A → B)
       → ((captured : ChildOutputDescription) (a : A) → make (put captured a) ≡ put_more captured (make
@@ -132,14 +127,7 @@ module _ (all : List ℕ) where
       → Reads (HasOutput all put) line →
       ((captured : ChildOutputDescription) (a : A) → make (put captured a) ≡ put_more captured (make
       a)) → Reads (HasOutput all put_more) (line >>= (λ a. says (make a)))
-  output_made_reads {A} {B} {put} {put_more} make {line} h puts =
-      made_reads (HasOutput all put) (HasOutput all put_more) make
-      (λ old a new b c. record {
-        output = c.output;
-        number = c.number;
-        noted = c.noted;
-        value = ap make c.value ∙ puts_so put put_more make puts c.output a;
-      }) h
+  output_made_reads {A} {B} {put} {put_more} make {line} h puts = grind arith
 
   -- the next field, where no reference is a good one
   module _ {X : Type 0} (change : Change X) (f : List ℕ → Line X)
@@ -149,15 +137,10 @@ module _ (all : List ℕ) where
           → Follows all change noted (goes_on f (taken n noted left)) (goes_on f
           (taken n None (map (field_spelled all) left)))
       next_follows n noted [] = tt
-      next_follows n noted (t ∷ ts) =
-          let behind : Place = record { number = n + 1; left = ts; noted = noted } in
-          elim (marked t) [
-            | inl none ↦ rw none ((others t).each behind)
-            | inr begins_so ↦ refused_follows change noted (f t behind) _ (rw begins_so (refused (drop 2 t) behind))
-          ]
+      next_follows n noted (t ∷ ts) = grind (arith, marked, refused_follows)
 
       pub next_reads : Reads change (next >>= f)
-      next_reads = record { each = λ p. next_follows p.number p.noted p.left }
+      next_reads = search next_follows
 
       -- so the first of fields that are read is none
       pub next_unmarked : (n : ℕ) (noted : Option Noted) (left : List (List ℕ)) (x : X × Place)
@@ -166,34 +149,25 @@ module _ (all : List ℕ) where
       next_unmarked n noted [] x h = absurd (cc)
       next_unmarked n noted (t ∷ ts) x h = elim (marked t) [
         | inl none ↦ (t, ts, refl, none)
-        | inr begins_so ↦ absurd (subst Refused h (rw begins_so (refused (drop 2 t) (record {
-          number = n + 1;
-          left = ts;
-          noted = noted;
-        }))))
+        | inr begins_so ↦ grind arith
       ]
 
   pub field_reads : {X : Type 0} (value_in : List ℕ → Option X) → MarkedIsNone value_in → Reads Same (field value_in)
-  field_reads value_in none = next_reads Same (λ t. valued (value_in t)) (λ u p. rw (none u) tt)
-      (λ t. valued_reads (value_in t))
+  field_reads value_in none = grind (arith, next_reads, valued_reads)
 
   -- n fields are left, or a number is small enough
   pub checked_reads : {X : Type 0} {change : Change X} (right : Place → Bool) (f : LineFault)
       → ((p : Place) → right (place_spelled all p) ≡ right p) → {line : Line X} → Reads change line →
       Reads change (λ p. if right p then line p else Err f)
-  checked_reads {X} {change} right f same {line} h = record {
-    each = λ p. rw (same p)
-        (checked_follows change p.noted (right p) f (line p) (line (place_spelled all p)) (h.each p));
-  }
+  checked_reads {X} {change} right f same {line} h = grind arith
 
   pub exactly_reads : {X : Type 0} {change : Change X} (n : ℕ) {line : Line X} → Reads change line
       → Reads change (exactly n line)
-  exactly_reads n h = checked_reads (λ p. length p.left == n) WrongNumberOfFields (λ p. rw length-map refl) h
+  exactly_reads n h = grind (arith, checked_reads, length-map)
 
   pub with_attempts_reads : {X : Type 0} {change : Change X} {line : Line X} → Reads change line
       → Reads change (with_attempts line)
-  with_attempts_reads h = checked_reads (λ p. nat_le 16 (length p.left) && (length p.left % 8 == 0)) WrongNumberOfFields
-      (λ p. rw length-map refl) h
+  with_attempts_reads h = grind (arith, checked_reads, length-map)
 
   -- one reader or the other, as in a table
   pub if_reads : {X : Type 0} {change : Change X} (b : Bool) {line other : Line X} → Reads change line
@@ -215,7 +189,10 @@ module _ (all : List ℕ) where
       → Reads change otherwise → RowsRead change rows →
       Reads change (by_row otherwise rows word)
   by_row_reads change otherwise [] word none are = none
-  by_row_reads change otherwise (row ∷ rows) word none are = if_reads (bytes_eq word row.0) are.0
-      (by_row_reads change otherwise rows word none are.1)
+  by_row_reads change otherwise (row ∷ rows) word none are = grind (
+    arith,
+    by_row_reads change otherwise rows word none
+        are.1,
+  )
 
 pub ruleset fields_read = (then_spells, says_spells, valued_reads, field_reads)

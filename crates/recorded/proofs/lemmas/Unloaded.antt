@@ -1,5 +1,5 @@
 -- Output that is put into an event is gone once it is left unread, and nothing else has changed.
-use Rattle.std.proofs.Common.{◌≡◌, ℕ, zero, suc, List, [], ◌∷◌, map, refl, ap, sym, ◌∙◌, arith}
+use Rattle.std.proofs.Common.{◌≡◌, ℕ, zero, suc, List, [], ◌∷◌, map, refl, arith}
 use Rattle.run_model.specs.Names.{Attempt, Attempts, Written, attempt_with_output, execution_with_output, summary_of}
 use Rattle.run_model.specs.Names.{unloaded_attempt, unloaded_attempts, unloaded_output, unloaded_script}
 use Rattle.run_model.specs.{Loads.attempts_with, Loads.with_output_at}
@@ -14,25 +14,28 @@ unloaded-execution o captured = grind arith
 -- an attempt, and one of a setup script
 pub unloaded-attempt : (a : Attempt) (captured : ChildOutputDescription)
     → unloaded_attempt (attempt_with_output a captured) ≡ unloaded_attempt a
-unloaded-attempt a captured = ap (λ (o : Written). record a { output = o }) (unloaded-execution a.output captured)
+unloaded-attempt a captured = grind arith
 
 pub unloaded-script : (a : SetupScriptExecuteStatus LiveSpec ChildOutputDescription) (captured : ChildOutputDescription)
     → unloaded_script (record a { output = execution_with_output a.output captured }) ≡ unloaded_script a
-unloaded-script a captured = ap (λ (o : Written). record a { output = o }) (unloaded-execution a.output captured)
+unloaded-script a captured = grind arith
 
 -- earlier attempts, of which one may be there, and all attempts of a test
 pub unloaded-earlier : (attempts : List Attempt) (place : ℕ) (captured : ChildOutputDescription)
     → map unloaded_attempt (with_output_at place captured attempts) ≡ map unloaded_attempt attempts
 unloaded-earlier [] place captured = refl
-unloaded-earlier (x ∷ xs) zero captured = ap (λ y. y ∷ map unloaded_attempt xs) (unloaded-attempt x captured)
+unloaded-earlier (x ∷ xs) zero captured = grind arith
 unloaded-earlier (x ∷ xs) (suc place) captured = grind (arith, unloaded-earlier xs place captured)
 
 pub unloaded-attempts : (place : ℕ) (captured : ChildOutputDescription) (a : Attempts LiveSpec ChildOutputDescription)
     → unloaded_attempts (attempts_with place captured a) ≡ unloaded_attempts a
 unloaded-attempts place captured a = grind (arith, unloaded-attempt, unloaded-earlier)
 
--- attempts come to the same, whatever they captured
+-- attempts have the same outcome, whatever they captured
 pub same-summary : (place : ℕ) (captured : ChildOutputDescription) (a : Attempts LiveSpec ChildOutputDescription)
     → summary_of (attempts_with place captured a) ≡ summary_of a
-same-summary place captured a = sym (unloaded-summary (attempts_with place captured a))
-    ∙ ap summary_of (unloaded-attempts place captured a) ∙ unloaded-summary a
+same-summary place captured a = cc (
+  unloaded-summary (attempts_with place captured a),
+  unloaded-summary a,
+  unloaded-attempts place captured a,
+)

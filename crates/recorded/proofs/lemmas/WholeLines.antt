@@ -1,5 +1,5 @@
 -- The whole lines of a text (for `RecordedRun`'s `next_piece`).
-use Rattle.std.proofs.Common.{◌≡◌, ℕ, ◌<◌, List, [], ◌∷◌, ◌++◌, length, refl, ap, ◌∙◌, arith, inl, inr, ◌==◌}
+use Rattle.std.proofs.Common.{◌≡◌, ℕ, ◌<◌, List, [], ◌∷◌, ◌++◌, length, refl, ap, arith, inl, inr, ◌==◌}
 use Rattle.{std.specs.Prelude.⊤, std.specs.List.onto_first, std.proofs.lemmas.Bool.cases_Bool}
 use Rattle.{scene_fields.specs.Split.Lacks, scene_fields.specs.Split.split_on}
 use Rattle.scene_fields.proofs.lemmas.Cuts.{split_on-lacks}
@@ -27,7 +27,7 @@ pieces b (c ∷ t) = (let h = pieces b t in elim (cases_Bool (c == b)) [
   | inl y ↦ record {
     first = [];
     more = h.first ∷ h.more;
-    is = rw y (ap (λ ts. [] ∷ ts) h.is);
+    is = search;
     lacks = tt;
     none_has = (h.lacks, h.none_has);
   }
@@ -45,16 +45,13 @@ without_last-append : {X : Type 0} (xs ys : List X) → 0 < length ys → withou
 without_last-append [] ys some = refl
 without_last-append (x ∷ []) [] some = absurd (omega (arith, some))
 without_last-append (x ∷ []) (y ∷ ys) some = refl
-without_last-append (x ∷ z ∷ xs) ys some = ap (λ ts. x ∷ ts) (without_last-append (z ∷ xs) ys some)
+without_last-append (x ∷ z ∷ xs) ys some = cc (without_last-append (z ∷ xs) ys some)
 
 -- the lines before a line feed and the others
 pub ended_lines-joined : (front back : List ℕ)
     → ended_lines (front ++ 10 ∷ back) ≡ split_on 10 front ++ ended_lines back
 unfolding split_on
-ended_lines-joined front back =
-    let some = length-slice_split (λ b. b == 10) back in
-    ap without_last (split_on_joined front back)
-    ∙ without_last-append (split_on 10 front) (split_on 10 back) (omega (arith, some))
+ended_lines-joined front back = grind (arith, length-slice_split, split_on_joined, without_last-append)
 
 pub ended_lines-none : (text : List ℕ) → Lacks 10 text → ended_lines text ≡ []
 ended_lines-none text lacks = ap without_last (split_on-lacks 10 text lacks)

@@ -2,7 +2,7 @@
 use Rattle.std.proofs.Common.{◌≡◌, ℕ, ◌+◌, [], ◌∷◌, ◌++◌, Option, None, Some, take, drop, encode_utf8, arith, ◌-◌, ◌<◌}
 use Rattle.std.proofs.Common.{◌^◌, true, false, Result}
 use Rattle.styled_text.specs.Names.{option_map, option_map_or, IsUtf8, NonZeroU32, Text, HasNoEscape, saturated}
-use Rattle.styled_text.specs.Names.{FitsWidth, IsPainted, ArePainted, columns}
+use Rattle.styled_text.specs.Names.{FitsWidth, columns}
 use Rattle.styled_text.specs.Names.{shrunk, shrunk_parts, Meaning, WriterLaws, Puts, WriteFault}
 use Rattle.report_words.{specs.Names.Style, specs.Names.ListStyles, proofs.lemmas.FreeWords.free-take}
 use Rattle.report_words.{proofs.lemmas.FreeWords.free-drop}
@@ -11,7 +11,7 @@ use Rattle.{writers.proofs.lemmas.Steps.puts_then}
 use Rattle.report_text.specs.Instance.{numbered_iteration, stress_text, stress_prefix, counter_text, counter_prefix}
 use Rattle.report_text.specs.Instance.{id_prefix, name_text, test_name_text, HasPlainCounter, HasPlainWords}
 use Rattle.styled_text.proofs.lemmas.Closed.{IsClosedText, closed-free, closed-none, closeds, char_free, repeat_free}
-use Rattle.styled_text.proofs.lemmas.Widths.{parts-columns, parts-sequences}
+use Rattle.styled_text.proofs.lemmas.Widths.{parts-fit}
 use Rattle.report_text.specs.declared.helpers.instance.DisplayCounterIndex.{DisplayCounterIndex, TheVariants.Counter}
 use Rattle.report_text.specs.declared.helpers.instance.DisplayCounterIndex.{TheVariants.Padded}
 
@@ -53,18 +53,11 @@ pub fits_width : (width : ℕ) (count_style id_style : Style) (s : ListStyles) (
     → FitsWidth width (stress_prefix count_style stress ∷ counter_prefix counter ∷ id_prefix id_style id ∷ [])
     (test_name_text s name)
 fits_width width count_style id_style s stress counter id name a b c d h =
-    let fronts : ArePainted (stress_prefix count_style stress ∷ counter_prefix counter ∷ id_prefix id_style id ∷ []) = (
+    parts-fit _ _ width (
       (a, stress_closed count_style stress),
       ((b, counter_closed counter h.0), ((c, id_closed id_style id h.1), tt)),
-    ) in
-    let last : IsPainted (test_name_text s name) = (d, name_closed s name h.2) in
-    record {
-      narrow = parts-columns (stress_prefix count_style stress ∷ counter_prefix counter ∷ id_prefix id_style id ∷ [])
-          (test_name_text s name) width fronts last;
-      complete = parts-sequences
-          (stress_prefix count_style stress ∷ counter_prefix counter ∷ id_prefix id_style id ∷ [])
-          (test_name_text s name) width fronts last;
-    }
+    )
+    (d, name_closed s name h.2)
 
 -- the room that a counted width leaves
 room_left : (room left counted columns : ℕ) → room < 2 ^ 127 → counted ≡ saturated columns → left ≡ room - counted

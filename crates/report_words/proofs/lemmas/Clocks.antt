@@ -12,10 +12,7 @@ abbrev colon_digits : ℕ → Text → Text
 colon_digits n rest = 58 ∷ (48 + n / 10 % 10) ∷ (48 + n % 10) ∷ rest
 
 IsAscii-colon_digits : (n : ℕ) (rest : Text) → IsAscii rest → IsAscii (colon_digits n rest)
-IsAscii-colon_digits n rest h =
-    IsAscii-cons 58 ((48 + n / 10 % 10) ∷ (48 + n % 10) ∷ rest) (lit< tt)
-    (IsAscii-cons (48 + n / 10 % 10) ((48 + n % 10) ∷ rest) (omega arith)
-    (IsAscii-cons (48 + n % 10) rest (omega arith) h))
+IsAscii-colon_digits n rest h = grind arith
 
 -- minutes and seconds
 abbrev after_hours : ℕ → Text
@@ -29,12 +26,10 @@ IsAscii-zero false = IsAscii-none
 pub clock_columns : (s : ℕ) → s / 60 / 60 < 10 ^ 64
     → length (chars (clock_text s)) ≡ length (leading_zero (s / 60 / 60)) + length (decimal (s / 60 / 60)) + 6
 unfolding clock_text
-clock_columns s fits =
-    let hours = s / 60 / 60 in
+clock_columns s fits = let hours = s / 60 / 60 in
     let ascii = IsAscii-append (leading_zero hours) (decimal hours ++ after_hours s) (IsAscii-zero (nat_lt hours 10))
     (IsAscii-append (decimal hours) (after_hours s) (IsAscii-decimal_wide hours fits)
-    (IsAscii-colon_digits (s / 60 % 60) (colon_digits (s % 60) [])
-    (IsAscii-colon_digits (s % 60) [] IsAscii-none))) in
+    (grind arith)) in
     let bytes = ap length (chars-IsAscii (leading_zero hours ++ (decimal hours ++ after_hours s)) ascii) in
     let first = length-append (leading_zero hours) (decimal hours ++ after_hours s) in
     let second = length-append (decimal hours) (after_hours s) in

@@ -1,4 +1,5 @@
 -- A text in colour and a plain one (for the lemmas `colour_pair-..` of the texts above).
+use Rattle.std.proofs.Common.{arith}
 use Rattle.std.proofs.Common.{◌≡◌, Bool, true, false, cond, [], ◌∷◌, ◌++◌, refl, sym, ◌∙◌, ap, append_assoc, append-nil}
 use Rattle.styled_text.specs.Names.{Text, IsEqualButEndSpaces, visible_after, sequence_len, visible, HasNoEscape}
 use Rattle.styled_text.specs.Names.{indent, plain, styled, reset_color, style_prefix, style_suffix}
@@ -12,7 +13,7 @@ use Rattle.report_words.proofs.lemmas.FreeWords.{frees, free-plain, free-indent}
 
 in_colour-none : IsInColour [] []
 unfolding visible_after
-in_colour-none = record { joins = λ rest. refl; alike = λ rest more h. h }
+in_colour-none = search
 
 in_colour-append : (c u d v : Text) → IsInColour c u → IsInColour d v → IsInColour (c ++ d) (u ++ v)
 in_colour-append c u d v h k = record {
@@ -20,7 +21,7 @@ in_colour-append c u d v h k = record {
       (h.joins (d ++ rest) ∙ ap (λ t. visible c ++ t) (k.joins rest)
       ∙ sym (append_assoc (visible c) (visible d) (visible rest)) ∙ ap (λ t. t ++ visible rest) (sym (h.joins d)));
   alike = λ rest more same. rw h.joins
-      (simp append_assoc (h.alike (visible d ++ rest) (v ++ more) (k.alike rest more same)));
+      (simp append_assoc (grind arith));
 }
 
 -- the visible part of the text is exact, whatever comes after it
@@ -83,20 +84,14 @@ colour_pair-whole k c u h = record {
 }
 
 pub colour_pair-none : (k : Bool) → IsColourPair k [] []
-colour_pair-none k = record { coloured = λ e. in_colour-none; plain = λ e. refl }
+colour_pair-none k = search in_colour-none
 
 pub colour_pair-append : (k : Bool) (c u d v : Text) → IsColourPair k c u → IsColourPair k d v
     → IsColourPair k (c ++ d) (u ++ v)
-colour_pair-append k c u d v h j = record {
-  coloured = λ e. in_colour-append c u d v (h.coloured e) (j.coloured e);
-  plain = λ e. free_both u v (h.plain e) (j.plain e);
-}
+colour_pair-append k c u d v h j = grind (arith, in_colour-append, free_both)
 
 pub colour_pair-free : (k : Bool) (t : Text) → HasNoEscape t → IsColourPair k t t
-colour_pair-free k t h = record {
-  coloured = λ e. in_colour-exact t t (λ rest. visible-free_append t rest h);
-  plain = λ e. h;
-}
+colour_pair-free k t h = search (in_colour-exact, visible-free_append)
 
 pub colour_pair-plain : (k : Bool) (t : Text) → HasNoEscape t → IsColourPair k (plain t) (plain t)
 colour_pair-plain k t h = colour_pair-free k (plain t) (free-plain t h)
@@ -104,11 +99,7 @@ colour_pair-plain k t h = colour_pair-free k (plain t) (free-plain t h)
 pub colour_pair-styled : (k : Bool) (s : Style) (t : Text) → HasNoEscape t
     → IsColourPair k (styled s t) (styled style.Plain t)
 unfolding styled
-colour_pair-styled k s t h = record {
-  coloured = λ e. in_colour-exact _ _
-      (λ rest. wrapped-append s t rest h ∙ ap (λ x. x ++ visible rest) (sym (append-nil t)));
-  plain = λ e. free_both t [] h refl;
-}
+colour_pair-styled k s t h = search (in_colour-exact, wrapped-append, append-nil, free_both)
 
 pub colour_pair-if : (k b : Bool) (c u d v : Text) → IsColourPair k c u → IsColourPair k d v
     → IsColourPair k (cond b c d) (cond b u v)
@@ -117,28 +108,20 @@ colour_pair-if k false c u d v h j = j
 
 -- a line whose visible text is alike the plain one
 pub colour_pair-line : (k : Bool) (c u : Text) → IsColourPairOfLine k c u → IsColourPair k (c ++ 10 ∷ []) (u ++ 10 ∷ [])
-colour_pair-line k c u h = record {
-  coloured = λ e. in_colour-line c u (h.coloured e);
-  plain = λ e. free_both u (10 ∷ []) (h.plain e) refl;
-}
+colour_pair-line k c u h = grind (arith, in_colour-line, free_both)
 
 -- lines that are indented by spaces
 line-indented : (k : Bool) (p : Text) (b : Bool) (c u : Text) → HasNoEscape p → IsBlank p → IsColourPairOfLine k c u
     → IsColourPairOfLine k (indent p b c) (indent p b u)
-line-indented k p b c u h blank same = record {
-  coloured = λ e. indent-visible p b c h blank ∙ indent-alike p b (visible c) u blank (same.coloured e);
-  plain = λ e. free-indent p b u h (same.plain e);
-}
+line-indented k p b c u h blank same = grind (arith, indent-visible, indent-alike, free-indent)
 
 pub colour_pair-indented_line : (k : Bool) (p : Text) (b : Bool) (c u : Text) → HasNoEscape p → IsBlank p
     → IsColourPairOfLine k c u → IsColourPair k (indent p b c ++ 10 ∷ []) (indent p b u ++ 10 ∷ [])
-colour_pair-indented_line k p b c u h blank same = colour_pair-line k (indent p b c) (indent p b u)
-    (line-indented k p b c u h blank same)
+colour_pair-indented_line k p b c u h blank same = search (colour_pair-line, line-indented)
 
 pub colour_pair-indent : (k : Bool) (p : Text) (b : Bool) (c u : Text) → HasNoEscape p → IsBlank p
     → IsColourPairOfLine k c u → IsColourPair k (indent p b (c ++ 10 ∷ [])) (indent p b (u ++ 10 ∷ []))
-colour_pair-indent k p b c u h blank same = rw (indent-feed p b c, indent-feed p b u)
-    (colour_pair-indented_line k p b c u h blank same)
+colour_pair-indent k p b c u h blank same = search (indent-feed, colour_pair-indented_line)
 
 -- what shows that a definition is a colour pair if its parts are
 pub ruleset colour_pairs = (

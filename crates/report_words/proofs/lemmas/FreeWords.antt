@@ -1,11 +1,10 @@
 -- Words without escape characters (for `colour_pairs`).
-use Rattle.std.proofs.Common.{◌≡◌, ℕ, ℤ, pos, negsuc, zero, suc, ◌+◌, ◌-◌, Bool, true, false, cond, ◌==◌, nat_lt, inl}
-use Rattle.std.proofs.Common.{inr, List, [], ◌∷◌, refl, arith, take, drop, ◌/◌, ◌%◌}
-use Rattle.std.proofs.lemmas.{Bool.cases_Bool, Bool.Decides.nat_tests}
+use Rattle.std.proofs.Common.{ℕ, ℤ, pos, negsuc, zero, suc, ◌+◌, Bool, true, false, cond, ◌==◌, inl}
+use Rattle.std.proofs.Common.{inr, List, [], ◌∷◌, refl, arith, take, drop, ◌/◌}
+use Rattle.std.proofs.lemmas.{Bool.cases_Bool}
 use Rattle.styled_text.specs.Names.{signed_decimal, Text, visible, HasNoEscape, indent, indent_onward, indent-onward}
 use Rattle.styled_text.specs.Names.{last_digits, with_point, seconds, plain}
-use Rattle.uuid.specs.Text.{by_index, hyphenated_text, lower, is_hyphen_place, hex_digit as id_digit, nibble}
-use Rattle.uuid.specs.Text.{digit_place}
+use Rattle.uuid.specs.Text.{by_index, hyphenated_text, lower, hex_digit as id_digit}
 use Rattle.run_names.specs.declared.config.NextestRunMode.{NextestRunMode, TheVariants.Test, TheVariants.Benchmark}
 use Rattle.run_names.specs.{Levels.reason_words, declared.level.CancelReason.CancelReason}
 use Rattle.run_names.specs.declared.level.CancelReason.TheVariants as reason
@@ -17,7 +16,7 @@ use Rattle.styled_text.proofs.lemmas.{Pieces.free_parts, Pieces.visible_after-fr
 pub free-take : (n : ℕ) (t : Text) → HasNoEscape t → HasNoEscape (take n t)
 free-take zero t h = refl
 free-take (suc n) [] h = refl
-free-take (suc n) (c ∷ t) h = let both = free_parts c t h in rw (both.0, free-take n t both.1) refl
+free-take (suc n) (c ∷ t) h = let both = free_parts c t h in grind (arith, free-take n t both.1)
 
 pub free-drop : (n : ℕ) (t : Text) → HasNoEscape t → HasNoEscape (drop n t)
 free-drop zero t h = h
@@ -37,12 +36,11 @@ unfolding plain
 free-plain t h = h
 
 pub free-digit : (d : ℕ) → HasNoEscape ((48 + d) ∷ [])
-free-digit d = let e : ((48 + d) == 27) ≡ false = grind (arith, nat_tests) in rw e refl
+free-digit d = grind arith
 
 pub free-last_digits : (k n : ℕ) → HasNoEscape (last_digits k n)
 free-last_digits zero n = refl
-free-last_digits (suc k) n = free_both (last_digits k (n / 10)) ((48 + n % 10) ∷ []) (free-last_digits k (n / 10))
-    (free-digit (n % 10))
+free-last_digits (suc k) n = search (free_both, free-digit, free-last_digits k (n / 10))
 
 pub free-seconds : (k n : ℕ) → HasNoEscape (seconds k n)
 unfolding seconds with_point
@@ -53,21 +51,15 @@ unfolding clock_text
 free-clock_text s = search (free_both, free-if, decimal_free, free-last_digits) depth 12
 
 free-id_digit : (d : ℕ) → HasNoEscape (id_digit lower d ∷ [])
-free-id_digit d = elim (cases_Bool (nat_lt d 10)) [
-  | inl y ↦ rw y (free-digit d)
-  | inr n ↦ (let e : ((97 + d - 10) == 27) ≡ false = grind (arith, nat_tests) in rw n (rw e refl))
-]
+free-id_digit d = grind arith
 
 free-by_index : (n : ℕ) (f : ℕ → ℕ) → ((k : ℕ) → HasNoEscape (f k ∷ [])) → HasNoEscape (by_index n f)
 unfolding by_index
 free-by_index zero f h = refl
-free-by_index (suc n) f h = free_both (by_index n f) (f n ∷ []) (free-by_index n f h) (h n)
+free-by_index (suc n) f h = search (free_both, free-by_index n f h)
 
 pub free-run_id : (id : List ℕ) → HasNoEscape (hyphenated_text lower id)
-free-run_id id = free-by_index 36 _ (λ k. elim (cases_Bool (is_hyphen_place k)) [
-  | inl y ↦ rw y refl
-  | inr n ↦ rw n (free-id_digit (nibble id (digit_place k)))
-])
+free-run_id id = search (arith, free-by_index, free-id_digit)
 
 pub free-indent : (p : Text) (b : Bool) (t : Text) → HasNoEscape p → HasNoEscape t → HasNoEscape (indent p b t)
 free-indent p b t h k = rw indent-onward (go b t k)
@@ -77,7 +69,7 @@ free-indent p b t h k = rw indent-onward (go b t k)
     go b (c ∷ t) k = let both = free_parts c t k in elim (cases_Bool (c == 10)) [
       | inl y ↦ rw y (go true t both.1)
       | inr n ↦ rw n
-          (free_both (cond b p []) (c ∷ indent_onward p false t) (free-if b p [] h refl)
+          (free_both (cond b p []) (c ∷ indent_onward p false t) (grind arith)
           (rw both.0 (go false t both.1)))
     ]
 
@@ -90,15 +82,15 @@ free-tests_word_if Benchmark false = refl
 
 pub free-binaries_word : (n : ℕ) → HasNoEscape (binaries_word n)
 unfolding binaries_word
-free-binaries_word n = free-if (n == 1) _ _ refl refl
+free-binaries_word n = grind arith
 
 pub free-setup_scripts_word : (n : ℕ) → HasNoEscape (setup_scripts_word n)
 unfolding setup_scripts_word
-free-setup_scripts_word n = free-if (n == 1) _ _ refl refl
+free-setup_scripts_word n = grind arith
 
 pub free-iterations_word : (n : ℕ) → HasNoEscape (iterations_word n)
 unfolding iterations_word
-free-iterations_word n = free-if (n == 1) _ _ refl refl
+free-iterations_word n = grind arith
 
 pub free-were_word : (b : Bool) → HasNoEscape (were_word b)
 unfolding were_word

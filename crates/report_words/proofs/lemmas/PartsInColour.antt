@@ -1,21 +1,22 @@
 -- Parts painted in colour and plain: the law of colour, once for all texts of parts.
-use Rattle.std.proofs.Common.{ℕ, zero, suc, Bool, true, false, cond, List, ◌++◌, refl, [], ◌∷◌, ◌==◌, inl, inr, sym, ap}
+use Rattle.std.proofs.Common.{arith}
+use Rattle.std.proofs.Common.{ℕ, zero, suc, Bool, true, false, cond, List, ◌++◌, refl, [], ◌∷◌, inl, inr, sym, ap}
 use Rattle.std.proofs.Common.{◌∙◌, append_assoc, append-nil}
-use Rattle.std.proofs.lemmas.{Bool.cases_Bool, Bool.eqb-true, List.append_cancel_right}
+use Rattle.std.proofs.lemmas.{List.append_cancel_right}
 use Rattle.styled_text.specs.Names.{Text, spaces, HasNoEscape, visible, visible_after, plain, styled, styles_of, indent}
 use Rattle.styled_text.specs.Names.{without_end_spaces, flat_map, AllByRecursion}
 use Rattle.styled_text.proofs.lemmas.Closed.{decimal_free, right_free, spaces_free}
 use Rattle.report_words.proofs.lemmas.ColourPairs.{colour_pair-none, colour_pair-append, colour_pair-styled}
-use Rattle.report_words.proofs.lemmas.ColourPairs.{colour_pair-if, colour_pair-free, colour_pair-whole}
+use Rattle.report_words.proofs.lemmas.ColourPairs.{colour_pair-free, colour_pair-whole}
 use Rattle.report_words.proofs.lemmas.ColourPairs.{colour_pair-indent, colour_pair-indented_line}
-use Rattle.report_words.specs.Names.{IsColourPair, IsColourPairOfLine, Parts, Tone, Count, Pass, Retry, Fail, Skip}
-use Rattle.report_words.specs.Names.{ScriptId, RunIdPrefix, RunIdRest, none, Words, Word, Verbatim, Toned, Right}
+use Rattle.report_words.specs.Names.{IsColourPair, IsColourPairOfLine, Parts, Tone, Count}
+use Rattle.report_words.specs.Names.{none, Words, Word, Verbatim, Toned, Right}
 use Rattle.report_words.specs.Names.{number}
 use Rattle.report_words.specs.Names.{ending, joined_end, either_end, EndsLine, IsOfLines, style_of, paint, Styles}
 use Rattle.report_words.specs.Names.{given, given_toned, given_right, Join, choice, each, indented, indented_line}
 use Rattle.report_words.specs.Names.{plainly, openly, loosely, drawn_given, drawn_given_line, End, Line, Open, Lines}
 use Rattle.styled_text.proofs.lemmas.IndentedEndSpaces.{IsBlank, end_spaces-line, indent-feed}
-use Rattle.styled_text.proofs.lemmas.{LineSequences.visible-line, Widths.free_front}
+use Rattle.styled_text.proofs.lemmas.{LineSequences.visible-line, Widths.free_halves}
 
 -- words from outside hold no escape character
 abbrev pub AreFreeGiven : {a : Bool} {d : End} → Bool → Parts a d → Type 0
@@ -40,13 +41,7 @@ AreFree {a} k x = cond a (Unit {0}) (AreFreeGiven k x)
 in_tone : (k : Bool) (tone : Tone) (t : Text) → HasNoEscape t
     → IsColourPair k (styled (style_of (styles_of true) tone) t) (styled (style_of (styles_of false) tone) t)
 in_tone k Count t h = colour_pair-styled k _ t h
-in_tone k Pass t h = colour_pair-styled k _ t h
-in_tone k Retry t h = colour_pair-styled k _ t h
-in_tone k Fail t h = colour_pair-styled k _ t h
-in_tone k Skip t h = colour_pair-styled k _ t h
-in_tone k ScriptId t h = colour_pair-styled k _ t h
-in_tone k RunIdPrefix t h = colour_pair-styled k _ t h
-in_tone k RunIdRest t h = colour_pair-styled k _ t h
+in_tone k _ t h = colour_pair-styled k _ t h
 
 -- the text has this end
 abbrev pub EndsBy : End → Text → Type 0
@@ -56,14 +51,11 @@ EndsBy Lines t = IsOfLines t
 
 ends-words : (t : Text) → EndsBy (ending t) t
 ends-words [] = inl refl
-ends-words (c ∷ []) = elim (cases_Bool (c == 10)) [
-  | inl y ↦ rw y ([], ap (λ x. x ∷ []) (eqb-true c 10 y))
-  | inr n ↦ rw n tt
-]
+ends-words (c ∷ []) = grind arith
 ends-words (c ∷ d ∷ t) = go (ending (d ∷ t)) (ends-words (d ∷ t))
   where
     go : (e : End) → EndsBy e (d ∷ t) → EndsBy e (c ∷ d ∷ t)
-    go Line h = (c ∷ h.0, ap (λ x. c ∷ x) h.1)
+    go Line h = (c ∷ h.0, search)
     go Open h = tt
     go Lines (inl h) = cc
     go Lines (inr h) = inr (c ∷ h.0, ap (λ x. c ∷ x) h.1)
@@ -78,21 +70,16 @@ ends-joined Line Lines t u h (inl empty) = rw empty (h.0, append-nil t ∙ h.1)
 ends-joined Line Lines t u h (inr j) = ends_after t u j
 ends-joined Open Lines t u h j = tt
 ends-joined Lines Lines t u (inl empty) j = rw empty j
-ends-joined Lines Lines t u (inr h) (inl empty) = rw empty (inr (h.0, append-nil t ∙ h.1))
+ends-joined Lines Lines t u (inr h) (inl empty) = grind (arith, append-nil)
 ends-joined Lines Lines t u (inr h) (inr j) = inr (ends_after t u j)
 
 ends-either : (d e : End) (b : Bool) (t u : Text) → EndsBy d t → EndsBy e u → EndsBy (either_end d e) (cond b t u)
 ends-either Line Line true t u h j = h
 ends-either Line Line false t u h j = j
-ends-either Line Open b t u h j = tt
-ends-either Line Lines true t u h j = inr h
-ends-either Line Lines false t u h j = j
-ends-either Open e b t u h j = tt
 ends-either Lines Line true t u h j = h
 ends-either Lines Line false t u h j = inr j
-ends-either Lines Open b t u h j = tt
-ends-either Lines Lines true t u h j = h
-ends-either Lines Lines false t u h j = j
+ends-either _ _ true t u h j = search inr
+ends-either _ _ false t u h j = search inr
 
 blank-spaces : (n : ℕ) → IsBlank (spaces n)
 unfolding without_end_spaces
@@ -119,11 +106,11 @@ ends s (number tone n) = tt
 ends s (given t) = tt
 ends s (given_toned tone t) = tt
 ends s (given_right n tone t) = tt
-ends s (Join {d = d} {e = e} x y) = ends-joined d e _ _ (ends s x) (ends s y)
-ends s (choice {d = d} {e = e} b x y) = ends-either d e b _ _ (ends s x) (ends s y)
+ends s (Join {d = d} {e = e} x y) = search (ends-joined, ends s x, ends s y)
+ends s (choice {d = d} {e = e} b x y) = grind (arith, ends s x, ends s y)
 ends s (each f xs) = ends-each (λ x. paint s (f x)) xs (λ x. ends s (f x))
 ends s (indented n b x) = ends-indented n b _ (ends s x)
-ends s (indented_line n b x) = (indent (spaces n) b (paint s x), refl)
+ends s (indented_line n b x) = grind arith
 ends s (plainly x) = ends s x
 ends s (openly x) = tt
 ends s (loosely x) = inr (ends s x)
@@ -137,25 +124,27 @@ unfed k c u h = record {
   coloured = λ e. append_cancel_right _ _ (10 ∷ [])
       (sym (end_spaces-line (visible c) []) ∙ ap without_end_spaces (sym (visible-line c []))
       ∙ (colour_pair-whole k _ _ h).coloured e ∙ end_spaces-line u []);
-  plain = λ e. free_front u (10 ∷ []) (h.plain e);
+  plain = λ e. (free_halves u (10 ∷ []) (h.plain e)).0;
 }
 
 indented-pair : (k : Bool) (n : ℕ) (b : Bool) (c u : Text) → EndsLine c → EndsLine u → IsColourPair k c u
     → IsColourPair k (indent (spaces n) b c) (indent (spaces n) b u)
-indented-pair k n b c u p q h =
-    rw (p.1, q.1)
-    (colour_pair-indent k (spaces n) b p.0 q.0 (spaces_free n) (blank-spaces n)
-    (unfed k p.0 q.0 (rw (p.1, q.1) at h)))
+indented-pair k n b c u p q h = grind (arith, colour_pair-indent, spaces_free, blank-spaces, unfed)
 
 each-pair : {X : Type 0} (k : Bool) (f g : X → Text) (xs : List X) → ((x : X) → IsColourPair k (f x) (g x))
     → IsColourPair k (flat_map f xs) (flat_map g xs)
 each-pair k f g [] h = colour_pair-none k
-each-pair k f g (x ∷ xs) h = colour_pair-append k _ _ _ _ (h x) (each-pair k f g xs h)
+each-pair k f g (x ∷ xs) h = grind (arith, colour_pair-append, each-pair k f g xs h)
 
 each-pair_all : {X : Type 0} (k : Bool) (f g : X → Text) (P : X → Type 0) (xs : List X) → AllByRecursion P xs
     → ((x : X) → P x → IsColourPair k (f x) (g x)) → IsColourPair k (flat_map f xs) (flat_map g xs)
 each-pair_all k f g P [] all h = colour_pair-none k
-each-pair_all k f g P (x ∷ xs) all h = colour_pair-append k _ _ _ _ (h x all.0) (each-pair_all k f g P xs all.1 h)
+each-pair_all k f g P (x ∷ xs) all h = grind (arith, colour_pair-append, each-pair_all k f g P xs all.1 h)
+
+-- what is not asked of the parts is not asked of what holds them
+once : (a : Bool) (P : Type 0) → cond a (Unit {0}) (cond a (Unit {0}) P) → cond a (Unit {0}) P
+once true P h = tt
+once false P h = h
 
 -- the parts in colour are the plain ones, if words from outside hold no escape character
 pub in_colour : {a : Bool} {d : End} (k : Bool) (x : Parts a d) → AreFree k x
@@ -166,33 +155,34 @@ in_colour k (Word t free) h = colour_pair-free k t free
 in_colour k (Verbatim t free) h = colour_pair-free k t free
 in_colour k (Words t free) h = colour_pair-free k t free
 in_colour k (Toned tone t free) h = in_tone k tone t free
-in_colour k (Right n tone t free) h = in_tone k tone _ (right_free n t free)
+in_colour k (Right n tone t free) h = search (in_tone, right_free)
 in_colour k (number tone n) h = in_tone k tone _ (decimal_free n)
 in_colour k (given t) h = colour_pair-free k t h
 in_colour k (given_toned tone t) h = in_tone k tone t h
-in_colour k (given_right n tone t) h = in_tone k tone _ (right_free n t h)
-in_colour k (Join {a = true} {b = true} x y) h = colour_pair-append k _ _ _ _ (in_colour k x tt) (in_colour k y tt)
-in_colour k (Join {a = true} {b = false} x y) h = colour_pair-append k _ _ _ _ (in_colour k x tt) (in_colour k y h.1)
-in_colour k (Join {a = false} {b = b} x y) h = colour_pair-append k _ _ _ _ (in_colour k x h.0) (in_colour k y h.1)
-in_colour k (choice {a = true} {b = true} c x y) h = colour_pair-if k c _ _ _ _ (in_colour k x tt) (in_colour k y tt)
-in_colour k (choice {a = true} {b = false} c x y) h = colour_pair-if k c _ _ _ _ (in_colour k x tt) (in_colour k y h.1)
-in_colour k (choice {a = false} {b = b} c x y) h = colour_pair-if k c _ _ _ _ (in_colour k x h.0) (in_colour k y h.1)
+in_colour k (given_right n tone t) h = search (in_tone, right_free)
+in_colour k (Join {a = true} {b = true} x y) h = search (colour_pair-append, in_colour k x tt, in_colour k y tt)
+in_colour k (Join {a = true} {b = false} x y) h = search (colour_pair-append, in_colour k x tt, in_colour k y h.1)
+in_colour k (Join {a = false} {b = b} x y) h = search (colour_pair-append, in_colour k x h.0, in_colour k y h.1)
+in_colour k (choice {a = true} {b = true} c x y) h = grind (arith, in_colour k x tt, in_colour k y tt)
+in_colour k (choice {a = true} {b = false} c x y) h = grind (arith, in_colour k x tt, in_colour k y h.1)
+in_colour k (choice {a = false} {b = b} c x y) h = grind (arith, in_colour k x h.0, in_colour k y h.1)
 in_colour k (each {a = true} f xs) h = each-pair k (λ x. paint (styles_of true) (f x))
     (λ x. paint (styles_of false) (f x)) xs (λ x. in_colour k (f x) tt)
 in_colour k (each {a = false} f xs) h = each-pair_all k (λ x. paint (styles_of true) (f x))
     (λ x. paint (styles_of false) (f x)) (λ x. AreFreeGiven k (f x)) xs h (λ x j. in_colour k (f x) j)
-in_colour k (indented {a = true} n b x) h = indented-pair k n b _ _ (ends (styles_of true) x) (ends (styles_of false) x)
-    (in_colour k x tt)
-in_colour k (indented {a = false} n b x) h = indented-pair k n b _ _ (ends (styles_of true) x)
-    (ends (styles_of false) x) (in_colour k x h)
-in_colour k (indented_line {a = true} n b x) h = colour_pair-indented_line k (spaces n) b _ _ (spaces_free n)
-    (blank-spaces n) (colour_pair-whole k _ _ (in_colour k x tt))
-in_colour k (indented_line {a = false} n b x) h = colour_pair-indented_line k (spaces n) b _ _ (spaces_free n)
-    (blank-spaces n) (colour_pair-whole k _ _ (in_colour k x h))
+in_colour k (indented {a} n b x) h = indented-pair k n b _ _ (ends (styles_of true) x) (ends (styles_of false) x)
+    (in_colour k x (grind arith))
+in_colour k (indented_line {a} n b x) h = grind (
+  arith,
+  colour_pair-indented_line,
+  spaces_free,
+  blank-spaces,
+  colour_pair-whole,
+  once,
+  in_colour k x (once a (AreFreeGiven k x) h),
+)
 in_colour k (plainly x) h = in_colour k x h
-in_colour k (openly {a = true} x) h = in_colour k x tt
-in_colour k (openly {a = false} x) h = in_colour k x h
-in_colour k (loosely {a = true} x) h = in_colour k x tt
-in_colour k (loosely {a = false} x) h = in_colour k x h
+in_colour k (openly {a} x) h = in_colour k x (grind arith)
+in_colour k (loosely {a} x) h = in_colour k x (grind arith)
 in_colour k (drawn_given_line f ends) h = h
 in_colour k (drawn_given f) h = h

@@ -1,8 +1,7 @@
 -- Lists of paths cut at their colons (for `split_colon`).
 use Rattle.std.proofs.Common.{◌≡◌, ◌≢◌, ℕ, suc, ◌<◌, [], ◌∷◌, ◌++◌, length, get_or, Option, None, Some, MatchOption}
-use Rattle.std.proofs.Common.{IfSome, refl, ap, ◌∙◌, arith, length-append, lit<, inl, inr}
+use Rattle.std.proofs.Common.{IfSome, refl, ap, ◌∙◌, arith, lit<, inl, inr}
 use Rattle.{styled_text.specs.Names.Bor, styled_text.specs.Names.Text, report_words.specs.Paths.between_colons}
-use Rattle.{report_words.specs.Paths.in_first_path}
 use Rattle.std.proofs.lemmas.{Bool.Decides.eqb_tells, Str.Pattern.split_parts, Str.Pattern.IsSplitOnceResult}
 
 -- no byte is a colon
@@ -14,7 +13,7 @@ unfolding between_colons
 one_path [] h = refl
 one_path (c ∷ t) h = elim (eqb_tells c 58) [
   | inl p ↦ absurd (h 0 (omega arith) p.1)
-  | inr p ↦ rw p.0 (ap (in_first_path c) (one_path t (λ i l. h (suc i) (omega arith))))
+  | inr p ↦ grind (arith, one_path t (λ i l. h (suc i) (omega arith)))
 ]
 
 first_path : (t u : Text) → HasNoColon t → between_colons (t ++ 58 ∷ u) ≡ t ∷ between_colons u
@@ -22,7 +21,7 @@ unfolding between_colons
 first_path [] u h = refl
 first_path (c ∷ t) u h = elim (eqb_tells c 58) [
   | inl p ↦ absurd (h 0 (omega arith) p.1)
-  | inr p ↦ rw p.0 (ap (in_first_path c) (first_path t u (λ i l. h (suc i) (omega arith))))
+  | inr p ↦ grind (arith, first_path t u (λ i l. h (suc i) (omega arith)))
 ]
 
 -- the parts that `split_once` gives at a colon
@@ -36,7 +35,4 @@ colon_parts t (Some x) h = let p = split_parts 58 t (Some x) h (lit< tt) in ap b
 pub after_shorter : (t : Text) (r : Option (Bor Text × Bor Text)) → IsSplitOnceResult 58 t r
     → IfSome r (λ x. length x.1.now < length t)
 after_shorter t None h = tt
-after_shorter t (Some x) h =
-    let p = split_parts 58 t (Some x) h (lit< tt) in
-    let whole = ap length p.0 ∙ length-append x.0.now (58 ∷ x.1.now) in
-    omega (arith, whole)
+after_shorter t (Some x) h = grind arith

@@ -15,7 +15,7 @@ earlier n p h = grind arith
 
 placed-more : (n : ℕ) (ps : List Held) → ArePlaced n ps → ArePlaced (n + 1) ps
 placed-more n [] h = tt
-placed-more n (p ∷ ps) h = ((omega (arith, h.0.0), h.0.1), placed-more n ps h.1)
+placed-more n (p ∷ ps) h = grind (arith, placed-more n ps h.1)
 
 -- the entries after an insertion: greater ones come first
 abbrev pub is_after : FinalOutputEntry → FinalOutputEntry → Bool
@@ -36,35 +36,23 @@ by_first : (e : FinalOutputEntry) (n : ℕ) (p : Held) (ps : List Held) → AreP
     → Inserts e n ps (insert_entry held_cmp ps (key_at e n) e.output)
     → Inserts e n (p ∷ ps) (insert_entry held_cmp (p ∷ ps) (key_at e n) e.output)
 unfolding put_in
-by_first e n p ps all Less q a s more = rw s (record {
-  held = rw a refl;
-  placed = (at_last e n, all);
-  longer = omega arith;
-})
-by_first e n p ps all Equal q a s more = rw s (record {
-  held = rw a refl;
-  placed = (at_last e n, all);
-  longer = omega arith;
-})
-by_first e n p ps all Greater q a s more = rw s (record {
-  held = rw a (ap (λ l. entry_held p ∷ l) more.held);
-  placed = (all.0, more.placed);
-  longer = omega (arith, more.longer);
-})
+by_first e n p ps all Less q a s more = grind arith
+by_first e n p ps all Equal q a s more = grind arith
+by_first e n p ps all Greater q a s more = grind arith
 
 inserts : (e : FinalOutputEntry) (n : ℕ) (ps : List Held) → ArePlaced n ps
     → Inserts e n ps (insert_entry held_cmp ps (key_at e n) e.output)
 unfolding put_in
-inserts e n [] all = record { held = refl; placed = (at_last e n, tt); longer = refl }
+inserts e n [] all = grind arith
 inserts e n (p ∷ ps) all = by_first e n p ps (placed-more n (p ∷ ps) all) (entry_cmp (entry_held p) e) refl
     (ap is_lt ((lists_total nat_list_cmp_total).antisymm (entry_key e) (entry_key (entry_held p))))
-    (rw all.0.1 (ap (ordering_then (entry_cmp (entry_held p) e)) (earlier n p.0.0.place all.0.0)))
+    (grind arith)
     (inserts e n ps all.1)
 
 module _ (e : FinalOutputEntry) (place : ℕ) (ps : List Held) (at_end : place ≡ length ps)
     (all : ArePlaced (length ps) ps) where
   inserted : Inserts e place ps (insert_entry held_cmp ps (key_at e place) e.output)
-  inserted = inserts e place ps (subst (λ n. ArePlaced n ps) (sym at_end) all)
+  inserted = inserts e place ps (grind arith)
 
   -- the entries are shown in the final order, with this one after the others
   pub shown_more : (kept : List FinalOutputEntry) → shown_of ps ≡ final_order kept
@@ -83,11 +71,4 @@ module _ (e : FinalOutputEntry) (place : ℕ) (ps : List Held) (at_end : place �
 -- a walk from the last one shows it first
 pub text-left : (s : Settings) (t : KeptTest) (ps qs : List Held) (p : Held) → ps ≡ qs ++ p ∷ [] → t ≡ p.0.0.test →
     shown_entries s (shown_of ps) ≡ shown_entry s (record { test = t; output = p.1 }) ++ shown_entries s (shown_of qs)
-text-left s t ps qs p is same =
-    ap (λ l. shown_entries s (shown_of l)) is
-    ∙ ap (λ es. shown_entries s (reverse es)) (map-append entry_held qs (p ∷ []))
-    ∙ ap (shown_entries s) (reverse-append (entries_of qs) (entry_held p ∷ []))
-    ∙ ap (λ (u : KeptTest). shown_entry s (record {
-      test = u;
-      output = p.1;
-    }) ++ shown_entries s (shown_of qs)) (sym same)
+text-left s t ps qs p is same = grind (arith, reverse, map-append, reverse-append)

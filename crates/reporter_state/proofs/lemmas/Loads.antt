@@ -1,43 +1,39 @@
 -- What is known of outputs once an event is accepted (for `ReporterState::apply`, and for the writers of events that
 -- show output).
-use Rattle.std.proofs.Common.{◌≡◌, ℕ, Bool, true, false, not, Option, None, Some, if◌then◌else◌, refl, subst, sym, inl}
-use Rattle.std.proofs.Common.{inr}
-use Rattle.std.{specs.Option.option_map_or, proofs.lemmas.Bool.cases_Bool, proofs.lemmas.Bool.false≢true}
+use Rattle.std.proofs.Common.{arith}
+use Rattle.std.proofs.Common.{◌≡◌, ℕ, Bool, true, false, not, Option, None, Some, if◌then◌else◌, subst, sym}
+use Rattle.std.{specs.Option.option_map_or}
 use Rattle.std.{proofs.lemmas.Option.none-some, proofs.lemmas.Option.same_Some}
-use Rattle.run_model.specs.Names.{Attempt, Attempts, Written, has_loaded_output, summary_of, TestOutputDisplay}
+use Rattle.run_model.specs.Names.{Attempt, Attempts, Written, has_loaded_output, TestOutputDisplay}
 use Rattle.run_model.specs.Names.{TestInstanceId, StressIndex, Nanos}
-use Rattle.text_parts.specs.Names.{TestEventKind, ChildOutputDescription, LiveSpec, RunStats, display_for, display_of}
-use Rattle.text_parts.specs.Names.{is_ever_shown, is_level_shown}
+use Rattle.text_parts.specs.Names.{TestEventKind, ChildOutputDescription, LiveSpec, RunStats, display_of}
+use Rattle.text_parts.specs.Names.{is_level_shown}
 use Rattle.run_model.specs.declared.event.TestEventKind.TheVariants.{SetupScriptFinished, TestAttemptFailedWillRetry}
 use Rattle.run_model.specs.declared.event.TestEventKind.TheVariants.{TestFinished, InfoResponse}
 use Rattle.reporter_state.specs.Names.{StoreConfig, FinishReport, HasShownOutput, test_finish, HasFailedAttemptOutput}
-use Rattle.reporter_state.specs.Names.{is_failed_output_shown, finish_by, decider_by, lacks_output, loads_attempt}
-use Rattle.reporter_state.specs.Names.{loads_finish, Settings}
+use Rattle.reporter_state.specs.Names.{is_failed_output_shown, finish_by, decider_by, lacks_output}
+use Rattle.reporter_state.specs.Names.{Settings}
 use Rattle.run_names.specs.declared.level.StatusLevel.TheVariants as level
 
 -- needed output is loaded, if the event was accepted
 pub loaded_where : (is_needed : Bool) (output : Written) →
     option_map_or (λ (o : Written). not (has_loaded_output o)) (if is_needed then Some output else None) false ≡ false
     → is_needed ≡ true → has_loaded_output output ≡ true
-loaded_where is_needed output lacks is =
-    elim (cases_Bool (has_loaded_output output)) [ inl y ↦ y | inr n ↦ absurd (false≢true (sym (rw (is, n) at lacks))) ]
+loaded_where is_needed output lacks is = grind arith
 
 pub attempt_loaded : (s : Settings) (stress : Option StressIndex) (test : TestInstanceId) (status : Attempt)
     (delay : Nanos) (failure : TestOutputDisplay)
     → lacks_output (decider_by s None) (TestAttemptFailedWillRetry stress test status delay failure) ≡ false
     → is_level_shown s level.Retry ≡ true → HasFailedAttemptOutput s status failure
 unfolding is_level_shown is_failed_output_shown
-attempt_loaded s stress test status delay failure lacks shown at_once =
-    loaded_where (loads_attempt (decider_by s None) failure) status.output lacks (rw (shown, at_once) refl)
+attempt_loaded s stress test status delay failure lacks shown at_once = grind arith
 
 pub finish_loaded : (s : Settings) (reason : ℕ) (stress : Option StressIndex) (test : TestInstanceId)
     (success failure : TestOutputDisplay) (statuses : Attempts LiveSpec ChildOutputDescription) (stats : RunStats)
     → lacks_output (decider_by s None) (TestFinished stress test success failure statuses stats) ≡ false
     → HasShownOutput (test_finish s reason stress test success failure statuses stats)
 unfolding display_of
-finish_loaded s reason stress test success failure statuses stats lacks shown =
-    loaded_where (loads_finish (decider_by s None) success failure (summary_of statuses)) statuses.last.output lacks
-    (rw shown refl)
+finish_loaded s reason stress test success failure statuses stats lacks shown = grind arith
 
 -- also for the test that it finishes
 pub handed_loaded : (s : Settings) (reason : ℕ) (e : TestEventKind) (f : FinishReport) → Some f ≡ finish_by s reason e
@@ -52,10 +48,6 @@ pub lacks_less : (s : Settings) (store : Option StoreConfig) (e : TestEventKind)
     → lacks_output (decider_by s store) e ≡ false → lacks_output (decider_by s None) e ≡ false
 lacks_less s store (SetupScriptFinished stress id program args status) lacks = lacks
 lacks_less s store (TestAttemptFailedWillRetry stress test status delay failure) lacks = lacks
-lacks_less s store (TestFinished stress test success failure statuses stats) lacks =
-    elim (cases_Bool (is_ever_shown (display_for s.unit_output.overrides success failure (summary_of statuses)))) [
-      | inl y ↦ rw y (rw y at lacks)
-      | inr n ↦ rw n refl
-    ]
+lacks_less s store (TestFinished stress test success failure statuses stats) lacks = grind arith
 lacks_less s store (InfoResponse index total response) lacks = lacks
 lacks_less s store other lacks = lacks

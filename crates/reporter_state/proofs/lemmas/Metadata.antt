@@ -1,6 +1,7 @@
 -- The decision from an event's metadata is the one from the event (for `should_load`).
-use Rattle.std.proofs.Common.{◌≡◌, Bool, true, false, ◌==◌, length, if◌then◌else◌, refl, ap, sym}
-use Rattle.run_model.specs.Names.{Attempts, is_success, is_success_case, summary_of, TestOutputDisplay}
+use Rattle.std.proofs.Common.{arith}
+use Rattle.std.proofs.Common.{◌≡◌, Bool, true, false, if◌then◌else◌, refl, ap, sym}
+use Rattle.run_model.specs.Names.{Attempts, is_success_case, summary_of, TestOutputDisplay}
 use Rattle.run_model.specs.{declared.status.StatusCase.TheVariants.Success}
 use Rattle.run_model.specs.{declared.status.StatusCase.TheVariants.Flaky}
 use Rattle.run_model.specs.{declared.status.StatusCase.TheVariants.Failure}
@@ -20,8 +21,7 @@ success_case false is_only flaky = refl
 
 pub loads_last-same : {S O : Type 0} (d : OutputLoadDecider) (success failure : TestOutputDisplay) (a : Attempts S O)
     → loads_last d success failure a.last.result ≡ loads_finish d success failure (summary_of a)
-loads_last-same d success failure a = rw
-    (success_case (is_success a.last.result) (length a.earlier == 0) a.flaky_result) refl
+loads_last-same d success failure a = grind arith
 
 pub loads_alike : {S O : Type 0} (d : OutputLoadDecider) (event : OutputEventKind S O) (metadata : OutputMetadata)
     → HasMetadata event metadata → loads_by_metadata d metadata ≡ loads d event
@@ -29,7 +29,7 @@ loads_alike d (decided.SetupScriptFinished stress status) (SetupScriptFinished r
 loads_alike d (decided.TestAttemptFailedWillRetry stress status delay failure) (TestAttemptFailedWillRetry display) h =
     ap (loads_attempt d) (sym h)
 loads_alike d (decided.TestFinished stress success failure statuses stats) (TestFinished on_success on_failure last) h =
-    rw (sym h.0, sym h.1, sym h.2) (loads_last-same d success failure statuses)
+    grind arith
 loads_alike d (decided.SetupScriptFinished stress status) (TestAttemptFailedWillRetry display) h = absurd h
 loads_alike d (decided.SetupScriptFinished stress status) (TestFinished on_success on_failure last) h = absurd h
 loads_alike d (decided.TestAttemptFailedWillRetry stress status delay failure) (SetupScriptFinished result) h = absurd h

@@ -1,4 +1,5 @@
 -- The place of an entry in a summary does not depend on its output (for the lemmas of Exactness).
+use Rattle.std.proofs.Common.{arith}
 use Rattle.std.proofs.Common.{◌≡◌, List, [], ◌∷◌, ◌++◌, refl, ◌∙◌, ap, inl, inr}
 use Rattle.{std.proofs.lemmas.Bool.cases_Bool, std.proofs.lemmas.Grind.flat_map-append}
 use Rattle.{run_model.specs.declared.status.StatusSummary.StatusSummary, run_model.specs.Attempts.Written}
@@ -25,7 +26,7 @@ module _ (test : KeptTest) (x : StatusSummary) where
   unfolding put_in
   put_in-place [] = ([], [], λ output. refl)
   put_in-place (f ∷ fs) = let more = put_in-place fs in elim (cases_Bool (is_before f without_output)) [
-    | inl a ↦ (f ∷ more.0, more.1, λ output. rw (a, more.2 output) refl)
+    | inl a ↦ (f ∷ more.0, more.1, grind arith)
     | inr b ↦ ([], f ∷ fs, λ output. rw b refl)
   ]
 
@@ -33,11 +34,11 @@ module _ (test : KeptTest) (x : StatusSummary) where
       → HasPlace (λ output. put_in is_before g (front ++ entry_with output ∷ back))
   unfolding put_in
   put_in-past g [] back = elim (cases_Bool (is_before without_output g)) [
-    | inl a ↦ ([], put_in is_before g back, λ output. rw a refl)
+    | inl a ↦ ([], put_in is_before g back, grind arith)
     | inr b ↦ (g ∷ [], back, λ output. rw b refl)
   ]
   put_in-past g (f ∷ front) back = let more = put_in-past g front back in elim (cases_Bool (is_before f g)) [
-    | inl a ↦ (f ∷ more.0, more.1, λ output. rw (a, more.2 output) refl)
+    | inl a ↦ (f ∷ more.0, more.1, grind arith)
     | inr b ↦ (g ∷ f ∷ front, back, λ output. rw b refl)
   ]
 
@@ -45,10 +46,8 @@ module _ (test : KeptTest) (x : StatusSummary) where
       → HasPlace (λ output. final_order (front ++ entry_with output ∷ back))
   unfolding ordered_by
   ordered-place [] back = put_in-place (ordered_by is_before back)
-  ordered-place (g ∷ front) back =
-      let more = ordered-place front back in
-      let past = put_in-past g more.0 more.1 in
-      (past.0, past.1, λ output. ap (λ es. put_in is_before g es) (more.2 output) ∙ past.2 output)
+  ordered-place (g ∷ front) back = let more = ordered-place front back in
+      let past = put_in-past g more.0 more.1 in grind arith
 
   -- there are texts before and after the entry's text that do not depend on its output
   pub text-place : (s : Settings) (front back : List FinalOutputEntry) →

@@ -1,11 +1,10 @@
--- Lines that configure a report, and those behind them, which leave the configuration as it is (for `Reading`,
+-- Lines that configure a report, and the lines after them, which leave the configuration unchanged (for `Reading`,
 -- `follow_to`).
 use Rattle.std.proofs.Common.{◌≡◌, ℕ, true, false, List, [], ◌∷◌, ◌++◌, Ok, Err, refl, sym, ap, ◌∙◌, subst, inl}
 use Rattle.std.proofs.Common.{inr}
-use Rattle.scene_follower.proofs.Common.{AtLine, Fault, is_begun, IsUnread, line_value, lines_before, no_lines}
-use Rattle.scene_follower.proofs.Common.{ParsedLines, AllRead, LineFault, lines_with, RunLine, with_line}
-use Rattle.std.specs.Prelude.{Result}
-use Rattle.scene_reader.specs.Names.{line_read, before_next, is_configuration, line_from, ParsedLine, split_on, Takes}
+use Rattle.scene_follower.proofs.Common.{AtLine, Fault, is_begun, IsUnread, lines_before, no_lines}
+use Rattle.scene_follower.proofs.Common.{ParsedLines, RunLine, with_line}
+use Rattle.scene_reader.specs.Names.{before_next, is_configuration, line_from, ParsedLine, split_on, Takes}
 use Rattle.scene_reader.specs.declared.reader.LinesRead.{LinesRead}
 use Rattle.scene_reader.specs.SceneTexts.{ConfigLine, EventLine, NoEvent}
 use Rattle.scene_follower.specs.Read.{HasConfigured, HasText, IsBegin, IsGiven, PassesNext, StaysConfigured}
@@ -14,7 +13,7 @@ use Rattle.scene_follower.specs.{declared.read.Reading.Reading, Reading.IsNothin
 use Rattle.scene_follower.proofs.lemmas.{Taken.taken_read}
 use Rattle.scene_follower.proofs.lemmas.ReadLines.{at_behind, begun_by, kept_begun, kept_config, says_event}
 
--- how a sink takes calls that takes none
+-- how a sink that refuses every call takes them
 abbrev takes_none : {K : Type 0} → Takes K
 takes_none old file number stored call result new = TakesNone file result
 
@@ -30,7 +29,7 @@ none_configured all Left r nothing left = record {
   left = left;
 }
 
--- a line whose call no sink took has none
+-- a line that such a sink took has no call
 not_event : {K : Type 0} (file : List ℕ) (n : ℕ) (run : ParsedLines) (value : ParsedLine) (old new : K)
     → IsGiven takes_none file n value old (Ok tt) new → run.events ≡ [] → (with_line run value).events ≡ []
 not_event file n run NoEvent old new given none = none
@@ -131,19 +130,3 @@ stays_front run [] rest stays = tt
 stays_front run (line ∷ front) rest stays = λ value says.
     let next = stays value says in
     (next.0, stays_front (with_line run value) front rest next.1)
-
--- and those behind them
-rest_behind : (run mid : ParsedLines) (line : RunLine) (front rest : List RunLine) (value : Result ParsedLine LineFault)
-    → line_value (lines_before run) line ≡ value → lines_with run value ≡ Ok mid
-    → StaysConfigured run (line ∷ front ++ rest) → StaysConfigured mid (front ++ rest)
-rest_behind run mid line front rest (Ok value) says is stays =
-    let same : with_line run value ≡ mid = cc in
-    subst (λ r. StaysConfigured r (front ++ rest)) same (stays value says).1
-rest_behind run mid line front rest (Err f) says is stays = absurd (cc)
-
-pub stays_rest : (run mid : ParsedLines) (front rest : List RunLine) → AllRead run front mid
-    → StaysConfigured run (front ++ rest) → StaysConfigured mid rest
-unfolding line_read
-stays_rest run mid [] rest read stays = subst (λ r. StaysConfigured r rest) read stays
-stays_rest run mid (line ∷ front) rest read stays = stays_rest read.0 mid front rest read.2
-    (rest_behind run read.0 line front rest (line_value (lines_before run) line) refl read.1 stays)

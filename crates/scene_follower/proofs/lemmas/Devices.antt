@@ -1,5 +1,6 @@
--- What devices hold of a report that was written to buffers (for `report_gathered`, `follow_source`).
-use Rattle.std.proofs.Common.{◌≡◌, ◌⊎◌, ℕ, List, [], ◌∷◌, ◌++◌, reverse, Option, None, Some, refl, sym, ap, ◌∙◌, subst}
+-- What devices hold of a report that was written to buffers (for `follow_source`, `report_gathered`).
+use Rattle.std.proofs.Common.{arith}
+use Rattle.std.proofs.Common.{◌≡◌, ◌⊎◌, ℕ, List, [], ◌∷◌, reverse, Option, None, Some, refl, sym, ap, ◌∙◌, subst}
 use Rattle.std.proofs.Common.{append-nil, inl, inr}
 use Rattle.styled_text.specs.Names.{Appends, append_known, BufferStops, GrowsWithin, Holds, AppendsFront, WriteFault}
 use Rattle.scene_follower.proofs.Common.{Appends-nil, AreWhole, Begins, buffer_meaning, BufferAccepts, device, Event}
@@ -12,40 +13,30 @@ use Rattle.writers.proofs.lemmas.Deliveries.{accepted_delivers, begins_of, stopp
 use Rattle.scene_follower.specs.Names.{AreBegun, IsStop}
 use Rattle.scene_follower.proofs.lemmas.Prints.{Begun, calls_so, memory_no_store, write_no_store}
 
--- known bytes that stay, and grow by a beginning where they are known
+-- known bytes stay, and grow by a prefix of what is known
 known_front : (old new : Option (List ℕ)) (text : Text) → Holds old new
     → ((xs ys : List ℕ) → old ≡ Some xs → new ≡ Some ys → GrowsWithin xs ys text) → AppendsFront old new text
-known_front None new text holds h = record { front = []; rest = text; whole = refl; grown = tt }
+known_front None new text holds h = grind arith
 known_front (Some xs) None text holds h = absurd holds.grown
-known_front (Some xs) (Some ys) text holds h = (let g = h xs ys refl refl in record {
-  front = g.front;
-  rest = g.rest;
-  whole = g.whole;
-  grown = g.grown;
-})
+known_front (Some xs) (Some ys) text holds h = (let g = h xs ys refl refl in search)
 
--- bytes that nothing is pending of
+-- bytes of which none are pending
 delivered_appends : (o p : Option (List ℕ)) (x y t : List ℕ) → x ≡ [] → y ≡ []
     → Appends (append_known o x) (append_known p y) t → Appends o p t
 delivered_appends None p x y t e f h = tt
 delivered_appends (Some xs) None x y t e f h = absurd h
-delivered_appends (Some xs) (Some ys) x y t e f h =
-    sym (append-nil ys) ∙ ap (λ z. ys ++ z) (sym f) ∙ h ∙ ap (λ z. (xs ++ z) ++ t) e ∙ ap (λ z. z ++ t) (append-nil xs)
+delivered_appends (Some xs) (Some ys) x y t e f h = grind (arith, append-nil)
 
--- a buffer's device holds the texts that the buffer has accepted once they are delivered, and a beginning where a
--- beginning was accepted
+-- once delivered, the texts that a buffer has accepted are in its device; if a prefix was accepted, a prefix is
 module _ {W : Type 0} (contents : W → Option (List ℕ)) (a b : TextBuffer W) (none : a.pending ≡ []) where
   pub whole_here : (t : Text) → BufferAccepts contents a t b → b.pending ≡ []
       → Appends (contents a.writer) (contents b.writer) t
-  whole_here t accepted delivered = delivered_appends (contents a.writer) (contents b.writer) a.pending b.pending t none
-      delivered accepted.grown
+  whole_here t accepted delivered = search delivered_appends
 
   pub begun_here : (F : Type 0) (t : Text) → Begun (buffer_meaning contents) F a t b
       → AppendsFront (contents a.writer) (contents b.writer) t
-  begun_here F t (inl h) = known_front (contents a.writer) (contents b.writer) t h.1.holds
-      (λ xs ys before after. stopped_begins contents a b xs ys t before after _ none h.1)
-  begun_here F t (inr (inl h)) = known_front (contents a.writer) (contents b.writer) t h.holds
-      (λ xs ys before after. stopped_begins contents a b xs ys t before after _ none h)
+  begun_here F t (inl h) = search (known_front, stopped_begins)
+  begun_here F t (inr (inl h)) = cc
   begun_here F t (inr (inr h)) = known_front (contents a.writer) (contents b.writer) t h.accepted.holds
       (λ xs ys before after.
       begins_of xs a.pending ys b.pending t none (record {
@@ -57,8 +48,7 @@ module _ {W : Type 0} (contents : W → Option (List ℕ)) (a b : TextBuffer W) 
 
   stops_here : (e : WriteFault) (t : Text) → BufferStops contents a t e b
       → AppendsFront (contents a.writer) (contents b.writer) t
-  stops_here e t h = known_front (contents a.writer) (contents b.writer) t h.holds
-      (λ xs ys before after. stopped_begins contents a b xs ys t before after _ none h)
+  stops_here e t h = search (known_front, stopped_begins)
 
   pub beginning_here : (texts : List ReportCall → Text) (F G : Type 0) (calls : List ReportCall)
       → HasBeginning (buffer_meaning contents) texts F G calls a b
@@ -94,72 +84,18 @@ goes_here contents mid b none t (inr s) = stops_here contents mid b none s.0 t s
 
 pub least_here : {W : Type 0} (contents : W → Option (List ℕ)) (a b : TextBuffer W) → a.pending ≡ [] → (t : Text)
     → HasAtLeast (buffer_meaning contents) a t b → HasAtLeast device (contents a.writer) t (contents b.writer)
-least_here contents a b none t h = record {
-  mid = contents h.mid.writer;
-  accepted = whole_here contents a h.mid none t h.accepted h.delivered;
-  delivered = tt;
-  more = h.more;
-  goes_on = inr (Device, goes_here contents h.mid b h.delivered h.more h.goes_on);
-}
-
--- a store that is there has what its writer has
-begun_there : {S : Type 0} (n : Meaning S) (F : Type 0) (c d : Store S) (t : Text)
-    → Begun (store_meaning n) F (Some c) t (Some d) → Begun n F c.writer.now t d.writer.now
-begun_there n F c d t (inl h) = inl h
-begun_there n F c d t (inr (inl h)) = inr (inl h)
-begun_there n F c d t (inr (inr h)) = inr (inr (record {
-  front = h.front;
-  rest = h.rest;
-  whole = h.whole;
-  accepted = h.accepted;
-}))
-
-beginning_there : {S : Type 0} (n : Meaning S) (c d : Store S) (texts : List ReportCall → Text) (F G : Type 0)
-    (calls : List ReportCall)
-    → HasBeginning (store_meaning n) texts F G calls (Some c) (Some d)
-    → HasBeginning n texts F G calls c.writer.now d.writer.now
-beginning_there n c d texts F G calls h = record {
-  begun = begun_there n F c d (texts calls) h.begun;
-  own = h.own;
-  whole = λ other. let w = h.whole other in record {
-    first = w.first;
-    rest = w.rest;
-    is = w.is;
-    accepted = w.accepted;
-    delivered = w.delivered;
-  };
-}
+least_here contents a b none t h = grind (arith, whole_here, goes_here)
 
 most_there : {S : Type 0} (n : Meaning S) (c d : Store S) (t : Text) → HasAtMost (store_meaning n) (Some c) t (Some d)
     → HasAtMost n c.writer.now t d.writer.now
-most_there n c d t (inl h) = inl (record { front = h.front; rest = h.rest; whole = h.whole; accepted = h.accepted })
+most_there n c d t (inl h) = grind arith
 most_there n c d t (inr h) = inr (h.0, h.1)
 
 least_there : {S : Type 0} (n : Meaning S) (c d : Store S) (t : Text) → HasAtLeast (store_meaning n) (Some c) t (Some d)
     → HasAtLeast n c.writer.now t d.writer.now
-least_there {S} n c d t h = by h.mid h.accepted h.delivered h.goes_on
-  where
-    by : (mid : Option (Store S)) → (store_meaning n).accepts (Some c) t mid → (store_meaning n).is_delivered mid
-        → (store_meaning n).accepts mid h.more (Some d) ⊎ ((e : WriteFault)
-        × (store_meaning n).stops mid h.more e (Some d))
-        → HasAtLeast n c.writer.now t d.writer.now
-    by None accepted delivered goes_on = absurd accepted
-    by (Some x) accepted delivered (inl g) = record {
-      mid = x.writer.now;
-      accepted = accepted;
-      delivered = delivered;
-      more = h.more;
-      goes_on = inl g;
-    }
-    by (Some x) accepted delivered (inr g) = record {
-      mid = x.writer.now;
-      accepted = accepted;
-      delivered = delivered;
-      more = h.more;
-      goes_on = inr (g.0, g.1);
-    }
+least_there {S} n c d t h = grind arith
 
--- two devices have come to the call that their buffers have come to
+-- two devices are at the same call as their buffers
 pub stand_there : {W S : Type 0} (contents : W → Option (List ℕ)) (stored_in : S → Option (List ℕ)) (a b : TextBuffer W)
     (c d : TextBuffer S)
     → a.pending ≡ [] → c.pending ≡ [] → (texts records : List ReportCall → Text) (calls : List ReportCall) →
@@ -199,7 +135,7 @@ stand_stored m n a b c d texts records calls h = record {
   no_more_printed = h.no_more_printed;
   kept = least_there n c d _ h.kept;
   no_more_kept = most_there n c d _ h.no_more_kept;
-  text_first = elim h.text_first [ inl most ↦ inl (most_there n c d _ most) | inr least ↦ inr least ];
+  text_first = grind arith;
 }
 
 -- two devices hold what two buffers have, of which the second is a store's
@@ -210,11 +146,7 @@ module _ {W S : Type 0} (options : Options) (contents : W → Option (List ℕ))
       config calls
       → AreWhole device device options (contents a.writer, stored_in c.writer.now.writer)
       (contents b.writer, stored_in d.writer.now.writer) config calls
-  both_whole config calls h = record {
-    printed = whole_here contents a b none (report_of options config calls) h.printed h.delivered.0;
-    kept = whole_here stored_in c.writer.now d.writer.now empty (stored_of options calls) h.kept h.delivered.1;
-    delivered = (tt, tt);
-  }
+  both_whole config calls h = grind (arith, whole_here, report_of, stored_of)
 
   pub both_begun : (run : ParsedLines) (f : Fault)
       → Begins (buffer_meaning contents) (store_meaning (buffer_meaning stored_in)) options (a, Some c) (b, Some d) run
@@ -225,7 +157,7 @@ module _ {W S : Type 0} (options : Options) (contents : W → Option (List ℕ))
     h.0,
     beginning_here contents a b none (report_of options run.config) _ _ calls h.1,
     beginning_here stored_in c.writer.now d.writer.now empty (stored_of options) _ _ calls
-        (beginning_there (buffer_meaning stored_in) c d (stored_of options) _ _ calls h.2),
+        (grind arith),
     λ there. stand_there contents stored_in a b c.writer.now d.writer.now none empty _ _ calls
         (stand_stored (buffer_meaning contents) (buffer_meaning stored_in) a b c d _ _ calls (h.3 there)),
   ))
@@ -233,7 +165,7 @@ module _ {W S : Type 0} (options : Options) (contents : W → Option (List ℕ))
 -- a store that was handed on and came back
 pub same_there : {S : Type 0} (a b : Store S) (x : Option (Store S)) → x ≡ Some b → IsSameStore (Some a) x
     → b.writer.ghost_name ≡ a.writer.ghost_name
-same_there a b x is h = (subst (λ y. IsSameStore (Some a) y) is h).0
+same_there a b x is h = grind arith
 
 -- nothing is stored without a store, and none fails
 no_record : (past : List ReportCall) → stored None past ≡ []
@@ -256,29 +188,8 @@ module _ (options : Options) (off : store_for options ≡ None) (before after he
 
   pub alone_whole : Appends before after (report_of options config calls)
       → AreWhole device device options (before, held) (after, held) config calls
-  alone_whole printed = record { printed = printed; kept = keeps_none; delivered = (tt, tt) }
+  alone_whole printed = search keeps_none
 
   pub alone_begun : (f : Fault) → IsStop options f → AppendsFront before after (report_of options config calls)
       → AreBegun device device options (before, held) (after, held) config f calls
-  alone_begun f stopped front = (
-    stopped,
-    record {
-      begun = inr (inl front);
-      own = λ failed. front;
-      whole = λ failed. absurd
-          (no_store_stop options off f stopped failed);
-    },
-    record {
-      begun = inr
-          (inr (record {
-            front = stored_of options calls;
-            rest = [];
-            whole = sym (append-nil _);
-            accepted = keeps_none;
-          }));
-      own = λ failed. absurd (no_store_stop options off f stopped failed);
-      whole = λ failed. record
-          { first = calls; rest = []; is = sym (append-nil calls); accepted = keeps_none; delivered = tt };
-    },
-    λ there. absurd (false≢true (ap is_some (sym off) ∙ there)),
-  )
+  alone_begun f stopped front = grind (arith, no_store_stop, stored_of, append-nil, keeps_none, false≢true)

@@ -1,4 +1,4 @@
--- What two writers have of a report that stopped, and of a longer one (for `SceneReporter::report_events`, `report_to`,
+-- What two writers have of a report that stopped, and of a longer one (for `SceneReporter::take`,
 -- `follow_to`).
 use Rattle.std.proofs.Common.{◌≡◌, ℕ, true, List, [], ◌∷◌, ◌++◌, reverse, refl, sym, ap, ◌∙◌, subst, append-nil}
 use Rattle.std.proofs.Common.{append_assoc, arith, length, ◌≤◌, ◌⊎◌, None, inl, inr}
@@ -13,12 +13,12 @@ use Rattle.console_reporter.specs.Names.{HasFront, Side, error_for, Report}
 use Rattle.reporter_state.specs.{Refusals.refusal_in, declared.faults.WriteEventError.TheVariants.Memory}
 use Rattle.scene_follower.{specs.Prints.AreBegun, specs.Prints.IsStop}
 
--- of a text a beginning was accepted, as `HasBeginning` says it
+-- a prefix of a text was accepted, in the form of `HasBeginning`
 abbrev pub Begun : {S : Type 0} → Meaning S → Type 0 → S → Text → S → Type 0
 Begun m OfOwn old text new = (OfOwn × m.stops old text Device new) ⊎ m.stops old text RefusedMemory new
     ⊎ HasFront m old text new
 
--- refused memory is no fault of a device, and a fault of one device is none of the other
+-- refused memory is not a device's fault, and one device's fault is not the other's
 pub memory_no_store : OutOfMemory ≡ StoreFailed → ⊥
 memory_no_store is = cc
 
@@ -31,12 +31,12 @@ write_no_store is = cc
 -- what holds of two pairs of writers holds of the same ones
 pub moved : {W T : Type 0} (P : W × T → W × T → Type 0) {a a' c c' : W} {b b' d d' : T} → a ≡ a' → b ≡ b' → c ≡ c'
     → d ≡ d' → P (a, b) (c, d) → P (a', b') (c', d')
-moved P e f g h held = rw (← e, ← f, ← g, ← h) held
+moved P e f g h held = grind arith
 
 -- what follows from what holds of calls holds of them
 pub calls_so : {options : Options} {run : ParsedLines} {P Q : List ReportCall → Type 0}
     → ((calls : List ReportCall) → P calls → Q calls) → OfCalls options run P → OfCalls options run Q
-calls_so so h = record { calls = h.calls; of_run = h.of_run; accepted = h.accepted; holds = so h.calls h.holds }
+calls_so so h = search
 
 pub prints_only : {W T : Type 0} {m : Meaning W} {k : Meaning T} {options : Options} {old new : W × T}
     {come_to : RunOutcome} {run : ParsedLines}
@@ -48,7 +48,7 @@ pub record IsFront (front whole : Text) : Type 0 where
   pub rest : Text
   pub is : whole ≡ front ++ rest
 
--- the first of these calls have this text
+-- the first of these calls have this text together
 pub record HasText (texts : List ReportCall → Text) (calls : List ReportCall) (text : Text) : Type 0 where
   pub first : List ReportCall
   pub rest : List ReportCall
@@ -61,14 +61,10 @@ pub record IsNext (texts : List ReportCall → Text) (calls : List ReportCall) (
   pub up_to : HasText texts calls (had ++ more)
   pub whole : IsFront (had ++ more) (texts calls)
 
--- the last call is the next behind the others
+-- the last call is the next one after the others
 pub last_next : (texts : List ReportCall → Text) (calls : List ReportCall) (call : ReportCall) (more : Text)
     → texts calls ++ more ≡ texts (calls ++ call ∷ []) → IsNext texts (calls ++ call ∷ []) (texts calls) more
-last_next texts calls call more is = record {
-  before = record { first = calls; rest = call ∷ []; is = refl; has = refl };
-  up_to = record { first = calls ++ call ∷ []; rest = []; is = sym (append-nil _); has = sym is };
-  whole = record { rest = []; is = sym is ∙ sym (append-nil _) };
-}
+last_next texts calls call more is = grind (arith, append-nil)
 
 -- of one writer
 module _ {S : Type 0} {m : Meaning S} (laws : WriterLaws m) (texts : List ReportCall → Text) (OfOwn OfOther : Type 0)
@@ -76,27 +72,12 @@ module _ {S : Type 0} {m : Meaning S} (laws : WriterLaws m) (texts : List Report
     -- of all calls it has the texts whole
     whole_texts : (calls : List ReportCall) (a b : S) → m.accepts a (texts calls) b → (OfOwn → ⊥)
         → (OfOther → m.is_delivered b) → HasBeginning m texts OfOwn OfOther calls a b
-    whole_texts calls a b accepted another delivered = record {
-      begun = inr (inr (record {
-        front = texts calls;
-        rest = [];
-        whole = sym (append-nil (texts calls));
-        accepted = accepted;
-      }));
-      own = λ failed. absurd (another failed);
-      whole = λ other. record {
-        first = calls;
-        rest = [];
-        is = sym (append-nil calls);
-        accepted = accepted;
-        delivered = delivered other;
-      };
-    }
+    whole_texts calls a b accepted another delivered = grind (arith, append-nil)
 
-    -- a beginning of the texts of some calls is one of those of more
+    -- a prefix of the texts of some calls is a prefix of the texts of more
     begun_longer : (a b : S) (t u : Text) → Begun m OfOwn a t b → Begun m OfOwn a (t ++ u) b
-    begun_longer a b t u (inl h) = inl (h.0, laws.stops_within a b t u _ h.1)
-    begun_longer a b t u (inr (inl h)) = inr (inl (laws.stops_within a b t u _ h))
+    begun_longer a b t u (inl h) = grind arith
+    begun_longer a b t u (inr (inl h)) = grind arith
     begun_longer a b t u (inr (inr f)) = inr (inr (record {
       front = f.front;
       rest = f.rest ++ u;
@@ -104,47 +85,27 @@ module _ {S : Type 0} {m : Meaning S} (laws : WriterLaws m) (texts : List Report
       accepted = f.accepted;
     }))
 
-    -- It had the texts of the first of some calls, and of the text of the next it has this.
+    -- It had the texts of the first calls, and has this part of the text of the next one.
     module _ (calls : List ReportCall) (had more : Text) (is : IsNext texts calls had more) (a b c : S)
         (before : m.accepts a had b) where
       begins_next : Begun m OfOwn a (had ++ more) c → (OfOwn → m.stops a (had ++ more) Device c)
           → (OfOther → HasFirstCalls m texts calls a c) → HasBeginning m texts OfOwn OfOther calls a c
-      begins_next begun own whole = record {
-        begun = subst (λ t. Begun m OfOwn a t c) (sym is.whole.is) (begun_longer a c (had ++ more) is.whole.rest begun);
-        own = λ failed. subst (λ t. m.stops a t Device c) (sym is.whole.is)
-            (laws.stops_within a c (had ++ more) is.whole.rest Device (own failed));
-        whole = whole;
-      }
+      begins_next begun own whole = grind (arith, begun_longer)
 
       has_first : (t u : Text) → had ++ more ≡ t ++ u → HasText texts calls t → m.accepts a t c → (OfOwn → ⊥)
           → (OfOther → m.is_delivered c) → HasBeginning m texts OfOwn OfOther calls a c
-      has_first t u whole f accepted another delivered =
-          begins_next (inr (inr (record {
-            front = t;
-            rest = u;
-            whole = whole;
-            accepted = accepted;
-          }))) (λ failed. absurd (another failed))
-          (λ other. record {
-            first = f.first;
-            rest = f.rest;
-            is = f.is;
-            accepted = subst (λ x. m.accepts a x c) (sym f.has) accepted;
-            delivered = delivered other;
-          })
+      has_first t u whole f accepted another delivered = grind (arith, begins_next)
 
-      -- a beginning, where memory was refused
+      -- a prefix, if memory was refused
       refused_call : (OfOwn → ⊥) → (OfOther → ⊥) → (m.stops b more RefusedMemory c ⊎ HasFront m b more c)
           → HasBeginning m texts OfOwn OfOther calls a c
-      refused_call another other (inl stops) = begins_next (inr (inl (laws.goes_on a b c had more _ before stops)))
-          (λ failed. absurd (another failed)) (λ is. absurd (other is))
-      refused_call another other (inr f) =
-          begins_next (inr (inr (record {
-            front = had ++ f.front;
-            rest = f.rest;
-            whole = ap (λ t. had ++ t) f.whole ∙ sym (append_assoc had f.front f.rest);
-            accepted = laws.joins a b c had f.front before f.accepted;
-          })))
+      refused_call another other (inl stops) = grind arith
+      refused_call another other (inr f) = begins_next (inr (inr (record {
+        front = had ++ f.front;
+        rest = f.rest;
+        whole = ap (λ t. had ++ t) f.whole ∙ sym (append_assoc had f.front f.rest);
+        accepted = grind arith;
+      })))
           (λ failed. absurd (another failed)) (λ is. absurd (other is))
 
 -- the side of the other writer
@@ -152,8 +113,8 @@ abbrev pub other : Side → Side
 other Report = Records
 other Records = Report
 
--- what a side has where an error stopped the next call that is no refusal; an error of the other side's device leaves
--- the side as it is
+-- What one side holds when an error that is no refusal stopped the next call. An error of the other side's device
+-- leaves this side unchanged.
 pub call_stopped : {S : Type 0} {m : Meaning S} (laws : WriterLaws m) (side : Side) {texts : List ReportCall → Text}
     {calls : List ReportCall} {had more : Text}
     → IsNext texts calls had more → (a b c : S) → m.accepts a had b →
@@ -164,36 +125,30 @@ pub call_stopped : {S : Type 0} {m : Meaning S} (laws : WriterLaws m) (side : Si
 call_stopped laws side is a b c before n RetriedSuccess none told stops = absurd (cc)
 call_stopped laws side is a b c before n OutputNotLoaded none told stops = absurd (cc)
 call_stopped laws side is a b c before n Failed none told stops = absurd stops
-call_stopped laws Report is a b c before n Memory none told stops = refused_call laws _ _ _ _ _ _ is a b c before
-    memory_no_device memory_no_store stops
-call_stopped laws Records is a b c before n Memory none told stops = refused_call laws _ _ _ _ _ _ is a b c before
-    memory_no_store memory_no_device stops
-call_stopped laws Report is a b c before n Io none told stops = begins_next laws _ _ _ _ _ _ is a b c before
-    (inl (refl, laws.goes_on a b c _ _ _ before stops)) (λ failed. laws.goes_on a b c _ _ _ before stops)
-    (λ is. absurd (write_no_store is))
-call_stopped laws Records is a b c before n StoreIo none told stops = begins_next laws _ _ _ _ _ _ is a b c before
-    (inl (refl, laws.goes_on a b c _ _ _ before stops)) (λ failed. laws.goes_on a b c _ _ _ before stops)
-    (λ is. absurd (write_no_store (sym is)))
-call_stopped laws Report is a b c before n StoreIo none told stops = has_first laws _ _ _ _ _ _ is a b c before _ []
-    (sym (append-nil _)) is.up_to (laws.joins a b c _ _ before stops) (λ failed. write_no_store (sym failed))
-    (λ is. told refl)
+call_stopped laws Report is a b c before n Memory none told stops = search (
+  refused_call,
+  memory_no_device,
+  memory_no_store,
+)
+call_stopped laws Records is a b c before n Memory none told stops = search (
+  refused_call,
+  memory_no_store,
+  memory_no_device,
+)
+call_stopped laws Report is a b c before n Io none told stops = grind arith
+call_stopped laws Records is a b c before n StoreIo none told stops = grind arith
+call_stopped laws Report is a b c before n StoreIo none told stops = grind arith
 call_stopped {m = m} laws Records {had =
-    had} is a b c before n Io none told stops = has_first laws _ _ _ _ _ _ is a b c before _ _ refl is.before (subst
-    (m.accepts a had) (sym stops) before) write_no_store (λ is. told refl)
+    had} is a b c before n Io none told stops = has_first laws _ _ _ _ _ _ is a b c before _ _ refl is.before
+    (grind arith) write_no_store (λ is. told refl)
 
 -- a writer that was given a text whole
 module _ {S : Type 0} {m : Meaning S} (laws : WriterLaws m) where
   least_whole : (a b : S) (t : Text) → m.accepts a t b → m.is_delivered b → HasAtLeast m a t b
-  least_whole a b t accepted delivered = record {
-    mid = b;
-    accepted = accepted;
-    delivered = delivered;
-    more = [];
-    goes_on = inl (laws.nothing b);
-  }
+  least_whole a b t accepted delivered = grind arith
 
   most_whole : (a b : S) (t : Text) → m.accepts a t b → HasAtMost m a t b
-  most_whole a b t accepted = inl (record { front = t; rest = []; whole = sym (append-nil t); accepted = accepted })
+  most_whole a b t accepted = grind (arith, append-nil)
 
   -- and that an error stopped in the next one
   module _ (a b c : S) (had more : Text) (before : m.accepts a had b) (held : m.is_delivered b) where
@@ -209,13 +164,7 @@ module _ {S : Type 0} {m : Meaning S} (laws : WriterLaws m) where
       more = more;
       goes_on = inr (RefusedMemory, stops);
     }
-    least_stopped side Memory none (inr f) = record {
-      mid = b;
-      accepted = before;
-      delivered = held;
-      more = f.front;
-      goes_on = inl f.accepted;
-    }
+    least_stopped side Memory none (inr f) = grind arith
     least_stopped Report Io none stops = record {
       mid = b;
       accepted = before;
@@ -230,45 +179,27 @@ module _ {S : Type 0} {m : Meaning S} (laws : WriterLaws m) where
       more = more;
       goes_on = inr (Device, stops);
     }
-    least_stopped Report StoreIo none stops = record {
-      mid = b;
-      accepted = before;
-      delivered = held;
-      more = more;
-      goes_on = inl stops;
-    }
-    least_stopped Records Io none stops = record {
-      mid = b;
-      accepted = before;
-      delivered = held;
-      more = [];
-      goes_on = inl (subst (m.accepts b []) (sym stops) (laws.nothing b));
-    }
+    least_stopped Report StoreIo none stops = grind arith
+    least_stopped Records Io none stops = grind arith
 
     most_stopped : (side : Side) (e : WriteEventError) → refusal_in e ≡ None → Stops side m b more e c
         → HasAtMost m a (had ++ more) c
     most_stopped side RetriedSuccess none stops = absurd (cc)
     most_stopped side OutputNotLoaded none stops = absurd (cc)
     most_stopped side Failed none stops = absurd stops
-    most_stopped side Memory none (inl stops) = inr (RefusedMemory, laws.goes_on a b c had more _ before stops)
-    most_stopped side Memory none (inr f) =
-        inl (record {
-          front = had ++ f.front;
-          rest = f.rest;
-          whole = ap (λ t. had ++ t) f.whole ∙ sym (append_assoc had f.front f.rest);
-          accepted = laws.joins a b c had f.front before f.accepted;
-        })
-    most_stopped Report Io none stops = inr (Device, laws.goes_on a b c had more _ before stops)
-    most_stopped Records StoreIo none stops = inr (Device, laws.goes_on a b c had more _ before stops)
-    most_stopped Report StoreIo none stops = most_whole a c (had ++ more) (laws.joins a b c had more before stops)
-    most_stopped Records Io none stops = inl (record {
-      front = had;
-      rest = more;
-      whole = refl;
-      accepted = subst (m.accepts a had) (sym stops) before;
+    most_stopped side Memory none (inl stops) = grind arith
+    most_stopped side Memory none (inr f) = inl (record {
+      front = had ++ f.front;
+      rest = f.rest;
+      whole = ap (λ t. had ++ t) f.whole ∙ sym (append_assoc had f.front f.rest);
+      accepted = grind arith;
     })
+    most_stopped Report Io none stops = grind arith
+    most_stopped Records StoreIo none stops = grind arith
+    most_stopped Report StoreIo none stops = grind (arith, most_whole)
+    most_stopped Records Io none stops = grind arith
 
--- the call that two writers have come to
+-- the call at which two writers are
 module _ {W T : Type 0} {m : Meaning W} {k : Meaning T} (laws : WriterLaws m) (others : WriterLaws k)
     {texts records : List ReportCall → Text} where
   -- an error stopped the call here
@@ -295,7 +226,7 @@ module _ {W T : Type 0} {m : Meaning W} {k : Meaning T} (laws : WriterLaws m) (o
             (most_stopped others x y z _ record_text kept held Records e none store_stops);
         text_first = elim order [
           | inl same ↦ inl (most_whole others x z _ same)
-          | inr told ↦ inr (subst (λ t. HasAtLeast m a t c) (sym text_is) (least_whole laws a c _ told.0 told.1))
+          | inr told ↦ grind arith
         ];
       }
 
@@ -308,7 +239,7 @@ module _ {W T : Type 0} {m : Meaning W} {k : Meaning T} (laws : WriterLaws m) (o
     rest = [];
     is = sym (append-nil calls);
     one = omega arith;
-    printed = least_whole laws a b _ printed delivered;
+    printed = grind arith;
     no_more_printed = subst (λ cs. HasAtMost m a (texts cs) b) (sym (append-nil calls)) (most_whole laws a b _ printed);
     kept = least_whole others x y _ kept held;
     no_more_kept = subst (λ cs. HasAtMost k x (records cs) y) (sym (append-nil calls)) (most_whole others x y _ kept);
@@ -320,51 +251,19 @@ pub stand_first : {W T : Type 0} (m : Meaning W) (k : Meaning T) (texts records 
     → texts [] ≡ [] → records [] ≡ [] → (calls : List ReportCall) (old : W × T) → m.accepts old.0 [] old.0
     → k.accepts old.1 [] old.1 →
     m.is_delivered old.0 → k.is_delivered old.1 → StandAtOneCall m k texts records calls old old
-stand_first m k texts records none also calls old nothing kept delivered held = record {
-  before = [];
-  here = [];
-  rest = calls;
-  is = refl;
-  one = omega arith;
-  printed = record {
-    mid = old.0;
-    accepted = subst (λ t. m.accepts old.0 t old.0) (sym none) nothing;
-    delivered = delivered;
-    more = [];
-    goes_on = inl nothing;
-  };
-  no_more_printed = inl (record { front = []; rest = texts []; whole = refl; accepted = nothing });
-  kept = record {
-    mid = old.1;
-    accepted = subst (λ t. k.accepts old.1 t old.1) (sym also) kept;
-    delivered = held;
-    more = [];
-    goes_on = inl kept;
-  };
-  no_more_kept = inl (record { front = []; rest = records []; whole = refl; accepted = kept });
-  text_first = inl (inl (record { front = []; rest = records []; whole = refl; accepted = kept }));
-}
+stand_first m k texts records none also calls old nothing kept delivered held = grind arith
 
--- so memory was refused before anything was
+-- so memory was refused before anything was written
 pub none_begun : {W T : Type 0} (m : Meaning W) (k : Meaning T) (options : Options) (config : SceneConfig)
     (calls : List ReportCall) (held : W × T)
     → m.accepts held.0 [] held.0 → k.accepts held.1 [] held.1 → m.is_delivered held.0 → k.is_delivered held.1 →
     AreBegun m k options held held config OutOfMemory calls
-none_begun m k options config calls held nothing also delivered stored = (
-  inr (inl refl),
-  record {
-    begun = inr (inr (record { front = []; rest = _; whole = refl; accepted = nothing }));
-    own = λ is. absurd
-        (memory_no_device is);
-    whole = λ is. absurd (memory_no_store is);
-  },
-  record {
-    begun = inr (inr (record { front = []; rest = _; whole = refl; accepted = also }));
-    own = λ is. absurd
-        (memory_no_store is);
-    whole = λ is. absurd (memory_no_device is);
-  },
-  λ there. stand_first m k _ _ refl refl calls held nothing also delivered stored,
+none_begun m k options config calls held nothing also delivered stored = grind (
+  arith,
+  memory_no_device,
+  memory_no_store,
+  stand_first,
+  stored,
 )
 
 -- and such an error stops a report
@@ -380,10 +279,9 @@ is_stop options n e none there = inl refl
 module _ (whole : List ReportCall → Text) (part : List ReportCall → ReportCall → Text)
     (one_more : (call : ReportCall) (past : List ReportCall) → whole (call ∷ past) ≡ whole past ++ part past call) where
   front_of_later : (later past : List ReportCall) → IsFront (whole past) (whole (later ++ past))
-  front_of_later [] past = record { rest = []; is = sym (append-nil (whole past)) }
-  front_of_later (call ∷ later) past =
-      let b = front_of_later later past in
-      let next : Text = part (later ++ past) call in
+  front_of_later [] past = grind (arith, append-nil)
+  front_of_later (call ∷ later) past = let b = front_of_later later past in
+      let next = part (later ++ past) call in
       record {
         rest = b.rest ++ next;
         is = one_more call (later ++ past) ∙ ap (λ t. t ++ next) b.is
@@ -391,8 +289,7 @@ module _ (whole : List ReportCall → Text) (part : List ReportCall → ReportCa
       }
 
   pub front_of_more : (calls more : List ReportCall) → IsFront (whole (reverse calls)) (whole (reverse (calls ++ more)))
-  front_of_more calls more = subst (λ past. IsFront (whole (reverse calls)) (whole past))
-      (sym (reverse-append calls more)) (front_of_later (reverse more) (reverse calls))
+  front_of_more calls more = grind (arith, reverse, reverse-append, front_of_later)
 
 module _ {W T : Type 0} {m : Meaning W} {k : Meaning T} (laws : WriterLaws m) (others : WriterLaws k)
     (options : Options) (old new : W × T) where

@@ -1,45 +1,43 @@
--- The lines of a text that is read piece by piece, and which of them says an event (for `SceneSource`, `Reading`,
+-- The lines of a text that is read piece by piece, and which of them have an event (for `SceneSource`, `Reading`,
 -- `follow_to`).
-use Rattle.std.proofs.Common.{bytes_eq, codes, if◌then◌else◌, ◌≡◌, ℕ, ◌+◌, true, false, Bool, List, [], ◌∷◌, ◌++◌}
-use Rattle.std.proofs.Common.{Result, Ok, Err, length, map, refl, sym, ap, ◌∙◌, subst, arith, append-nil, append_assoc}
+use Rattle.std.proofs.Common.{bytes_eq, codes, ◌≡◌, ℕ, ◌+◌, true, false, Bool, List, [], ◌∷◌, ◌++◌}
+use Rattle.std.proofs.Common.{Result, Ok, Err, length, refl, sym, ap, ◌∙◌, subst, arith, append-nil, append_assoc}
 use Rattle.std.proofs.Common.{inl, inr, Option, None, Some, not, ◌==◌, ◌-◌, ◌<◌, drop, take}
 use Rattle.std.proofs.lemmas.Bool.Decides.{nat_tests}
 use Rattle.scene_follower.proofs.Common.{AllRead, AtLine, is_begun, length-append, line_value, LineFault, lines_before}
 use Rattle.scene_follower.proofs.Common.{ParsedLines, RunLine, SceneConfig, SceneEvent, with_line, all_append, AreLeft}
 use Rattle.scene_follower.proofs.Common.{AreLeftOf, cases_Bool, false≢true, IsNextPiece, map-append, no_lines}
 use Rattle.scene_follower.proofs.Common.{text_lines}
-use Rattle.scene_reader.specs.Names.{is_configuration, is_passed_over, LinesBefore, PlainLine, RecordedLine}
-use Rattle.scene_reader.specs.Names.{config_words, event_line, event_line_fields, event_word, line_from, line_place}
-use Rattle.scene_reader.specs.Names.{line_words, value_of, with_made, with_stored, plain_line, Noted, ParsedLine, Place}
-use Rattle.scene_reader.specs.Names.{goes_on, none_noted, noted_outputs, says, PlacedOutput, split_on}
+use Rattle.scene_reader.specs.Names.{is_configuration, LinesBefore, PlainLine, RecordedLine}
+use Rattle.scene_reader.specs.Names.{event_line, line_from}
+use Rattle.scene_reader.specs.Names.{line_words, value_of, with_made, with_stored, Noted, ParsedLine, Place}
+use Rattle.scene_reader.specs.Names.{goes_on, noted_outputs, says, PlacedOutput, split_on}
 use Rattle.scene_reader.specs.SceneTexts.{ConfigLine, EventLine, NoEvent}
 use Rattle.std.proofs.lemmas.{List.Splits.length-slice_split, Bool.cond_both, Bool.or_parts}
 use Rattle.std.proofs.lemmas.{List.Splits.join_with_byte-slice_split, List.drop_at, List.take-append-drop}
 use Rattle.std.proofs.lemmas.{Slice.Eq.bytes_eq-Decides}
 use Rattle.std.specs.List.{join_with_byte}
 use Rattle.scene_follower.specs.Read.{line_text, AreLeftBehind, HasNext}
-use Rattle.styled_text.specs.Names.{is_utf8, onto_first}
-use Rattle.scene_fields.specs.declared.fault.LineFault.TheVariants.{NotUtf8}
+use Rattle.styled_text.specs.Names.{onto_first}
 
 -- a byte before the first of some lines is before the first of those and others
 onto_more : (c n : ℕ) (xs ys : List (List ℕ)) → length xs ≡ n + 1 → onto_first c (xs ++ ys) ≡ onto_first c xs ++ ys
 onto_more c n [] ys h = absurd (omega (arith, h))
 onto_more c n (x ∷ xs) ys h = refl
 
--- the lines of two texts that a line feed parts
+-- the lines of two texts with a line feed between them
 pub split_on_joined : (front back : List ℕ) → split_on 10 (front ++ 10 ∷ back) ≡ split_on 10 front ++ split_on 10 back
 unfolding split_on
 split_on_joined [] back = refl
 split_on_joined (c ∷ t) back = elim (cases_Bool (c == 10)) [
-  | inl y ↦ rw (y, split_on_joined t back) refl
+  | inl y ↦ grind (arith, split_on_joined t back)
   | inr n ↦ rw (n, split_on_joined t back)
       (onto_more c _ (split_on 10 t) (split_on 10 back) (length-slice_split (λ b. b == 10) t))
 ]
 
 -- and those lines of a run
 lines_joined : (front back : List ℕ) → text_lines (front ++ 10 ∷ back) ≡ text_lines front ++ text_lines back
-lines_joined front back = ap (map plain_line) (split_on_joined front back)
-    ∙ map-append plain_line (split_on 10 front) (split_on 10 back)
+lines_joined front back = search (split_on_joined, map-append)
 
 -- what is left begins with the lines of the next piece
 abbrev pub IsCut : List RunLine → List ℕ → Option (List ℕ) → Type 0
@@ -47,8 +45,7 @@ IsCut left piece remaining = (others : List RunLine) × (left ≡ text_lines pie
 
 cut : (left : List RunLine) (rest piece : List ℕ) (remaining : Option (List ℕ)) → AreLeft left rest
     → IsNextPiece rest true piece remaining → IsCut left piece remaining
-cut left rest piece remaining (inl lines) (more, remains, feed) =
-    (text_lines more, lines ∙ ap text_lines feed ∙ lines_joined piece more, (more, remains, inl refl))
+cut left rest piece remaining (inl lines) (more, remains, feed) = search (arith, text_lines, lines_joined)
 cut left rest piece remaining (inr none) (more, remains, feed) = absurd
     (omega (arith, ap length (sym none.1 ∙ feed), length-append piece (10 ∷ more)))
 
@@ -63,7 +60,7 @@ module _ (remaining after : Option (List ℕ)) (piece : List ℕ) (lines : List 
   Has = HasNext piece (λ texts. AreLeftBehind texts after) lines
 
   left_here : AreLeft lines h.2.0
-  left_here = subst (λ ls. AreLeft ls h.2.0) (sym h.1) h.2.2
+  left_here = grind arith
 
   pub ended_read : ((text : List ℕ) → remaining ≡ Some text → IsNextPiece text true piece after) → Has true
   ended_read next = cut lines h.2.0 piece after left_here (next h.2.0 h.2.1)
@@ -71,22 +68,30 @@ module _ (remaining after : Option (List ℕ)) (piece : List ℕ) (lines : List 
   -- the last piece, which is a line unless it is empty
   pub last_read : (no_byte : Bool) → no_byte ≡ (length piece == 0)
       → ((text : List ℕ) → remaining ≡ Some text → IsNextPiece text false piece after) → Has (not no_byte)
-  last_read true size next =
-      let last : piece ≡ [] = no_elements piece (grind (arith, nat_tests, size)) in
-      let is = next h.2.0 h.2.1 in
-      let none : AreLeft lines [] = subst (AreLeft lines) (is.0 ∙ last) left_here in
-      (none, (lines, refl, ([], is.2, none)), ([], refl, ([], is.2, inr (refl, refl))))
-  last_read false size next =
-      let is = next h.2.0 h.2.1 in elim left_here [
-        | inl whole ↦ (
-          [],
-          whole ∙ ap text_lines is.0 ∙ sym (append-nil (text_lines piece)),
-          ([], is.2, inr (refl, refl)),
-        )
-        | inr none ↦ absurd (grind (arith, nat_tests, size, ap length (sym none.1 ∙ is.0)))
-      ]
+  last_read true size next = search (arith, no_elements, left_here)
+  last_read false size next = search (arith, left_here, text_lines, append-nil)
 
--- what follows the first line of what is left of a piece stands at its end
+-- all of a text is left of its reader
+pub whole_left : (remaining : Option (List ℕ)) (is_ended : Bool) → is_ended ≡ false → (text : List ℕ)
+    → remaining ≡ Some text
+    → AreLeftBehind [] remaining (text_lines text) × (is_ended ≡ true → remaining ≡ Some [])
+whole_left remaining is_ended not text known = grind arith
+
+-- what the next piece of a source has, whether or not its end was read
+module _ (remaining : Option (List ℕ)) (is_ended : Bool) (piece : List ℕ) (lines : List RunLine) where
+  abbrev pub LeftIn : List (List ℕ) → List RunLine → Type 0
+  LeftIn texts ls = AreLeftBehind texts remaining ls × (is_ended ≡ true → remaining ≡ Some [])
+
+  pub source_has : (is_ended ≡ true → remaining ≡ Some []) → (b : Bool)
+      → HasNext piece (λ texts. AreLeftBehind texts remaining) lines b → HasNext piece LeftIn lines b
+  source_has ended true h = (h, ended)
+  source_has ended false h = (h.0, (h.1, ended), (h.2, ended))
+
+  -- after the end there is none
+  pub source_ended : is_ended ≡ true → LeftIn [] lines → HasNext piece LeftIn lines false
+  source_ended is h = grind arith
+
+-- after the first line of the rest of a piece, the other lines are its end
 joined_more : (line : List ℕ) (parts : List (List ℕ)) → 0 < length parts
     → join_with_byte 10 (line ∷ parts) ≡ line ++ 10 ∷ join_with_byte 10 parts
 joined_more line [] some = absurd (omega arith)
@@ -112,7 +117,7 @@ pub at_behind : (all : List RunLine) (run : ParsedLines) (lines left : List RunL
 at_behind all run lines left number after at tells = record {
   front = at.front ++ lines;
   whole = at.whole ∙ sym (append_assoc at.front lines left);
-  place = omega (arith, at.place, length-append at.front lines);
+  place = omega (arith, length-append at.front lines);
   tells = all_append no_lines at.front run lines after at.tells tells;
 }
 
@@ -120,7 +125,7 @@ at_behind all run lines left number after at tells = record {
 abbrev behind : SceneConfig → LinesBefore
 behind config = record { config = config; is_begun = true }
 
--- it says no configuration
+-- it configures nothing
 abbrev SaysNone : Result ParsedLine LineFault → Type 0
 SaysNone (Ok (ConfigLine c)) = ⊥
 SaysNone other = Unit {0}
@@ -129,31 +134,10 @@ SaysNone other = Unit {0}
 abbrev ReadsNone : Result (ParsedLine × Place) LineFault → Type 0
 ReadsNone r = SaysNone (value_of r)
 
-by_event : (r : Result (SceneEvent × Place) LineFault) → ReadsNone (goes_on (λ e. says (EventLine e)) r)
-by_event (Ok x) = tt
-by_event (Err f) = tt
-
-by_line : (config : SceneConfig) (number : ℕ) (noted : Option Noted) (words : List (List ℕ)) → ReadsNone
-    (line_words (behind config) (record {
-      number = number;
-      left = words;
-      noted = noted;
-    }))
-by_line config number noted [] = tt
-by_line config number noted (word ∷ fields) =
-    let place : Place = record { number = number + 1; left = fields; noted = noted } in
-    cond_both (bytes_eq word (codes "config")) (config_words (behind config) place) (event_word word place) ReadsNone
-    (λ configures. tt) (λ tells. by_event (event_line_fields word place))
-
 reads_none_behind : (config : SceneConfig) (noted : Option Noted) (t : List ℕ)
     → ReadsNone (line_from noted (behind config) t)
 unfolding line_from
-reads_none_behind config noted t =
-    let words = line_words (behind config) (line_place noted t) in
-    cond_both (is_passed_over t) (says NoEvent (line_place noted t)) (if is_utf8 t then words else Err NotUtf8)
-    ReadsNone (λ passed. tt)
-    (λ told. cond_both (is_utf8 t) words (Err NotUtf8) ReadsNone (λ good. by_line config 0 noted (split_on 9 t))
-    (λ bad. tt))
+reads_none_behind config noted t = grind arith
 
 made_none : (r : Result SceneEvent LineFault) → SaysNone (event_line r)
 made_none (Ok x) = tt
@@ -169,18 +153,17 @@ with_none_made make (Err f) none = tt
 
 says_none : (config : SceneConfig) (t : RunLine) → SaysNone (line_value (behind config) t)
 says_none config (PlainLine t) = reads_none_behind config None t
-says_none config (RecordedLine t make) = with_none_made (make (behind config))
-    (line_from (Some none_noted) (behind config) t) (reads_none_behind config (Some none_noted) t)
+says_none config (RecordedLine t make) = search (with_none_made, reads_none_behind)
 
 pub begun_by : (es : List SceneEvent) (e : SceneEvent) → is_begun (es ++ e ∷ []) ≡ true
 begun_by [] e = refl
 begun_by (x ∷ es) e = refl
 
--- so behind an event a line leaves the configuration as it is
+-- so after an event a line leaves the configuration unchanged
 pub kept_config : (run : ParsedLines) (line : RunLine) (value : ParsedLine) → is_begun run.events ≡ true
     → line_value (lines_before run) line ≡ Ok value → (with_line run value).config ≡ run.config
 kept_config run line NoEvent begun says = refl
-kept_config run line (ConfigLine c) begun says = absurd (subst SaysNone says (rw begun (says_none run.config line)))
+kept_config run line (ConfigLine c) begun says = search (arith, says_none)
 kept_config run line (EventLine e) begun says = refl
 
 pub kept_begun : (run : ParsedLines) (value : ParsedLine) → is_begun run.events ≡ true
@@ -204,10 +187,8 @@ event_said (Err f) = tt
 configures : (t word : List ℕ) (fields : List (List ℕ)) → split_on 9 t ≡ word ∷ fields → word ≡ codes "config"
     → is_configuration t ≡ true
 unfolding split_on
-configures t word [] is same = rw (sym (join_with_byte-slice_split 9 t) ∙ ap (join_with_byte 9) is ∙ same) refl
-configures t word (field ∷ fields) is same = rw
-    (sym (join_with_byte-slice_split 9 t) ∙ ap (join_with_byte 9) is
-    ∙ ap (λ w. w ++ 9 ∷ join_with_byte 9 (field ∷ fields)) same) refl
+configures t word [] is same = grind (arith, nat_tests)
+configures t word (field ∷ fields) is same = grind (arith, nat_tests)
 
 by_word : (before : LinesBefore) (t : List ℕ) (noted : Option Noted) (words : List (List ℕ)) → split_on 9 t ≡ words
     → is_configuration t ≡ false → SaysEvent
@@ -217,22 +198,20 @@ by_word : (before : LinesBefore) (t : List ℕ) (noted : Option Noted) (words : 
       noted = noted;
     })))
 by_word before t noted [] is other = tt
-by_word before t noted (word ∷ fields) is other =
-    let place : Place = record { number = 1; left = fields; noted = noted } in
-    cond_both (bytes_eq word (codes "config")) (config_words before place) (event_word word place)
-    (λ r. SaysEvent (value_of r))
-    (λ yes. absurd
-    (false≢true (sym other ∙ configures t word fields is ((bytes_eq-Decides word (codes "config")).0 yes))))
-    (λ no. event_said (event_line_fields word place))
+by_word before t noted (word ∷ fields) is other = search (
+  arith,
+  cond_both,
+  bytes_eq,
+  false≢true,
+  configures,
+  bytes_eq-Decides,
+  event_said,
+)
 
 reads_event : (before : LinesBefore) (noted : Option Noted) (t : List ℕ) → is_configuration t ≡ false
     → SaysEvent (value_of (line_from noted before t))
 unfolding line_from
-reads_event before noted t other =
-    let words = line_words before (line_place noted t) in
-    rw (or_parts (is_passed_over t) _ other).0
-    (cond_both (is_utf8 t) words (Err NotUtf8) (λ r. SaysEvent (value_of r))
-    (λ good. by_word before t noted (split_on 9 t) refl other) (λ bad. tt))
+reads_event before noted t other = search (arith, or_parts, cond_both, by_word)
 
 made_event : (r : Result SceneEvent LineFault) → SaysEvent (event_line r)
 made_event (Ok x) = tt
@@ -252,12 +231,15 @@ event_of (Ok (EventLine e)) value h is = (e, cc)
 event_of (Ok other) value h is = absurd h
 event_of (Err f) value h is = absurd (cc)
 
--- A line says an event where its text configures nothing.
+-- A line has an event if its text configures nothing.
 pub says_event : (before : LinesBefore) (line : RunLine) (value : ParsedLine)
     → is_configuration (line_text line) ≡ false → line_value before line ≡ Ok value
     → (e : SceneEvent) × (value ≡ EventLine e)
-says_event before (PlainLine t) value other is = event_of (line_value before (PlainLine t)) value
-    (reads_event before None t other) is
-says_event before (RecordedLine t make) value other is = event_of (line_value before (RecordedLine t make)) value
-    (with_event_made (make before) (line_from (Some none_noted) before t)
-    (reads_event before (Some none_noted) t other)) is
+says_event before (PlainLine t) value other is = search (arith, event_of, line_value, reads_event)
+says_event before (RecordedLine t make) value other is = search (
+  arith,
+  event_of,
+  line_value,
+  with_event_made,
+  reads_event,
+)

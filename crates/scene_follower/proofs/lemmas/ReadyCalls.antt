@@ -1,5 +1,5 @@
--- Calls of which the output that no report shows is left unread have the same report (for `Scene::calls`,
--- `SceneReporter::report_events` and replays).
+-- Calls have the same report if their output that no report shows is left unread (for `Scene::calls`,
+-- `SceneReporter::take` and replays).
 use Rattle.scene_follower.proofs.Common.{cases_Bool, configuration_for, decider_for, Event, map-append, Options}
 use Rattle.scene_follower.proofs.Common.{outcome_after, OutputLoadDecider, refusal_by, report_of, ReportCall}
 use Rattle.scene_follower.proofs.Common.{RunOutcome, SceneConfig, stored_of, TestEventKind, unloaded_for, unread}
@@ -12,7 +12,7 @@ use Rattle.{run_model.specs.Unloaded.unloaded_kind}
 use Rattle.scene_follower.specs.Names.{AreReadyCallsOf, outcome_after_event, run_outcome, ready_if}
 use Rattle.run_model.specs.declared.event.TestEventKind.TheVariants as kind
 
--- calls of a run of which what is skipped is left unread
+-- calls of a run whose skipped output is left unread
 pub ready_unread : (options : Options) (run : ParsedLines) (made calls : List ReportCall)
     → options.unload_skipped ≡ true → AllZip IsCallOf run.events made
     → calls ≡ unread (decider_for options run.config) made → AreReadyCallsOf options run calls
@@ -24,7 +24,7 @@ ready_unread options run made calls on of_run left = record {
       (isolated (decider_for options run.config) made);
 }
 
--- what a run has come to does not depend on output
+-- the outcome of a run does not depend on output
 unloaded_outcome : (before : RunOutcome) (k : TestEventKind)
     → outcome_after_event before (unloaded_kind k) ≡ outcome_after_event before k
 unloaded_outcome before (kind.RunFinished elapsed stats outstanding) = refl

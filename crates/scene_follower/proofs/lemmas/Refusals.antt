@@ -1,4 +1,4 @@
--- Calls of a run that are refused, or are not (for `read_judged`, `gather_to`, `follow_to`).
+-- Refused and accepted calls of a run (for `judge_text`, `report_to_string`, `follow_to`).
 use Rattle.std.proofs.Common.{◌≡◌, ◌≤◌, List, [], ◌∷◌, ◌++◌, Bool, false, length, arith, None, ◌⊎◌, inl, inr, refl}
 use Rattle.scene_follower.proofs.Common.{AllZip, cases_Bool, common_steps, decider_for, Event, Header, IsCallOf}
 use Rattle.scene_follower.proofs.Common.{length-append, LineFault, Options, Prefix, refusal_by, Refuses, ReportCall}
@@ -21,7 +21,7 @@ zip_after [] fs calls h = (calls, h)
 zip_after (e ∷ es) fs [] h = absurd h
 zip_after (e ∷ es) fs (c ∷ calls) h = zip_after es fs calls h.1
 
--- where no item passes, one more that does not is none either, and each fails
+-- if no item passes a test and one more does not, each of them fails it
 module _ {X : Type 0} (p : X → Bool) (xs : List X) (x : X) where
   pub none_more : position p xs ≡ None → p x ≡ false → position p (xs ++ x ∷ []) ≡ None
   none_more none one = grind (arith, common_steps, position_or_len_push p xs x, length-append xs (x ∷ []), none, one)

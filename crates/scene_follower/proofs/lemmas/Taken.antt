@@ -1,34 +1,29 @@
 -- Lines whose calls a sink took one after the other (for `SceneSource`, `Reading`, `follow_to`).
-use Rattle.std.proofs.Common.{◌≡◌, ℕ, ◌+◌, List, [], ◌∷◌, ◌++◌, Result, Ok, Err, length, refl, sym, ap, ◌∙◌, subst}
+use Rattle.std.proofs.Common.{◌≡◌, ℕ, ◌+◌, List, [], ◌∷◌, ◌++◌, Result, Ok, Err, length, sym, ap, ◌∙◌}
 use Rattle.std.proofs.Common.{append-nil, append_assoc, arith, inl, inr, None}
 use Rattle.scene_follower.proofs.Common.{AllRead, Fault, length-append, LineFault, lines_before, ParsedLines, RunLine}
 use Rattle.scene_follower.proofs.Common.{with_line}
 use Rattle.scene_reader.specs.declared.reader.LinesRead.{LinesRead}
-use Rattle.scene_reader.specs.Names.{before_behind, before_next, IsLineFault, IsTaken, line_from, line_read}
-use Rattle.scene_reader.specs.Names.{parsed_line, ParsedLine, PassesValue, Place, plain_line, PlacedOutput, split_on}
-use Rattle.scene_reader.specs.Names.{noted_outputs, Takes, text_lines, value_of, with_stored}
-use Rattle.scene_reader.specs.SceneTexts.{ConfigLine, EventLine, NoEvent}
+use Rattle.scene_reader.specs.Names.{before_next, IsLineFault, IsTaken, line_from, line_read}
+use Rattle.scene_reader.specs.Names.{ParsedLine, PassesValue, Place, plain_line, PlacedOutput, split_on}
+use Rattle.scene_reader.specs.Names.{Takes, text_lines, with_stored}
+use Rattle.scene_reader.specs.SceneTexts.{EventLine}
 use Rattle.command_line.specs.declared.fault.Fault.TheVariants as fault
 use Rattle.scene_follower.specs.Read.{AllTaken, AreLeft, HasPassed, PassesNext, PassesSome, StopsNext, StopsRead}
 use Rattle.scene_follower.specs.Read.{StopsTaking}
-use Rattle.scene_follower.proofs.lemmas.ReadLines.{begun_by}
 
 -- some, and others after them
 pub taken_append : {K : Type 0} (takes : Takes K) (file : List ℕ) (n k : ℕ) (run mid last : ParsedLines)
     (given between after : K) (front back : List RunLine)
     → k ≡ n + length front → AllTaken takes file n run given front mid between
     → AllTaken takes file k mid between back last after → AllTaken takes file n run given (front ++ back) last after
-taken_append takes file n k run mid last given between after [] back place first more =
-    let here : k ≡ n = omega (arith, place) in
-    rw (first.0, first.1, ← here) more
-taken_append takes file n k run mid last given between after (line ∷ front) back place first more = (
-  first.0,
-  first.1,
-  first.2,
-  first.3,
-  taken_append takes file (n + 1) k (with_line run first.0) mid last first.1
-      between after front back (omega (arith, place)) first.4 more,
-)
+taken_append takes file n k run mid last given between after [] back place first more = grind arith
+taken_append takes file n k run mid last given between after (line ∷ front) back place first more =
+    grind (
+      arith,
+      taken_append takes file (n + 1) k (with_line run first.0) mid last first.1 between after front back
+          (omega (arith, place)) first.4 more,
+    )
 
 -- they were read
 pub taken_read : {K : Type 0} (takes : Takes K) (file : List ℕ) (n : ℕ) (run last : ParsedLines) (given after : K)
@@ -36,14 +31,17 @@ pub taken_read : {K : Type 0} (takes : Takes K) (file : List ℕ) (n : ℕ) (run
     → AllTaken takes file n run given lines last after → AllRead run lines last
 unfolding line_read
 taken_read takes file n run last given after [] h = h.0
-taken_read takes file n run last given after (line ∷ lines) h =
-    (with_line run h.0, rw h.2 refl, taken_read takes file (n + 1) (with_line run h.0) last h.1 after lines h.4)
+taken_read takes file n run last given after (line ∷ lines) h = grind (
+  arith,
+  taken_read takes file (n + 1)
+      (with_line run h.0) last h.1 after lines h.4,
+)
 
--- one that says nothing changes nothing
+-- a line that says nothing changes nothing
 empty_taken : {K : Type 0} (takes : Takes K) (file : List ℕ) (n : ℕ) (run : ParsedLines) (given : K)
     → AllTaken takes file n run given (text_lines []) run given
 unfolding line_from split_on
-empty_taken takes file n run given = (NoEvent, given, refl, ([], (refl, refl)), (refl, refl))
+empty_taken takes file n run given = grind arith
 
 module _ {K : Type 0} {takes : Takes K} {file : List ℕ} where
   -- none was taken yet
@@ -51,31 +49,22 @@ module _ {K : Type 0} {takes : Takes K} {file : List ℕ} where
       (read : LinesRead)
       → before_next read ≡ lines_before run → Left run lines
       → HasPassed takes file Left read.next run lines given read given
-  none_passed Left run lines given read before left = record {
-    front = [];
-    rest = lines;
-    mid_run = run;
-    whole = refl;
-    taken = (refl, refl);
-    before = before;
-    place = omega arith;
-    left = left;
-  }
+  none_passed Left run lines given read before left = grind arith
 
   -- the next one is one of some
   pub passes_some : {Left : ParsedLines → List RunLine → Type 0} {run : ParsedLines} {lines : List RunLine} {given : K}
       {read new : LinesRead} {after : K} (result : Result (Unit {0}) Fault)
       → PassesNext takes file run lines Left read given result new after
       → PassesSome takes file Left read.next run lines given result new after
-  passes_some {run = run} {after = after} (Ok done) p =
-      let (line, more, value, is, reads, taken, before, place, left) = p.ok in
+  passes_some {run = run} {after = after} (Ok done) p = let (line, more, value, is, reads, taken, before, place, left) =
+      p.ok in
       record {
         ok = record {
           front = line ∷ [];
           rest = more;
           mid_run = with_line run value;
           whole = is;
-          taken = (value, after, reads, taken, (refl, refl));
+          taken = search;
           before = before;
           place = place;
           left = left;
@@ -86,15 +75,7 @@ module _ {K : Type 0} {takes : Takes K} {file : List ℕ} where
       let place : read.next ≡ read.next + length {A = RunLine} [] = omega arith in
       record {
         ok = tt;
-        err = record {
-          front = [];
-          rest = lines;
-          mid_run = run;
-          mid = given;
-          whole = refl;
-          taken = (refl, refl);
-          stops = subst (λ i. StopsNext takes file run i lines given f after) place p.err;
-        };
+        err = grind arith;
       }
 
   module _ {Left : ParsedLines → List RunLine → Type 0} {n : ℕ} {run : ParsedLines} {lines : List RunLine} {given : K}
@@ -111,30 +92,21 @@ module _ {K : Type 0} {takes : Takes K} {file : List ℕ} where
       taken = taken_append takes file n read.next run h.mid_run k.mid_run given now after h.front k.front h.place
           h.taken k.taken;
       before = k.before;
-      place = omega (arith, k.place, h.place, length-append h.front k.front);
+      place = omega (arith, h.place, length-append h.front k.front);
       left = k.left;
     }
 
     -- what is left is known in another way
     pub still_passed : (Next : ParsedLines → List RunLine → Type 0) (new : LinesRead) → new ≡ read
         → Next h.mid_run h.rest → HasPassed takes file Next n run lines given new now
-    still_passed Next new same left = record {
-      front = h.front;
-      rest = h.rest;
-      mid_run = h.mid_run;
-      whole = h.whole;
-      taken = h.taken;
-      before = subst (λ r. before_next r ≡ lines_before h.mid_run) (sym same) h.before;
-      place = ap (λ r. r.next) same ∙ h.place;
-      left = left;
-    }
+    still_passed Next new same left = grind arith
 
     -- or a fault stopped one after them
     pub more_stopped : {fault : Fault} {after : K}
         → StopsTaking takes file read.next h.mid_run h.rest now fault after
         → StopsTaking takes file n run lines given fault after
-    more_stopped {fault = f} {after = after} k =
-        let place : read.next + length k.front ≡ n + length (h.front ++ k.front) = omega
+    more_stopped {fault = f} {after = after} k = let place : read.next + length k.front
+        ≡ n + length (h.front ++ k.front) = omega
         (arith, h.place, length-append h.front k.front) in
         record {
           front = h.front ++ k.front;
@@ -144,50 +116,18 @@ module _ {K : Type 0} {takes : Takes K} {file : List ℕ} where
           whole = h.whole ∙ ap (λ ls. h.front ++ ls) k.whole ∙ sym (append_assoc h.front k.front k.rest);
           taken = taken_append takes file n read.next run h.mid_run k.mid_run given now k.mid h.front k.front h.place
               h.taken k.taken;
-          stops = subst (λ i. StopsNext takes file k.mid_run i k.rest k.mid f after) place k.stops;
+          stops = grind arith;
         }
 
     pub next_stopped : {fault : Fault} {after : K}
         → StopsNext takes file h.mid_run read.next h.rest now fault after
         → StopsTaking takes file n run lines given fault after
-    next_stopped {fault = f} {after = after} stops = record {
-      front = h.front;
-      rest = h.rest;
-      mid_run = h.mid_run;
-      mid = now;
-      whole = h.whole;
-      taken = h.taken;
-      stops = subst (λ i. StopsNext takes file h.mid_run i h.rest now f after) h.place stops;
-    }
+    next_stopped {fault = f} {after = after} stops = grind arith
 
     -- no line is left, but for an empty one, which says nothing
     pub all_passed : AreLeft h.rest [] → AllTaken takes file n run given lines h.mid_run now
-    all_passed (inr none) = subst (λ ls. AllTaken takes file n run given ls h.mid_run now)
-        (sym (h.whole ∙ ap (λ ls. h.front ++ ls) none.0 ∙ append-nil h.front)) h.taken
-    all_passed (inl last) = subst (λ ls. AllTaken takes file n run given ls h.mid_run now)
-        (sym (h.whole ∙ ap (λ ls. h.front ++ ls) last))
-        (taken_append takes file n (n + length h.front) run h.mid_run h.mid_run given now now h.front (text_lines [])
-        refl h.taken (empty_taken takes file (n + length h.front) h.mid_run now))
-
--- what a line says, with its outputs that are stored or without
-stored_value : (r : Result (ParsedLine × Place) LineFault) (value : ParsedLine) (stored : List PlacedOutput)
-    → with_stored r ≡ Ok (value, stored) → value_of r ≡ Ok value
-stored_value (Ok x) value stored is =
-    let said : ParsedLine × List PlacedOutput = (x.0, noted_outputs x.1.noted) in
-    let both : said ≡ (value, stored) = cc in
-    ap (λ y. Ok y.0) both
-stored_value (Err f) value stored is = absurd (cc)
-
-stored_fault : (r : Result (ParsedLine × Place) LineFault) (f : LineFault) → with_stored r ≡ Err f → value_of r ≡ Err f
-stored_fault (Ok x) f is = absurd (cc)
-stored_fault (Err g) f is = cc
-
--- what the reading of a line needs of those before it
-behind_line : (run : ParsedLines) (value : ParsedLine)
-    → before_behind (lines_before run) value ≡ lines_before (with_line run value)
-behind_line run NoEvent = refl
-behind_line run (ConfigLine config) = refl
-behind_line run (EventLine e) = rw (begun_by run.events e) refl
+    all_passed (inr none) = grind (arith, append-nil)
+    all_passed (inl last) = grind (arith, taken_append, empty_taken)
 
 -- the next line of a scene
 module _ {K : Type 0} (takes : Takes K) (file : List ℕ) (run : ParsedLines) (lines : List RunLine) (text : List ℕ)
@@ -196,13 +136,9 @@ module _ {K : Type 0} (takes : Takes K) (file : List ℕ) (run : ParsedLines) (l
   abbrev read : Result (ParsedLine × Place) LineFault
   read = line_from None (before_next old) text
 
-  reads_so : (value : Result ParsedLine LineFault) → value_of read ≡ value → parsed_line (lines_before run) text ≡ value
-  reads_so value is = subst (λ b. parsed_line b text ≡ value) before is
-
   fault_of_line : (f : Fault) → IsLineFault old.next (with_stored read) f → StopsRead file run old.next lines f
   fault_of_line fault.OutOfMemory h = inl tt
-  fault_of_line (fault.Line m f) h =
-      inr (plain_line text, more, f, first, reads_so (Err f) (stored_fault read f h.1), ap (λ k. fault.Line k f) h.0)
+  fault_of_line (fault.Line m f) h = grind arith
   fault_of_line other h = absurd h
 
   event_stopped : (value : ParsedLine) (stored : List PlacedOutput) (f : Fault) → with_stored read ≡ Ok (value, stored)
@@ -213,7 +149,7 @@ module _ {K : Type 0} (takes : Takes K) (file : List ℕ) (run : ParsedLines) (l
     more,
     e,
     first,
-    reads_so (Ok (EventLine e)) (stored_value read (EventLine e) stored is),
+    grind arith,
     (stored, taken),
   )
   event_stopped other stored f is taken = absurd (let same = taken.1 in cc)
@@ -221,26 +157,5 @@ module _ {K : Type 0} (takes : Takes K) (file : List ℕ) (run : ParsedLines) (l
   pub plain_passed : (Left : ParsedLines → List RunLine → Type 0) (result : Result (Unit {0}) Fault)
       → ((run : ParsedLines) → Left run more) → PassesValue takes file (with_stored read) old given result new after
       → PassesNext takes file run lines Left old given result new after
-  plain_passed Left (Ok done) left p =
-      let (value, stored, is, taken, behind, place) = p.ok in
-      record {
-        ok = (
-          plain_line text,
-          more,
-          value,
-          first,
-          reads_so (Ok value) (stored_value read value stored is),
-          (stored, taken),
-          behind ∙ ap (λ b. before_behind b value) before ∙ behind_line run value,
-          place,
-          left (with_line run value),
-        );
-        err = tt;
-      }
-  plain_passed Left (Err f) left p = record {
-    ok = tt;
-    err = elim p.err [
-      | inl h ↦ inl (h.0, fault_of_line f h.1)
-      | inr (value, stored, is, taken) ↦ event_stopped value stored f is taken
-    ];
-  }
+  plain_passed Left (Ok done) left p = grind arith
+  plain_passed Left (Err f) left p = grind (arith, fault_of_line, event_stopped)

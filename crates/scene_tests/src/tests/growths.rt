@@ -3,14 +3,12 @@
 //! whole one.
 
 use super::pieces::large_line;
-use super::{
-    ASKED, CANCELLED, OF_ASKED, OF_CANCELLED, OF_TWO_TESTS, OPTIONS, STORING, TWO_TESTS,
-    judge_and_write, report_and_store,
-};
+use super::{OPTIONS, STORING, judge_and_write, report_and_store};
 use command_line::fault::Fault;
 use scene_reader::reader::LARGE;
 use std::test::Fail;
 use test_devices::Device;
+use test_devices::scenes::{ASKED, CANCELLED, OF_ASKED, OF_CANCELLED, OF_TWO_TESTS, TWO_TESTS};
 
 // More bytes than each report has.
 const ROOM: usize = 600;

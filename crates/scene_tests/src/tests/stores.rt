@@ -1,15 +1,15 @@
 //! Devices that fail: what remains of the report and of the records, and which fault is reported. The contents of
 //! records are cases of `cases/program`.
 
-use super::{
-    ASKED, CANCELLED, DONE, OF_ASKED, OF_CANCELLED, OF_TWO_TESTS, OPTIONS, STORED_OF_TWO_TESTS,
-    STORING, TWO_TESTS, report_and_store,
-};
+use super::{OPTIONS, STORING, report_and_store};
 use crate::testing::expect_row;
 use command_line::args::Options;
 use command_line::fault::Fault;
 use std::alloc::Global;
 use std::test::Fail;
+use test_devices::scenes::{
+    ASKED, CANCELLED, DONE, OF_ASKED, OF_CANCELLED, OF_TWO_TESTS, STORED_OF_TWO_TESTS, TWO_TESTS,
+};
 use test_devices::{Device, Failure};
 
 // A scene, its options, and what each device has if none fails.

@@ -1,6 +1,6 @@
 -- Outputs that are noted, and the fields that are taken then (for `read_output`, `take_empty_output`,
 -- `take_stored_output`).
-use Rattle.std.proofs.Common.{◌≡◌, ℕ, ◌+◌, ◌≤◌, List, [], ◌∷◌, length, drop, false, Option, None, Some, refl, ap, sym}
+use Rattle.std.proofs.Common.{◌≡◌, ℕ, ◌+◌, List, [], ◌∷◌, drop, false, Option, None, Some, refl, ap, sym}
 use Rattle.std.proofs.Common.{◌∙◌, arith}
 use Rattle.std.specs.Option.{is_some}
 use Rattle.run_model.specs.declared.output.ChildOutputDescription.TheVariants as streams
@@ -16,18 +16,6 @@ pub place_by : (p : Place) (n : ℕ) (left : List (List ℕ)) (noted : Option No
       noted = noted;
     }) p
 place_by p n left noted e f g = rw (e, f, g) refl
-
--- a stored output has three fields
-three_left : (left : List (List ℕ)) (noted : Option Noted) (s : StoredOutput) → stored_among left noted ≡ Some s
-    → 3 ≤ length left
-three_left left None s h = absurd (cc)
-three_left [] (Some n) s h = absurd (cc)
-three_left (form ∷ []) (Some n) s h = absurd (cc)
-three_left (form ∷ first ∷ []) (Some n) s h = absurd (cc)
-three_left (form ∷ first ∷ second ∷ left) (Some n) s h = omega arith
-
-pub three_stored : (p : Place) (s : StoredOutput) → next_stored p ≡ Some s → 3 ≤ length p.left
-three_stored p s h = three_left p.left p.noted s h
 
 -- the first three of the fields are passed
 three_taken : (n : ℕ) (left : List (List ℕ)) (noted now : Option Noted) (s : StoredOutput) (new : Place)

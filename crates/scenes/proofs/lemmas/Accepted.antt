@@ -1,4 +1,4 @@
--- Lines whose calls are all accepted: what stops their report stopped the report of the whole run (for
+-- Lines whose calls are all accepted: if their report was stopped, so was the report of the whole run (for
 -- `report_judged`, `write_report`).
 use Rattle.std.proofs.Common.{◌≡◌, ℕ, true, false, List, [], ◌∷◌, ◌++◌, Option, None, Some, Result, Ok, Err, refl}
 use Rattle.std.proofs.Common.{sym, ap, ap₂, ◌∙◌, subst, append_assoc, append-nil, inl, inr, arith}
@@ -11,14 +11,15 @@ use Rattle.scene_follower.proofs.Common.{TestEventKind, with_line, WriteEventErr
 use Rattle.scene_follower.proofs.Common.{device, fault_at_call, HasAtLeast, HasAtMost, option_map, OutOfMemory, report}
 use Rattle.scene_follower.proofs.Common.{store_for, stored, stored_text, Text, text}
 use Rattle.{command_line.specs.declared.fault.Fault.TheVariants.CannotRead, std.specs.Borrow.Bor}
+use Rattle.{command_line.specs.declared.fault.Fault.TheVariants.CannotWrite}
 use Rattle.reporter_state.specs.Names.{event_refusal}
 use Rattle.scene_reader.proofs.lemmas.Tellings.{all_tell, wrong_told}
 use Rattle.scene_reader.specs.Names.{call_by_names, EventCall, kind_by_names, line_read, lines_read, ParsedLine}
 use Rattle.scene_reader.specs.SceneTexts.{ConfigLine, EventLine, NoEvent}
 use Rattle.scene_follower.specs.Follow.{IsWrongLine}
-use Rattle.scenes.specs.Judged.{fault_in_memory, IsRunAccepted}
-use Rattle.scene_follower.specs.Reports.{RefusesEvent}
-use Rattle.scene_follower.specs.ParsedScenes.{OfLines}
+use Rattle.scenes.specs.Judged.{fault_in_memory, IsRefusedText, IsRunAccepted}
+use Rattle.scene_follower.specs.Reports.{Refuses, RefusesEvent}
+use Rattle.scene_follower.specs.ParsedScenes.{OfLines, OfText}
 use Rattle.scene_follower.proofs.lemmas.Prints.{Begun, calls_so, front_of_more, memory_no_device, memory_no_store}
 use Rattle.scene_follower.proofs.lemmas.ReadLines.{begun_by, kept_begun, kept_config}
 use Rattle.scene_follower.proofs.lemmas.Refusals.{fails_behind, none_more, zip_after, zip_both}
@@ -70,7 +71,7 @@ pub all_accepted : (options : Options) (run : ParsedLines) → IsRunAccepted opt
 all_accepted options run h calls of_run = same_none (decider_for options run.config) run.events [] h.calls [] calls
     h.of_run of_run h.accepted refl
 
--- lines behind others are read as they are by themselves
+-- lines after others are read as they are alone
 pub all_split : (before mid after : ParsedLines) (ts us : List RunLine) → AllRead before (ts ++ us) after
     → AllRead before ts mid → AllRead mid us after
 all_split before mid after [] us h k = subst (λ b. AllRead b us after) k h
@@ -79,7 +80,7 @@ all_split before mid after (t ∷ ts) us h k =
     let same : h.0 ≡ k.0 = cc in
     all_split k.0 mid after ts us (subst (λ b. AllRead b (ts ++ us) after) same h.2) k.2
 
--- a run, and a longer one behind it: its configuration is the same, if an event was read
+-- a run that goes on: its configuration stays the same once an event was read
 pub record IsLonger (run after : ParsedLines) : Type 0 where
   pub more : List SceneEvent
   pub events : after.events ≡ run.events ++ more
@@ -203,7 +204,26 @@ told_refused : (refusal : Option WriteEventError) → is_some refusal ≡ false 
 told_refused None fails f is = cc
 told_refused (Some error) fails f is = cc
 
--- a beginning of a text is one of a longer text
+-- no call of an accepted run is refused
+never_refused : (options : Options) (run : ParsedLines) → IsRunAccepted options run → (front rest : List ReportCall)
+    (call : ReportCall) → AllZip IsCallOf run.events (front ++ call ∷ rest) → (f : LineFault)
+    → Refuses options run.config call f → ⊥
+never_refused options run accepted front rest call of_run f refuses =
+    let none = all_accepted options run accepted (front ++ call ∷ rest) of_run in
+    let fails = fails_behind (λ c. is_some (refusal_by (decider_for options run.config) c)) front call rest none in
+    told_refused (refusal_by (decider_for options run.config) call) fails f (refuses 0)
+
+-- so a text that was judged has no refused line
+pub none_refused : (options : Options) (text : List ℕ) → OfText text (IsRunAccepted options) → (n : ℕ) (f : LineFault)
+    → IsRefusedText options text (Line n f) → ⊥
+none_refused options text accepted n f refused =
+    let both : Ok refused.run ≡ Ok accepted.run = sym refused.spelled ∙ accepted.spelled in
+    let same : refused.run ≡ accepted.run = cc in
+    let line = refused.refused in
+    never_refused options refused.run (subst (IsRunAccepted options) (sym same) accepted.holds) line.front line.rest
+    line.call line.of_run f line.refused
+
+-- a prefix of a text is a prefix of a longer text
 front_longer : {a b : Option (List ℕ)} (t u : List ℕ) → AppendsFront a b t → AppendsFront a b (t ++ u)
 front_longer t u h = record {
   front = h.front;
@@ -217,7 +237,7 @@ begun_front (inl h) = h.1
 begun_front (inr (inl h)) = h
 begun_front (inr (inr h)) = record { front = h.front; rest = h.rest; whole = h.whole; grown = h.accepted }
 
--- of one device: a beginning of the texts of some calls is one of those of more
+-- of one device: a prefix of the texts of some calls is a prefix of the texts of more
 module _ (texts : List ReportCall → List ℕ) (F G : Type 0) (a b : Option (List ℕ)) where
   device_longer : (calls more : List ReportCall) (rest : List ℕ) → texts (calls ++ more) ≡ texts calls ++ rest
       → HasBeginning device texts F G calls a b → HasBeginning device texts F G (calls ++ more) a b
@@ -400,11 +420,8 @@ module _ (options : Options) (old new : Option (List ℕ) × Option (List ℕ)) 
           let of_run = subst (λ es. AllZip IsCallOf es (split.front ++ refuses.call ∷ rest.0)) (sym events)
           (zip_both run.events (event ∷ later.more) split.front (refuses.call ∷ rest.0) split.of_front
           (refuses.of_event, rest.1)) in
-          let none = all_accepted options whole accepted.holds (split.front ++ refuses.call ∷ rest.0) of_run in
-          let fails = fails_behind (λ c. is_some (refusal_by (decider_for options whole.config) c)) split.front
-          refuses.call rest.0 none in
-          told_refused (refusal_by (decider_for options run.config) refuses.call)
-          (rw config at fails) f (refuses.refused 0)
+          never_refused options whole accepted.holds split.front rest.0 refuses.call of_run f
+          (λ n. rw config (refuses.refused n))
 
   -- what stops the lines of such a run, other than that they cannot be read
   judged_stops : (fault : Fault) → ((file : Bor (List ℕ)) → fault ≡ CannotRead file → ⊥)
@@ -461,8 +478,15 @@ module _ (options : Options) (old new : Option (List ℕ) × Option (List ℕ)) 
         },
       ))
 
+  no_write : (file : Bor (List ℕ)) → IsStop options (CannotWrite file) → ⊥
+  no_write file (inl is) = cc
+  no_write file (inr (inl is)) = cc
+  no_write file (inr (inr is)) = let wrong = is.0 in cc
+
   pub stops_in_memory : (fault : Fault)
       → StopsBy options all (Prints device device options old new) (Begins device device options old new) fault
       → OfLines all (λ run. Begins device device options old new run (fault_in_memory fault))
   stops_in_memory (CannotRead file) s = unread_stops file s
+  stops_in_memory (CannotWrite file) s = absurd
+      (no_write file (judged_stops (CannotWrite file) (λ name is. cc) s).holds.holds.0)
   stops_in_memory other s = judged_stops other (λ file is. cc) s

@@ -1,6 +1,5 @@
--- The first call that is refused, of lines that a sink takes which takes no call behind it (for `gather`,
--- `read_judged`).
-use Rattle.std.proofs.Common.{◌≡◌, ◌⊎◌, ℕ, ◌+◌, true, false, List, [], ◌∷◌, ◌++◌, Option, None, Some, Ok, Err, Result}
+-- The first refused call, where the sink of the lines takes no call after it (for `judge_text`, `report_to_string`).
+use Rattle.std.proofs.Common.{◌≡◌, ◌⊎◌, ℕ, ◌+◌, false, List, [], ◌∷◌, ◌++◌, Option, None, Some, Ok, Err, Result}
 use Rattle.std.proofs.Common.{length, refl, sym, ap, ◌∙◌, subst, append_assoc, append-nil, arith, inl, inr}
 use Rattle.{std.proofs.Math.Seq.get_or-append_seam, std.proofs.lemmas.Slice.Zip.AllZip-long}
 use Rattle.scene_follower.proofs.Common.{AllRead, AllZip, all_append, Fault, IsCallOf, length-append, Line, LineFault}
@@ -18,47 +17,34 @@ use Rattle.scene_follower.proofs.lemmas.Refusals.{zip_both}
 pub not_less : (k : ℕ) → nat_lt k k ≡ false
 not_less k = grind (arith, nat_tests)
 
--- a line adds its number to those of events where it says one
+-- a line that has an event adds its number to the numbers of events
 one_noted : (n : ℕ) (before : ParsedLines) (value : ParsedLine)
     → length (with_line before value).events
     ≡ length before.events + length (line_here n before (with_line before value))
 one_noted n before NoEvent = rw (not_less (length before.events)) (omega arith)
 one_noted n before (ConfigLine c) = rw (not_less (length before.events)) (omega arith)
-one_noted n before (EventLine e) =
-    let more = length-append before.events (e ∷ []) in
-    let less : nat_lt (length before.events) (length (before.events ++ e ∷ [])) ≡ true = grind
-    (arith, nat_tests, more) in
-    rw less (omega (arith, more))
+one_noted n before (EventLine e) = let more = length-append before.events (e ∷ []) in grind arith
 
 -- the line of an event is noted
 event_noted : (n : ℕ) (before : ParsedLines) (line : RunLine) (e : SceneEvent)
     → line_value (lines_before before) line ≡ Ok (EventLine e) → event_lines n before (line ∷ []) ≡ n ∷ []
 unfolding event_lines line_read
-event_noted n before line e says =
-    let more = length-append before.events (e ∷ []) in
-    let less : nat_lt (length before.events) (length (before.events ++ e ∷ [])) ≡ true = grind
-    (arith, nat_tests, more) in
-    rw (says, less) refl
+event_noted n before line e says = let more = length-append before.events (e ∷ []) in grind arith
 
 with_noted : (n : ℕ) (before mid : ParsedLines) (value : Result ParsedLine LineFault) → lines_with before value ≡ Ok mid
     → length mid.events ≡ length before.events + length (line_here n before mid)
-with_noted n before mid (Ok value) is =
-    let same : with_line before value ≡ mid = cc in
-    subst (λ m. length m.events ≡ length before.events + length (line_here n before m)) same (one_noted n before value)
+with_noted n before mid (Ok value) is = search (arith, with_line, one_noted)
 with_noted n before mid (Err f) is = absurd (cc)
 
--- lines note as many numbers as they say events
+-- lines note as many numbers as they have events
 pub read_noted : (n : ℕ) (before after : ParsedLines) (lines : List RunLine) → AllRead before lines after
     → length after.events ≡ length before.events + length (event_lines n before lines)
 unfolding event_lines line_read
 read_noted n before after [] h = rw h (omega arith)
-read_noted n before after (line ∷ lines) h =
-    let one = with_noted n before h.0 (line_value (lines_before before) line) h.1 in
-    let more = read_noted (n + 1) h.0 after lines h.2 in
-    rw h.1 (omega
-    (arith, one, more, length-append (line_here n before h.0) (event_lines (n + 1) h.0 lines)))
+read_noted n before after (line ∷ lines) h = let one = with_noted n before h.0 (line_value (lines_before before) line)
+    h.1 in grind (arith, read_noted (n + 1) h.0 after lines h.2)
 
--- where these are all lines, its fault is that of the text
+-- if these are all the lines, its fault is the text's
 pub refused_lines : (options : Options) (all : List RunLine) (run : ParsedLines) (fault : Fault)
     → AllRead no_lines all run → IsFirstRefused options all run fault → AreRefusedLines options all fault
 refused_lines options all run fault read h = record {
@@ -78,14 +64,14 @@ refused_lines options all run fault read h = record {
 
 module _ (options : Options) (done : List RunLine) (run : ParsedLines) (read : AllRead no_lines done run)
     (line : RunLine) where
-  -- what is noted of one line more
+  -- what is noted for one more line
   abbrev next : ℕ
   next = 1 + length done
 
   noted : event_lines 1 no_lines (done ++ line ∷ []) ≡ event_lines 1 no_lines done ++ event_lines next run (line ∷ [])
-  noted = noted_append 1 next no_lines done run (line ∷ []) refl read
+  noted = grind (arith, nat_tests, noted_append, no_lines)
 
-  -- one line more that says no event
+  -- one more line that has no event
   later_none : (fault : Fault) → IsFirstRefused options done run fault
       → IsFirstRefused options (done ++ line ∷ []) run fault
   later_none fault h = record {
@@ -106,7 +92,7 @@ module _ (options : Options) (done : List RunLine) (run : ParsedLines) (read : A
   }
 
   module _ (e : SceneEvent) (call : ReportCall) (of_event : IsCallOf e call) where
-    -- or one that does
+    -- or one that has an event
     later_one : (fault : Fault) → IsFirstRefused options done run fault
         → IsFirstRefused options (done ++ line ∷ []) (with_line run (EventLine e)) fault
     later_one fault h = record {
@@ -127,7 +113,7 @@ module _ (options : Options) (done : List RunLine) (run : ParsedLines) (read : A
       place = h.place;
     }
 
-    -- which is the first that is refused
+    -- whose call is the first that is refused
     first_here : line_value (lines_before run) line ≡ Ok (EventLine e) → IsRunAccepted options run → (f : LineFault)
         → Refuses options run.config call f
         → IsFirstRefused options (done ++ line ∷ []) (with_line run (EventLine e)) (Line next f)
@@ -147,10 +133,10 @@ module _ (options : Options) (done : List RunLine) (run : ParsedLines) (read : A
       place =
           let many = AllZip-long IsCallOf run.events accepted.calls accepted.of_run in
           let noted = read_noted 1 no_lines run done read in
-          omega (arith, many, noted);
+          omega (arith, noted);
     }
 
--- A sink that takes calls as long as none was refused, and then holds the fault of the line of the first that was.
+-- A sink that takes calls until one is refused, and then holds the fault of that call's line.
 pub record IsJudge {K : Type 0} (takes : Takes K) (file : List ℕ) (refused : K → Option Fault) (options : Options)
     (Good : ParsedLines → K → Type 0) : Type 0 where
   pub accepts : (run : ParsedLines) (k : K) → Good run k → IsRunAccepted options run
@@ -166,7 +152,7 @@ pub record IsJudge {K : Type 0} (takes : Takes K) (file : List ℕ) (refused : K
 
 module _ {K : Type 0} {takes : Takes K} {file : List ℕ} {refused : K → Option Fault} {options : Options}
     {Good : ParsedLines → K → Type 0} (judge : IsJudge takes file refused options Good) where
-  -- what it holds of these lines, which are this run
+  -- what it holds after these lines, which make up this run
   abbrev pub Judged : List RunLine → ParsedLines → K → Type 0
   Judged lines run k = ((refused k ≡ None) × Good run k)
       ⊎ ((fault : Fault) × (refused k ≡ Some fault) × IsFirstRefused options lines run fault)
@@ -174,8 +160,7 @@ module _ {K : Type 0} {takes : Takes K} {file : List ℕ} {refused : K → Optio
   judged_none : (done : List RunLine) (run : ParsedLines) → AllRead no_lines done run → (line : RunLine) (k next : K)
       → next ≡ k → Judged done run k → Judged (done ++ line ∷ []) run next
   judged_none done run read line k next same (inl good) = rw same (inl good)
-  judged_none done run read line k next same (inr (fault, is, first)) = rw same
-      (inr (fault, is, later_none options done run read line fault first))
+  judged_none done run read line k next same (inr (fault, is, first)) = search (arith, later_none)
 
   judged_event : (done : List RunLine) (run : ParsedLines) → AllRead no_lines done run → (line : RunLine)
       (e : SceneEvent) → line_value (lines_before run) line ≡ Ok (EventLine e) → (k next : K)
@@ -183,7 +168,7 @@ module _ {K : Type 0} {takes : Takes K} {file : List ℕ} {refused : K → Optio
       → Judged (done ++ line ∷ []) (with_line run (EventLine e)) next
   judged_event done run read line e says k next (stored, (call, is, taken)) (inl (none, good)) = elim
       (judge.takes_one (1 + length done) run k next stored call good none taken) [
-        | inl (still, goes_on) ↦ inl (still, subst (λ x. Good (with_line run (EventLine x)) next) is goes_on)
+        | inl (still, goes_on) ↦ grind arith
         | inr (f, holds, refuses) ↦
             inr (
               Line (1 + length done) f,
@@ -194,7 +179,7 @@ module _ {K : Type 0} {takes : Takes K} {file : List ℕ} {refused : K → Optio
       ]
   judged_event done run read line e says k next (stored, (call, is, taken)) (inr (fault, holds, first)) = inr (
     fault,
-    judge.stays (1 + length done) k next stored call fault holds taken,
+    grind arith,
     later_one options done run read line e call is fault first,
   )
 
@@ -202,13 +187,12 @@ module _ {K : Type 0} {takes : Takes K} {file : List ℕ} {refused : K → Optio
       (value : ParsedLine) → line_value (lines_before run) line ≡ Ok value → (with_line run value).config ≡ run.config
       → (k next : K) → IsGiven takes file (1 + length done) value k (Ok tt) next → Judged done run k
       → Judged (done ++ line ∷ []) (with_line run value) next
-  judged_one done run read line NoEvent says kept k next given h = judged_none done run read line k next given.1.0 h
+  judged_one done run read line NoEvent says kept k next given h = search judged_none
   judged_one done run read line (ConfigLine c) says kept k next given h = rw kept
       (judged_none done run read line k next given.1.0 h)
-  judged_one done run read line (EventLine e) says kept k next given h = judged_event done run read line e says k next
-      given h
+  judged_one done run read line (EventLine e) says kept k next given h = search judged_event
 
-  -- lines behind others were taken
+  -- more lines were taken after others
   pub judged : (done lines : List RunLine) (run last : ParsedLines) (n : ℕ) (k after : K) → n ≡ 1 + length done
       → AllRead no_lines done run → StaysConfigured run lines → AllTaken takes file n run k lines last after
       → Judged done run k → Judged (done ++ lines) last after

@@ -1,13 +1,13 @@
 -- Texts each of whose sequences ends by itself, made of styles and of words without escape characters (for the lemmas
 -- of InstanceWidths).
-use Rattle.std.proofs.Common.{◌≡◌, ◌≢◌, ℕ, zero, suc, ◌-◌, false, inl, inr, [], ◌∷◌, ◌++◌, refl, sym, ap, ◌∙◌, arith}
-use Rattle.std.proofs.Common.{length, encode_utf8, chars, ◌/◌, ◌%◌}
-use Rattle.std.proofs.lemmas.{Bool.cases_lt, Bool.Decides.nat_tests, Bool.Decides.eqb_tells, Str.encode_ascii}
+use Rattle.std.proofs.Common.{◌≢◌, ℕ, zero, suc, false, inl, inr, [], ◌∷◌, ◌++◌, refl, arith}
+use Rattle.std.proofs.Common.{encode_utf8, ◌/◌, ◌%◌}
+use Rattle.std.proofs.lemmas.{Bool.cases_lt, Bool.Decides.nat_tests, Str.encode_ascii}
 use Rattle.styled_text.specs.Names.{decimal, digits, digits_onto, digit_glyph, repeat, Text, spaces, right_in, pieces}
 use Rattle.styled_text.specs.Names.{pieces_after, sequence_len, HasNoEscape, sequences, AreClosed, plain, styled}
 use Rattle.styled_text.specs.Names.{style_prefix, style_suffix, reset_color, Style}
-use Rattle.styled_text.proofs.lemmas.{Marks.AreHigh, Marks.encode-high, Pieces.joined-pieces}
-use Rattle.styled_text.proofs.lemmas.Widths.{free_both, sequences-joined, free_after, sequences-free, closed_both}
+use Rattle.styled_text.proofs.lemmas.{Marks.AreHigh, Marks.encode-high}
+use Rattle.styled_text.proofs.lemmas.Widths.{free_both, closed_append, sequences-free, closed_both}
 use Rattle.styled_text.specs.declared.style.Style.TheVariants as style
 
 -- a text whose sequences end by themselves
@@ -15,11 +15,7 @@ abbrev pub IsClosedText : Text → Type 0
 IsClosedText t = AreClosed (sequences (pieces t))
 
 pub closed-append : (a b : Text) → IsClosedText a → IsClosedText b → IsClosedText (a ++ b)
-closed-append a b h k =
-    let e : sequences (pieces (a ++ b)) ≡ sequences (pieces a) ++ sequences (pieces b) = ap (λ x. sequences
-    (pieces (x ++ b))) (sym (joined-pieces a))
-    ∙ sequences-joined (pieces a) b (free_after 0 a) h in
-    rw e (closed_both (sequences (pieces a)) (sequences (pieces b)) h k)
+closed-append a b h k = rw (closed_append a b h).1 (closed_both _ _ h k)
 
 pub closed-free : (t : Text) → HasNoEscape t → IsClosedText t
 closed-free t h = rw (sequences-free t h) tt
@@ -47,8 +43,7 @@ closed-plain t h = closed-free t h
 
 pub closed-styled : (s : Style) (t : Text) → HasNoEscape t → IsClosedText (styled s t)
 unfolding styled
-closed-styled s t h = closed-append (style_prefix s) (t ++ style_suffix s) (prefix_closed s)
-    (closed-append t (style_suffix s) (closed-free t h) (suffix_closed s))
+closed-styled s t h = search (closed-append, prefix_closed, closed-free, suffix_closed)
 
 -- words without escape characters
 glyph_free : (d : ℕ) (acc : Text) → HasNoEscape acc → HasNoEscape (digit_glyph false d ∷ acc)
@@ -56,9 +51,8 @@ glyph_free d acc h = grind (arith, nat_tests)
 
 digits_free : (k n : ℕ) (acc : Text) → HasNoEscape acc → HasNoEscape (digits_onto k 10 false n acc)
 digits_free zero n acc h = h
-digits_free (suc k) n acc h =
-    let here = glyph_free (n % 10) acc h in grind
-    (arith, here, digits_free k (n / 10) (digit_glyph false (n % 10) ∷ acc) here)
+digits_free (suc k) n acc h = let here = glyph_free (n % 10) acc h in
+    grind (arith, digits_free k (n / 10) (digit_glyph false (n % 10) ∷ acc) here)
 
 pub decimal_free : (n : ℕ) → HasNoEscape (decimal n)
 unfolding digits
@@ -70,7 +64,7 @@ spaces_free (suc n) = spaces_free n
 
 pub right_free : (n : ℕ) (t : Text) → HasNoEscape t → HasNoEscape (right_in n t)
 unfolding right_in
-right_free n t h = free_both (spaces (n - length (chars t))) t (spaces_free (n - length (chars t))) h
+right_free n t h = search (free_both, spaces_free)
 
 high_free : (bs : Text) → AreHigh bs → HasNoEscape bs
 high_free [] h = refl
@@ -78,13 +72,13 @@ high_free (b ∷ bs) h = grind (arith, nat_tests, h.0, high_free bs h.1)
 
 pub char_free : (c : ℕ) → c ≢ 27 → HasNoEscape (encode_utf8 c)
 char_free c h = elim (cases_lt c 128) [
-  | inl l ↦ rw (encode_ascii c l) (elim (eqb_tells c 27) [ inl y ↦ absurd (h y.1) | inr n ↦ rw n.0 refl ])
+  | inl l ↦ rw (encode_ascii c l) (grind arith)
   | inr l ↦ (let e = encode-high c l in rw e.2 (high_free (e.0 ∷ e.1) e.3))
 ]
 
 pub repeat_free : (n : ℕ) (t : Text) → HasNoEscape t → HasNoEscape (repeat n t)
 repeat_free zero t h = refl
-repeat_free (suc n) t h = free_both t (repeat n t) h (repeat_free n t h)
+repeat_free (suc n) t h = search (free_both, repeat_free n t h)
 
 -- what shows that a text is closed if its parts are
 pub ruleset closeds = (closed-none, closed-append, closed-plain, closed-styled, decimal_free, right_free)

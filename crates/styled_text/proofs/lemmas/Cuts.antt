@@ -3,7 +3,7 @@
 use Rattle.std.proofs.Common.{◌≡◌, ℕ, zero, suc, ◌+◌, ◌<◌, ◌≤◌, Bool, true, false, ◌&&◌, ◌==◌, ◌⊎◌, inl, inr, [], ◌∷◌}
 use Rattle.std.proofs.Common.{refl, ap, arith, length, get_or, drop, lit<, length-drop, add-zero, add-suc, get_or-drop}
 use Rattle.std.proofs.Common.{cond}
-use Rattle.std.proofs.lemmas.Bool.{cases_Bool, and_parts, and_right}
+use Rattle.std.proofs.lemmas.Bool.{cases_Bool}
 use Rattle.{std.proofs.lemmas.Bool.Decides.nat_tests, std.proofs.lemmas.List.nil_from_length}
 use Rattle.{styled_text.specs.declared.escapes.State.TheVariants.Start}
 use Rattle.styled_text.specs.Names.{Text, is_before_backslash, rest_len, is_within, is_parameter, is_intermediate}
@@ -22,7 +22,7 @@ then_len-past p g c t h = rw h (omega arith)
 pub osc_len-cons : (c : ℕ) (t : Text)
     → osc_len (c ∷ t) ≡ cond (c == 7) 1 (cond ((c == 27) && is_before_backslash t) 2
     (cond (is_control c) 0 (suc (osc_len t))))
-osc_len-cons c [] = rw (and_right (c == 27) false refl) refl
+osc_len-cons c [] = grind arith
 osc_len-cons c (d ∷ t) = refl
 
 -- nothing is left of a text that has ended
@@ -42,12 +42,11 @@ IsAsciiRun f = (c : ℕ) (t : Text) → c < 128 → (f t ≤ length t) × (get_o
 
 front_len-ascii : (p : ℕ → Bool) → ((c : ℕ) → p c ≡ true → c < 128) → IsAsciiRun (front_len p)
 front_len-ascii p h c [] l = (omega arith, l)
-front_len-ascii p h c (d ∷ t) l =
-    (grind (arith, front_len-ascii p h d t, h d), grind (arith, front_len-ascii p h d t, h d))
+front_len-ascii p h c (d ∷ t) l = grind (arith, front_len-ascii p h d t)
 
 one_len-ascii : (p : ℕ → Bool) → ((c : ℕ) → p c ≡ true → c < 128) → IsAsciiRun (one_len p)
 one_len-ascii p h c [] l = (omega arith, l)
-one_len-ascii p h c (d ∷ t) l = (grind (arith, h d), grind (arith, h d))
+one_len-ascii p h c (d ∷ t) l = grind arith
 
 moved : (c : ℕ) (t : Text) (n m : ℕ) → n ≤ length t
     → get_or (get_or (c ∷ t) n 0 ∷ drop n t) m 0 ≡ get_or (c ∷ t) (n + m) 0
@@ -64,14 +63,14 @@ within-ascii low high c l h = grind (arith, nat_tests)
 
 csi_end_len-ascii : IsAsciiRun csi_end_len
 csi_end_len-ascii = then_len-ascii _ _ (front_len-ascii is_intermediate (λ c. within-ascii 0x20 0x2F c (lit< tt)))
-    (one_len-ascii (is_within 0x40 0x7E) (λ c. within-ascii 0x40 0x7E c (lit< tt)))
+    (one_len-ascii (is_within 0x40 0x7E) (grind arith))
 
 -- a control sequence ends within the text
 pub csi_end_len-le : (t : Text) → csi_end_len t ≤ length t
 csi_end_len-le t = (csi_end_len-ascii 0 t (lit< tt)).0
 
 csi_len-ascii : IsAsciiRun csi_len
-csi_len-ascii = then_len-ascii _ _ (front_len-ascii is_parameter (λ c. within-ascii 0x30 0x3F c (lit< tt)))
+csi_len-ascii = then_len-ascii _ _ (front_len-ascii is_parameter (grind arith))
     csi_end_len-ascii
 
 pub csi_len-le : (t : Text) → csi_len t ≤ length t
@@ -81,18 +80,15 @@ csi_len-le t = (csi_len-ascii 0 t (lit< tt)).0
 pub csi_len-final : (t rest : Text) (n b : ℕ) → n ≡ front_len is_parameter t → rest ≡ drop n t → 0 < length rest
     → b ≡ get_or rest 0 b → is_within 0x40 0x7E b ≡ true → n + 1 ≡ csi_len t
 csi_len-final t [] n b hn hd l hb h = absurd (omega (arith, l))
-csi_len-final t (c ∷ rest) n b hn hd l hb h = rw (← hn, ← hd) (grind (arith, nat_tests, hb, h))
+csi_len-final t (c ∷ rest) n b hn hd l hb h = grind arith
 
 short_len-ascii : IsAsciiRun short_len
 short_len-ascii = then_len-ascii _ _ (front_len-ascii is_intermediate (λ c. within-ascii 0x20 0x2F c (lit< tt)))
-    (one_len-ascii (is_within 0x30 0x7E) (λ c. within-ascii 0x30 0x7E c (lit< tt)))
+    (one_len-ascii (is_within 0x30 0x7E) (grind arith))
 
 -- a place in t, after the character c, with an ASCII character before or after it or at the end
 abbrev pub IsCut : ℕ → Text → ℕ → Type 0
 IsCut c t n = (n ≤ length t) × ((get_or (c ∷ t) n 0 < 128) ⊎ ((n ≡ length t) ⊎ (get_or t n 0 < 128)))
-
-control-ascii : (c : ℕ) → is_control c ≡ true → c < 128
-control-ascii c h = grind (arith, nat_tests)
 
 -- one character more
 pub cut_on : (c d : ℕ) (t : Text) (n : ℕ) → IsCut d t n → IsCut c (d ∷ t) (suc n)
@@ -102,26 +98,13 @@ cut_on c d t n (h, inr (inr r)) = (omega arith, inr (inr r))
 
 osc_len-any : (c : ℕ) (t : Text) → IsCut c t (osc_len t)
 osc_len-any c [] = (omega arith, inr (inl refl))
-osc_len-any c (d ∷ t) = rw (osc_len-cons d t) (elim (cases_Bool (d == 7)) [
-  | inl y ↦ rw y (omega arith, inl (grind (arith, nat_tests)))
-  | inr n ↦ elim (cases_Bool ((d == 27) && is_before_backslash t)) [
-    | inl y ↦ rw (n, y) (backslash_cut c d t (and_parts (d == 27) (is_before_backslash t) y).1)
-    | inr m ↦ elim (cases_Bool (is_control d)) [
-      | inl y ↦ rw (n, m, y) (omega arith, inr (inr (control-ascii d y)))
-      | inr k ↦ rw (n, m, k) (cut_on c d t (osc_len t) (osc_len-any d t))
-    ]
-  ]
-])
-  where
-    backslash_cut : (c d : ℕ) (t : Text) → is_before_backslash t ≡ true → IsCut c (d ∷ t) 2
-    backslash_cut c d [] h = cc
-    backslash_cut c d (e ∷ t) h = (omega arith, inl (grind (arith, nat_tests)))
+osc_len-any c (d ∷ t) = grind (arith, nat_tests, osc_len-any d t)
 
 pub sequence_len-cut : (c : ℕ) (t : Text) → c < 128 → IsCut c t (sequence_len t)
 unfolding sequence_len
 sequence_len-cut c [] l = (omega arith, inl l)
 sequence_len-cut c (d ∷ t) l = elim (cases_Bool (d == 0x5B)) [
-  | inl y ↦ (let h = csi_len-ascii d t (grind (arith, nat_tests)) in rw y (cut_on c d t (csi_len t) (h.0, inl h.1)))
+  | inl y ↦ (let h = csi_len-ascii d t (grind (arith, nat_tests)) in rw y (grind arith))
   | inr n ↦ elim (cases_Bool (d == 0x5D)) [
     | inl y ↦ rw (n, y) (cut_on c d t (osc_len t) (osc_len-any d t))
     | inr m ↦ (let h = short_len-ascii c (d ∷ t) l in rw (n, m) (h.0, inl h.1))

@@ -1,14 +1,13 @@
 -- What is kept of a text that is cut (for `ColumnCounterWriteStr::write_str`, `FittedWriteStr::write_str`).
-use Rattle.std.proofs.Common.{◌≡◌, ℕ, zero, suc, ◌+◌, ◌*◌, ◌<◌, ◌≤◌, false, inl, inr, List, [], ◌∷◌, ◌++◌, refl, ap}
-use Rattle.std.proofs.Common.{◌∙◌, arith, length, chars, encode_utf8_all, drop, add-one, lit<}
-use Rattle.std.proofs.lemmas.{Bool.Decides.nat_tests, Bool.Decides.eqb_tells, List.Sums.sum_by-cons}
+use Rattle.std.proofs.Common.{◌≡◌, ℕ, zero, suc, ◌+◌, ◌*◌, ◌≤◌, false, inl, inr, List, [], ◌∷◌, ◌++◌}
+use Rattle.std.proofs.Common.{arith, length, drop, add-one, lit<}
+use Rattle.std.proofs.lemmas.{Bool.Decides.eqb_tells, List.Sums.sum_by-cons}
 use Rattle.std.proofs.lemmas.{List.Sums.sum_by-append}
-use Rattle.std.proofs.lemmas.Str.{chars-append, IsUtf8-take, IsUtf8-drop, IsUtf8-append, IsUtf8-nil, chars-nil}
+use Rattle.std.proofs.lemmas.Str.{IsUtf8-take, IsUtf8-drop, IsUtf8-append, IsUtf8-nil}
 use Rattle.styled_text.specs.Names.{IsUtf8, Text, PieceText, pieces, pieces_after, stretches, sequence_len, front_len}
-use Rattle.styled_text.specs.Names.{is_visible, SequenceText, StretchText, char_columns, columns_of, columns}
-use Rattle.styled_text.specs.Names.{kept_chars, kept_stretch, stretch_columns}
+use Rattle.styled_text.specs.Names.{is_visible, SequenceText, StretchText, char_columns, columns_of}
 use Rattle.{styled_text.proofs.lemmas.Cuts.sequence_len-cut, unicode_width.proofs.Rules.width_or_zero-le}
-use Rattle.styled_text.proofs.lemmas.Pieces.{boundary, stretch_len-cut, stretches-pieces}
+use Rattle.styled_text.proofs.lemmas.Pieces.{boundary, stretch_len-cut}
 
 pub char_columns-le : (c : ℕ) → char_columns c ≤ 3
 unfolding char_columns
@@ -20,18 +19,9 @@ columns_of-cons c cs = sum_by-cons char_columns c cs
 pub columns_of-append : (cs ds : List ℕ) → columns_of (cs ++ ds) ≡ columns_of cs + columns_of ds
 columns_of-append cs ds = sum_by-append char_columns cs ds
 
-pub kept_stretch-before : (start end pos : ℕ) (s : Text) → pos < end
-    → kept_stretch start end pos s ≡ encode_utf8_all (kept_chars start end pos (chars s))
-unfolding kept_stretch
-kept_stretch-before start end pos s h = grind (arith, nat_tests)
-
-pub kept_stretch-past : (start end pos : ℕ) (s : Text) → end ≤ pos → kept_stretch start end pos s ≡ []
-unfolding kept_stretch
-kept_stretch-past start end pos s h = grind (arith, nat_tests)
-
 pub columns_of-le : (cs : List ℕ) → columns_of cs ≤ 3 * length cs
 columns_of-le [] = omega arith
-columns_of-le (c ∷ cs) = rw (columns_of-cons c cs) (omega (arith, char_columns-le c, columns_of-le cs))
+columns_of-le (c ∷ cs) = search (arith, columns_of-cons, char_columns-le, columns_of-le cs)
 
 -- the pieces of a text are texts
 abbrev pub AreTexts : List PieceText → Type 0
@@ -65,14 +55,3 @@ pub stretches-utf8 : (ps : List PieceText) → AreTexts ps → IsUtf8 (stretches
 stretches-utf8 [] u = IsUtf8-nil
 stretches-utf8 (SequenceText s ∷ ps) u = stretches-utf8 ps u.1
 stretches-utf8 (StretchText s ∷ ps) u = IsUtf8-append s (stretches ps) u.0 (stretches-utf8 ps u.1)
-
-stretch_columns-is : (ps : List PieceText) → AreTexts ps → stretch_columns ps ≡ columns_of (chars (stretches ps))
-stretch_columns-is [] u = rw chars-nil refl
-stretch_columns-is (SequenceText s ∷ ps) u = stretch_columns-is ps u.1
-stretch_columns-is (StretchText s ∷ ps) u = rw (chars-append s (stretches ps) u.0, columns_of-append)
-    (ap (λ n. columns_of (chars s) + n) (stretch_columns-is ps u.1))
-
--- the columns of a text are those of its stretches
-pub stretch_columns-pieces : (t : Text) → IsUtf8 t → stretch_columns (pieces t) ≡ columns t
-stretch_columns-pieces t u = stretch_columns-is (pieces t) (texts t u)
-    ∙ ap (λ x. columns_of (chars x)) (stretches-pieces t)

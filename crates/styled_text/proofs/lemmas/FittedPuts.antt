@@ -1,7 +1,8 @@
 -- A text that is cut while it is written (for `FittedWriteStr::write_str`, `FittedWriteStr::write_str_flush`).
-use Rattle.std.proofs.Common.{◌≡◌, ℕ, [], ◌∷◌, ◌++◌, true, refl, sym, ap, ◌∙◌, append-nil, chars, encode_utf8, Result}
+use Rattle.std.proofs.Common.{arith}
+use Rattle.std.proofs.Common.{◌≡◌, ℕ, [], ◌∷◌, ◌++◌, true, refl, sym, append-nil, chars, encode_utf8, Result}
 use Rattle.std.proofs.Common.{Ok, Err}
-use Rattle.std.{proofs.lemmas.Bool.and_parts, specs.Str.IsUtf8, specs.Str.all_scalars}
+use Rattle.std.{proofs.lemmas.Bool.and_parts, specs.Str.IsUtf8}
 use Rattle.std.proofs.lemmas.Str.{chars-encodes, chars-nil, IsUtf8-nil, cons_from_encodes}
 use lib.Utf8.{scalar}
 use Rattle.styled_text.specs.Names.{Text, kept_char, kept_from, fitted_text, fitted_text-nil, scan_after, PutsChar}
@@ -9,33 +10,23 @@ use Rattle.styled_text.specs.Names.{fitted_meaning, Meaning, Puts, Fitted, Write
 
 -- a character that a text begins with
 pub first_scalar : (t rest : Text) (c : ℕ) → IsUtf8 t → t ≡ encode_utf8 c ++ rest → scalar c ≡ true
-first_scalar t rest c u e =
-    let parts = cons_from_encodes u.0 rest c (u.1.1 ∙ e) in
-    let scalars : all_scalars (c ∷ parts.0) ≡ true = sym (ap all_scalars parts.1) ∙ u.1.0 in
-    (and_parts (scalar c) (all_scalars parts.0) scalars).0
+first_scalar t rest c u e = grind (arith, cons_from_encodes, and_parts, scalar)
 
 pub one_utf8 : (c : ℕ) → scalar c ≡ true → IsUtf8 (encode_utf8 c)
 one_utf8 c h = (c ∷ [], (rw h refl, append-nil (encode_utf8 c)))
 
 pub one_char : (c : ℕ) → scalar c ≡ true → chars (encode_utf8 c) ≡ c ∷ []
-one_char c h = ap chars (sym (append-nil (encode_utf8 c))) ∙ chars-encodes (c ∷ []) (rw h refl)
+one_char c h = cc (append-nil (encode_utf8 c), chars-encodes (c ∷ []) (rw h refl))
 
 module _ {W : Type 0} (m : Meaning W) where
   kept_one : (a : Fitted W) (c : ℕ) → scalar c ≡ true → fitted_text a (encode_utf8 c) ≡ kept_char a.start a.end a.scan c
   unfolding kept_from
-  kept_one a c h = rw (one_char c h) (append-nil (kept_char a.start a.end a.scan c))
+  kept_one a c h = search (one_char, append-nil)
 
   char_put : (a b : Fitted W) (c : ℕ) (r : Result (Unit {0}) WriteFault) → scalar c ≡ true → PutsChar m a c r b
       → Puts (fitted_meaning m) a (encode_utf8 c) r b
   unfolding scan_after
-  char_put a b c (Ok x) h p = record {
-    utf8 = one_utf8 c h;
-    below = rw (kept_one a c h) p.below;
-    scan = rw (one_char c h) p.scan;
-    start = p.start;
-    end = p.end;
-    same = p.same;
-  }
+  char_put a b c (Ok x) h p = grind (arith, one_utf8, kept_one, one_char)
   char_put a b c (Err e) h p = record {
     front = encode_utf8 c;
     rest = [];
@@ -48,7 +39,7 @@ module _ {W : Type 0} (m : Meaning W) where
   -- the next character of a text
   pub next_put : (a b : Fitted W) (t rest : Text) (c : ℕ) (r : Result (Unit {0}) WriteFault) → IsUtf8 t
       → t ≡ encode_utf8 c ++ rest → PutsChar m a c r b → Puts (fitted_meaning m) a (encode_utf8 c) r b
-  next_put a b t rest c r u e p = char_put a b c r (first_scalar t rest c u e) p
+  next_put a b t rest c r u e p = search (char_put, first_scalar)
 
   -- nothing is written, as by a flush
   pub nothing_put : (a b : Fitted W) (r : Result (Unit {0}) WriteFault) → Puts m a.inner.now [] r b.inner.now

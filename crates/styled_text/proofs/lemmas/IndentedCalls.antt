@@ -1,8 +1,9 @@
 -- Indentation over a destination of `fmt` (for `DisplayIndentedDisplay::fmt`, `Indented::fmt_line`,
 -- `Indented::fmt_margin`, `IndentedWrite::write_str`).
+use Rattle.std.proofs.Common.{arith}
 use Rattle.std.proofs.Common.{◌≡◌, List, [], ◌∷◌, ◌++◌, true, refl, sym, ap, ◌∙◌, subst, append-nil, Result, Ok, Err}
 use Rattle.std.proofs.Common.{Option, Some, None, length, ◌==◌}
-use Rattle.{std.proofs.lemmas.Bool.eqb-true, std.proofs.lemmas.List.nil_from_length}
+use Rattle.{std.proofs.lemmas.List.nil_from_length}
 use Rattle.{styled_text.proofs.lemmas.Indents.indent-line, styled_text.proofs.lemmas.Indents.margin-first}
 use Rattle.styled_text.specs.Names.{IsOk, OnOk, WritesInCalls, WritesText, IsPlainFormatter, HasWritten, DisplaysOnOk}
 use Rattle.styled_text.specs.Names.{FoldsTo, concat, option_map, Formatter, Error, Text, IsOneLine, margin, indent}
@@ -11,7 +12,7 @@ use Rattle.styled_text.specs.Names.{after-none, folds_append, concat_append, wri
 
 module _ {W : Type 0} (took : W → Text → W → Type 0) where
   no_calls : (a : W) → WritesInCalls took a [] a
-  no_calls a = record { parts = []; calls = refl; whole = refl }
+  no_calls a = grind arith
 
   one_call : (a b : W) (t : Text) → took a t b → WritesInCalls took a t b
   one_call a b t h = record { parts = t ∷ []; calls = (b, h, refl); whole = append-nil t }
@@ -28,24 +29,13 @@ module _ {W : Type 0} (took : W → Text → W → Type 0) where
       → margin a.indentation.now true t ≡ a.indentation.now → (IsOk r → took a.inner.now a.indentation.now b.inner.now)
       → b.needs_indent ≡ a.needs_indent → b.indentation.now ≡ a.indentation.now
       → b.inner.ghost_name ≡ a.inner.ghost_name → OnOk r (TakesMargin took a t b)
-  margin_taken a b t (Ok x) n e h f i o = record {
-    below = rw (n, e) (one_call a.inner.now b.inner.now a.indentation.now (h refl));
-    line = f;
-    indentation = i;
-    same = o;
-  }
+  margin_taken a b t (Ok x) n e h f i o = grind (arith, one_call)
   margin_taken a b t (Err x) n e h f i o = tt
 
   pub line_taken : (a b c : Indented W) (t : Text) → IsOneLine t → TakesMargin took a t b
       → took b.inner.now t c.inner.now → c.needs_indent ≡ after a.needs_indent t → c.indentation.now ≡ b.indentation.now
       → c.inner.ghost_name ≡ b.inner.ghost_name → IndentedTakes took a t c
-  line_taken a b c t line p h f i o = record {
-    below = rw (indent-line a.indentation.now a.needs_indent t line)
-        (calls_then a.inner.now b.inner.now c.inner.now _ t p.below (one_call b.inner.now c.inner.now t h));
-    line = f;
-    indentation = i ∙ p.indentation;
-    same = o ∙ p.same;
-  }
+  line_taken a b c t line p h f i o = search (indent-line, calls_then, one_call)
 
   pub taken_none : (a : Indented W) → IndentedTakes took a [] a
   taken_none a = record {
@@ -60,14 +50,14 @@ module _ {W : Type 0} (took : W → Text → W → Type 0) where
   taken_then a b c t u p q = record {
     below = rw (indent-append a.indentation.now a.needs_indent t u)
         (calls_then a.inner.now b.inner.now c.inner.now _ _ p.below
-        (subst (λ x. WritesInCalls took b.inner.now x c.inner.now) (rw (p.indentation, p.line) refl) q.below));
+        (grind arith));
     line = q.line ∙ ap (λ x. after x u) p.line ∙ sym (after-append a.needs_indent t u);
     indentation = q.indentation ∙ p.indentation;
     same = q.same ∙ p.same;
   }
 
   pub taken_done : (a : Indented W) (t : Text) → true ≡ (length t == 0) → IndentedTakes took a t a
-  taken_done a t h = subst (λ x. IndentedTakes took a x a) (sym (nil_from_length t (eqb-true (length t) 0 (sym h))))
+  taken_done a t h = subst (λ x. IndentedTakes took a x a) (sym (nil_from_length t (grind arith)))
       (taken_none a)
 
   pub taken_more : (a b c : Indented W) (s t u : Text) → s ≡ t ++ u → IndentedTakes took a t b
@@ -81,7 +71,7 @@ module _ {W : Type 0} (took : W → Text → W → Type 0) where
 
   -- several calls are one of the joined text
   pub taken_calls : (a b : Indented W) (t : Text) → WritesInCalls (IndentedTakes took) a t b → IndentedTakes took a t b
-  taken_calls a b t h = subst (λ x. IndentedTakes took a x b) h.whole (taken_steps h.parts a b h.calls)
+  taken_calls a b t h = grind (arith, taken_steps)
 
 module _ {W : Type 0} (took : W → Text → W → Type 0) where
   -- what `write_str` of a formatter gives
@@ -90,16 +80,13 @@ module _ {W : Type 0} (took : W → Text → W → Type 0) where
 
   written_steps : (ts : List Text) (f g : Formatter W) → IsPlainFormatter f → FoldsTo writes f ts g
       → HasWritten took f (concat ts) g
-  written_steps [] f g plain e = subst (λ x. HasWritten took f [] x) e (record {
-    wrote = no_calls took f.writer;
-    plain = plain;
-  })
+  written_steps [] f g plain e = grind arith
   written_steps (t ∷ ts) f g plain h = let first = h.1 plain in written_twice took f h.0 g t (concat ts) first
       (written_steps ts h.0 g first.plain h.2)
 
   written_calls : (f g : Formatter W) (t : Text) → IsPlainFormatter f → WritesInCalls writes f t g
       → HasWritten took f t g
-  written_calls f g t plain h = subst (λ x. HasWritten took f x g) h.whole (written_steps h.parts f g plain h.calls)
+  written_calls f g t plain h = grind (arith, written_steps)
 
   -- what an item displays, through a formatter that is returned
   pub displayed : (f new : Formatter W) (a b : Indented (Formatter W)) (p : Text) (o : Option Text)

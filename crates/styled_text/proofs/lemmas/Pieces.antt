@@ -1,12 +1,12 @@
 -- The pieces of a text (for `control_len`, `piece_laws`, `split_escape`, `split_piece` and others).
-use Rattle.std.proofs.Common.{◌≡◌, ◌≢◌, ℕ, zero, suc, ◌+◌, ◌<◌, ◌≤◌, Bool, true, false, not, ◌==◌, inl, inr, [], ◌∷◌}
-use Rattle.std.proofs.Common.{◌++◌, refl, sym, ap, arith, length, get_or, take, drop, ◌⊎◌, lit<, add-one}
-use Rattle.std.proofs.lemmas.Bool.{cases_Bool, and_parts, not-true, false_from_ne_true}
+use Rattle.std.proofs.Common.{◌≡◌, ◌≢◌, ℕ, zero, suc, ◌+◌, ◌<◌, ◌≤◌, Bool, true, false, ◌==◌, inl, inr, [], ◌∷◌}
+use Rattle.std.proofs.Common.{◌++◌, refl, ap, arith, length, get_or, take, drop, ◌⊎◌, add-one}
+use Rattle.std.proofs.lemmas.Bool.{false_from_ne_true, ne_eqb}
 use Rattle.std.proofs.{lemmas.Bool.Decides.eqb_tells, lemmas.Bool.Decides.nat_tests, Math.Seq.drop-cons}
 use Rattle.std.proofs.{lemmas.Str.IsCharBoundary-after_ascii}
 use Rattle.std.proofs.lemmas.List.{take-append-drop, nil_from_length, drop_all}
 use Rattle.styled_text.specs.Names.{IsUtf8, IsCharBoundary, Text, front_len, is_visible, sequence_len, pieces_after}
-use Rattle.styled_text.specs.Names.{pieces, joined, stretches, visible_after, visible, has_no_escape, HasNoEscape}
+use Rattle.styled_text.specs.Names.{pieces, joined, stretches, visible_after, visible, HasNoEscape}
 use Rattle.styled_text.specs.Names.{SequenceText, StretchText}
 use Rattle.memchr.specs.Find.{Nowhere, NoneBefore, Passes, is_byte}
 use Rattle.styled_text.proofs.lemmas.Cuts.{IsCut, cut_on, csi_end_len-le, csi_len-le, csi_len-final, sequence_len-cut}
@@ -14,22 +14,16 @@ use Rattle.styled_text.proofs.lemmas.Cuts.{sequence_len-le}
 
 pub front_len-le : (p : ℕ → Bool) (t : Text) → front_len p t ≤ length t
 front_len-le p [] = omega arith
-front_len-le p (c ∷ t) = elim (cases_Bool (p c)) [
-  | inl y ↦ (let more = front_len-le p t in rw y (omega arith))
-  | inr n ↦ rw n (omega arith)
-]
+front_len-le p (c ∷ t) = grind (arith, front_len-le p t)
 
 pub stretch_len-cut : (c : ℕ) (t : Text) → IsCut c t (front_len is_visible t)
 stretch_len-cut c [] = (omega arith, inr (inl refl))
-stretch_len-cut c (d ∷ t) = elim (eqb_tells d 27) [
-  | inl y ↦ rw y.0 (omega arith, inr (inr (omega arith)))
-  | inr n ↦ rw n.0 (cut_on c d t (front_len is_visible t) (stretch_len-cut d t))
-]
+stretch_len-cut c (d ∷ t) = grind (arith, stretch_len-cut d t)
 
 -- an index at which a text may be split
 pub boundary : (c : ℕ) (t : Text) (n : ℕ) → IsUtf8 (c ∷ t) → IsCut c t n → IsCharBoundary (c ∷ t) (n + 1)
 boundary c t n u (h, inl a) = IsCharBoundary-after_ascii (c ∷ t) n u (omega arith) a
-boundary c t n u (h, inr b) = (omega arith, rw add-one (λ x y. absurd (omega (arith, b, x, y))))
+boundary c t n u (h, inr b) = grind arith
 
 -- the rest has the remaining pieces
 pub pieces_after-drop : (n : ℕ) (t : Text) → pieces_after n t ≡ pieces (drop n t)
@@ -46,7 +40,7 @@ pieces-sequence t = rw (← pieces_after-drop (sequence_len t) t) refl
 pub pieces-stretch : (c : ℕ) (t : Text) → (c == 27) ≡ false
     → pieces (c ∷ t) ≡ StretchText (c ∷ take (front_len is_visible t) t) ∷ pieces (drop (front_len is_visible t) t)
 unfolding pieces_after
-pieces-stretch c t h = rw (h, ← pieces_after-drop (front_len is_visible t) t) refl
+pieces-stretch c t h = search (arith, pieces_after-drop)
 
 -- the pieces are the text
 joined-after : (n : ℕ) (t : Text) → joined (pieces_after n t) ≡ drop n t
@@ -54,15 +48,12 @@ unfolding pieces_after
 joined-after zero [] = refl
 joined-after (suc n) [] = refl
 joined-after (suc n) (c ∷ t) = joined-after n t
-joined-after zero (c ∷ t) =
-    grind (
-      arith,
-      joined-after (sequence_len t) t,
-      joined-after (front_len is_visible t) t,
-      take-append-drop
-          (sequence_len t) t,
-      take-append-drop (front_len is_visible t) t,
-    )
+joined-after zero (c ∷ t) = search (
+  arith,
+  take-append-drop,
+  joined-after (sequence_len t) t,
+  joined-after (front_len is_visible t) t,
+)
 
 pub joined-pieces : (t : Text) → joined (pieces t) ≡ t
 joined-pieces t = joined-after 0 t
@@ -78,8 +69,12 @@ stretches-after : (n : ℕ) (t : Text) → stretches (pieces_after n t) ≡ visi
 unfolding pieces_after visible_after
 stretches-after n [] = refl
 stretches-after (suc n) (c ∷ t) = stretches-after n t
-stretches-after zero (c ∷ t) = grind
-    (arith, stretches-after (sequence_len t) t, stretches-after (front_len is_visible t) t, stretch-visible t)
+stretches-after zero (c ∷ t) = search (
+  arith,
+  stretch-visible,
+  stretches-after (sequence_len t) t,
+  stretches-after (front_len is_visible t) t,
+)
 
 pub stretches-pieces : (t : Text) → stretches (pieces t) ≡ visible t
 stretches-pieces t = stretches-after 0 t
@@ -92,13 +87,13 @@ visible_after-free (suc n) (c ∷ t) = visible_after-free n t
 visible_after-free zero (c ∷ t) = grind (arith, visible_after-free (sequence_len t) t, visible_after-free zero t)
 
 pub free_parts : (c : ℕ) (t : Text) → HasNoEscape (c ∷ t) → ((c == 27) ≡ false) × HasNoEscape t
-free_parts c t h = let both = and_parts (not (c == 27)) (has_no_escape t) h in (not-true (c == 27) both.0, both.1)
+free_parts c t h = grind arith
 
 -- a text without escapes is visible as it is
 pub visible-free : (t : Text) → HasNoEscape t → visible t ≡ t
 unfolding visible_after
 visible-free [] h = refl
-visible-free (c ∷ t) h = let both = free_parts c t h in rw both.0 (ap (λ l. c ∷ l) (visible-free t both.1))
+visible-free (c ∷ t) h = let both = free_parts c t h in grind (arith, visible-free t both.1)
 
 -- the text before the first escape character, and the text from there on
 visible_after-drop : (n : ℕ) (t : Text) → visible_after n t ≡ visible (drop n t)
@@ -109,7 +104,7 @@ visible_after-drop (suc n) (c ∷ t) = visible_after-drop n t
 
 pub visible-stretch : (t front back : Text) → front ≡ take (front_len is_visible t) t
     → back ≡ drop (front_len is_visible t) t → visible t ≡ front ++ visible back
-visible-stretch t front back p q = rw (p, q, ← visible_after-drop (front_len is_visible t) t) (sym (stretch-visible t))
+visible-stretch t front back p q = cc (visible_after-drop (front_len is_visible t) t, stretch-visible t)
 
 -- an escape character comes first there
 pub front_stops : (t : Text) (c : ℕ) (r : Text) → drop (front_len is_visible t) t ≡ c ∷ r → c ≡ 27
@@ -122,18 +117,18 @@ front_ascii [] l = absurd (omega (arith, l))
 front_ascii (c ∷ t) l = grind (arith, nat_tests, front_ascii t)
 
 pub front_boundary : (t : Text) → IsCharBoundary t (front_len is_visible t)
-front_boundary t = (front_len-le is_visible t, λ l a. absurd (omega (arith, front_ascii t l)))
+front_boundary t = search (arith, front_len-le, front_ascii)
 
 -- and the text before it has no escape character
 pub front_free : (t : Text) → HasNoEscape (take (front_len is_visible t) t)
 front_free [] = refl
-front_free (c ∷ t) = elim (cases_Bool (c == 27)) [ inl y ↦ rw y refl | inr n ↦ rw n (rw n (front_free t)) ]
+front_free (c ∷ t) = grind (arith, front_free t)
 
 -- it begins a sequence, and the text after that is visible
 pub visible-sequence : (t after : Text) (c : ℕ) → t ≡ c ∷ after → c ≡ 27
     → visible t ≡ visible (drop (sequence_len after + 1) t)
 unfolding visible_after
-visible-sequence t after c e i = rw (e, i, add-one) (visible_after-drop (sequence_len after) after)
+visible-sequence t after c e i = search (arith, add-one, visible_after-drop)
 
 -- also if there is no escape character
 pub visible-front : (t : Text) → length (drop (front_len is_visible t) t) ≡ 0 → visible t ≡ t
@@ -155,41 +150,23 @@ pieces-empty t h = rw (nil_from_length t h) refl
 -- the first piece, as the code cuts it
 module _ (bs after : Text) (first count : ℕ) (e : bs ≡ first ∷ after) where
   cut_boundary : IsUtf8 bs → IsCut first after count → IsCharBoundary bs (count + 1)
-  cut_boundary u h = rw e (boundary first after count (rw e at u) h)
-
-  cut_fits : IsCut first after count → count + 1 ≤ length bs
-  cut_fits h = omega (arith, ap length e, h.0)
+  cut_boundary u h = search (arith, boundary)
 
   module _ (i : first ≡ 27) (h : count ≡ sequence_len after) where
-    sequence_cut : IsCut first after count
-    sequence_cut = rw (h, i) (sequence_len-cut 27 after (lit< tt))
-
-    pub sequence_fits : count + 1 ≤ length bs
-    sequence_fits = cut_fits sequence_cut
-
     pub sequence_boundary : IsUtf8 bs → IsCharBoundary bs (count + 1)
-    sequence_boundary u = cut_boundary u sequence_cut
+    sequence_boundary u = search (arith, cut_boundary, sequence_len-cut)
 
     pub sequence_first : (front back : Text) → front ≡ take (count + 1) bs → back ≡ drop (count + 1) bs
         → pieces bs ≡ SequenceText front ∷ pieces back
-    sequence_first front back p q = rw (p, q, e, i, h, add-one) (pieces-sequence after)
+    sequence_first front back p q = search (arith, add-one, pieces-sequence)
 
   module _ (i : first ≢ 27) (h : count ≡ front_len is_visible after) where
-    stretch_cut : IsCut first after count
-    stretch_cut = rw h (stretch_len-cut first after)
-
-    pub stretch_fits : count + 1 ≤ length bs
-    stretch_fits = cut_fits stretch_cut
-
     pub stretch_boundary : IsUtf8 bs → IsCharBoundary bs (count + 1)
-    stretch_boundary u = cut_boundary u stretch_cut
+    stretch_boundary u = cut_boundary u (rw h (stretch_len-cut first after))
 
     pub stretch_first : (front back : Text) → front ≡ take (count + 1) bs → back ≡ drop (count + 1) bs
         → pieces bs ≡ StretchText front ∷ pieces back
-    stretch_first front back p q = rw (p, q, e, h, add-one) (pieces-stretch first after (elim (eqb_tells first 27) [
-      | inl y ↦ absurd (i y.1)
-      | inr n ↦ n.0
-    ]))
+    stretch_first front back p q = search (arith, add-one, pieces-stretch, ne_eqb)
 
 pub ruleset piece_laws = (joined-pieces, stretches-pieces)
 
@@ -197,26 +174,20 @@ pub ruleset piece_laws = (joined-pieces, stretches-pieces)
 front_at : (t : Text) (n : ℕ) → n ≤ length t → ((k : ℕ) → k < n → (get_or t k 0 == 27) ≡ false)
     → (n ≡ length t) ⊎ ((get_or t n 0 == 27) ≡ true) → n ≡ front_len is_visible t
 front_at [] n h before ends = omega arith
-front_at (c ∷ t) zero h before ends = elim ends [ inl e ↦ absurd (omega arith) | inr e ↦ rw e refl ]
-front_at (c ∷ t) (suc n) h before ends =
-    let first : (c == 27) ≡ false = before 0 (omega arith) in
-    rw first (ap suc (front_at t n (omega arith) (λ k l. before (suc k) (omega arith)) (elim ends [
-      | inl e ↦ inl (omega arith)
-      | inr e ↦ inr e
-    ])))
+front_at (c ∷ t) zero h before ends = grind arith
+front_at (c ∷ t) (suc n) h before ends = let first : (c == 27) ≡ false = before 0 (omega arith) in
+    rw first (ap suc (front_at t n (omega arith) (λ k l. before (suc k) (omega arith)) (grind arith)))
 
 pub stretch_at : (t : Text) (i : ℕ) → NoneBefore (Passes (is_byte 27) t) 0 (length t) i × Passes (is_byte 27) t i
     → i ≡ front_len is_visible t
-stretch_at t i found = front_at t i (omega (arith, found.0.high))
-    (λ k l. false_from_ne_true _ (found.0.before k (omega arith) l)) (inr found.1)
+stretch_at t i found = search (arith, front_at, false_from_ne_true)
 
 pub stretch_whole : (t : Text) → Nowhere (Passes (is_byte 27) t) 0 (length t) → length t ≡ front_len is_visible t
-stretch_whole t none = front_at t (length t) (omega arith) (λ k l. false_from_ne_true _ (none k (omega arith) l))
-    (inl refl)
+stretch_whole t none = search (arith, front_at, false_from_ne_true)
 
 pub ruleset len_laws = (front_len-le, csi_end_len-le, csi_len-le, csi_len-final, sequence_len-le)
 
-pub ruleset first_piece = (pieces-empty, sequence_fits, sequence_boundary, stretch_fits, stretch_boundary)
+pub ruleset first_piece = (pieces-empty, sequence_len-le, front_len-le, sequence_boundary, stretch_boundary)
 
 pub ruleset visible_laws = (visible_after-free, visible-visible, visible-free)
 
@@ -226,7 +197,7 @@ pub ruleset fronts = (
   visible-sequence,
   front_boundary,
   front_stops,
-  sequence_fits,
+  sequence_len-le,
   sequence_boundary,
   nil_from_length,
 )
@@ -234,7 +205,7 @@ pub ruleset fronts = (
 -- the run goes on with a byte that passes
 pub front_len-on : (p : ℕ → Bool) (t : Text) (i none : ℕ) → i < length t → p (get_or t i none) ≡ true
     → front_len p (drop i t) ≡ suc (front_len p (drop (i + 1) t))
-front_len-on p t i none h e = rw (drop-cons t i none, e, add-one) refl
+front_len-on p t i none h e = search (arith, drop-cons, add-one)
 
 -- a run ends at a byte that does not pass, or with the text
 pub front_len-off : (p : ℕ → Bool) (t : Text) (i none : ℕ) → i < length t → p (get_or t i none) ≡ false

@@ -1,7 +1,7 @@
 -- What a cancel reason does to the outputs of tests (for `reasons_only_hide`, and in console_reporter for the lemmas of
 -- UninterruptedRuns, Exactness).
-use Rattle.std.proofs.Common.{◌≡◌, ℕ, ◌<◌, ◌∙◌, true, false, refl, sym, ap, arith, ◌==◌, nat_lt}
-use Rattle.{std.proofs.lemmas.Bool.false≢true, std.proofs.lemmas.Bool.Decides.nat_tests}
+use Rattle.std.proofs.Common.{◌≡◌, ℕ, ◌<◌, true, refl, arith}
+use Rattle.{std.proofs.lemmas.Bool.false≢true}
 use Rattle.{run_model.specs.Names.is_immediate, run_model.specs.Names.is_final, run_model.specs.Names.TestOutputDisplay}
 use Rattle.run_names.specs.declared.config.TestOutputDisplay.TheVariants.{Immediate, ImmediateFinal, Final, Never}
 use Rattle.text_parts.specs.Names.{IsOnlyHidden, IsSameBelowImmediate, output_timing, is_shown_at_end, is_shown_at_once}
@@ -11,10 +11,7 @@ use Rattle.text_parts.specs.declared.finish.OutputTiming.TheVariants.{Hidden, Sh
 -- a reason less severe than `TestFailureImmediate` gives the same timing as no reason
 pub row_below : (reason : ℕ) (result : ExecutionResultDescription) → reason < 5 → output_timing reason result ≡ Shown
 unfolding output_timing
-row_below reason result h =
-    let other : (reason == 5) ≡ false = grind (arith, nat_tests) in
-    let less : nat_lt reason 6 ≡ true = grind (arith, nat_tests) in
-    rw (other, less) refl
+row_below reason result h = grind arith
 
 at_once-immediate : (row : OutputTiming) (display : TestOutputDisplay) → timed_at_once row display ≡ true
     → is_immediate display ≡ true
@@ -42,9 +39,7 @@ unfolding output_timing timed_at_end
 only_hidden-at_end reason display result h = at_end-final (output_timing reason result) display h
 
 pub same-at_once : IsSameBelowImmediate is_shown_at_once
-same-at_once reason display result h = ap (λ row. timed_at_once row display)
-    (row_below reason result h ∙ sym (row_below 0 result (omega arith)))
+same-at_once reason display result h = search (arith, row_below)
 
 pub same-at_end : IsSameBelowImmediate is_shown_at_end
-same-at_end reason display result h = ap (λ row. timed_at_end row display)
-    (row_below reason result h ∙ sym (row_below 0 result (omega arith)))
+same-at_end reason display result h = search (arith, row_below)

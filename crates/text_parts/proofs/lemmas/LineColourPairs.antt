@@ -1,11 +1,11 @@
 -- The tests and setup scripts of lines, without escape characters (for all lines of units).
-use Rattle.std.proofs.Common.{◌≢◌, ◌∷◌, ℕ, Bool, true, false, arith, Option, None, Some}
+use Rattle.std.proofs.Common.{◌≢◌, Bool, true, false, arith, Option}
 use Rattle.{run_model.specs.Names.TestInstanceId, run_model.specs.Names.StressIndex, styled_text.specs.Style.styles_of}
 use Rattle.{report_words.specs.Names.IsPlainInstance, report_words.specs.Names.hbar_character}
 use Rattle.{report_words.proofs.lemmas.PartsInColour.AreFree}
 use Rattle.text_parts.specs.Names.{HasPlainCounter, padded_instance, instance_end, untimed_end, IsPlainScript, Script}
-use Rattle.text_parts.specs.Names.{shown_script, counter_where, finished_counter, next_where, started_counter}
-use Rattle.text_parts.specs.Names.{padded_where, padded_counter, CountedInstance, Settings, RunStats}
+use Rattle.text_parts.specs.Names.{shown_script, finished_counter, started_counter}
+use Rattle.text_parts.specs.Names.{padded_counter, CountedInstance, Settings, RunStats}
 use Rattle.report_text.proofs.lemmas.{FreeDetails.free-shell_words, InstanceColourPairs.colour_pair-instance_text}
 use Rattle.report_text.proofs.lemmas.{InstanceColourPairs.colour_pair-script_text}
 
@@ -15,29 +15,17 @@ painted b s = record s { styles = styles_of b }
 
 -- no counter holds an escape character
 pub plain-finished_counter : (s : Settings) (x : RunStats) → HasPlainCounter (finished_counter s x)
-plain-finished_counter s x = go s.counter_width
-  where
-    go : (w : Option ℕ) → HasPlainCounter (counter_where w x)
-    go None = tt
-    go (Some width) = tt
+plain-finished_counter s x = grind arith
 
 pub plain-started_counter : (s : Settings) (x : RunStats) → HasPlainCounter (started_counter s x)
-plain-started_counter s x = go s.counter_width
-  where
-    go : (w : Option ℕ) → HasPlainCounter (next_where w x)
-    go None = tt
-    go (Some width) = tt
+plain-started_counter s x = grind arith
 
 plain-hbar : (b : Bool) → hbar_character b ≢ 27
 plain-hbar true = λ e. omega (arith, e)
 plain-hbar false = λ e. omega (arith, e)
 
 pub plain-padded_counter : (s : Settings) → HasPlainCounter (padded_counter s)
-plain-padded_counter s = go s.counter_width
-  where
-    go : (w : Option ℕ) → HasPlainCounter (padded_where w s.theme_characters)
-    go None = tt
-    go (Some width) = plain-hbar s.theme_characters.is_unicode
+plain-padded_counter s = grind arith
 
 -- a test that a line names holds no escape character
 abbrev pub IsPlainTest : CountedInstance → Type 0
@@ -50,7 +38,7 @@ plain-padded s stress i h = (plain-padded_counter s, h)
 -- the ends of a test's lines
 pub free-instance_end : (k : Bool) (test : CountedInstance) → IsPlainTest test → AreFree k (instance_end test)
 unfolding instance_end
-free-instance_end k test h = (colour_pair-instance_text k test.stress_index test.counter test.instance h.0 h.1, tt)
+free-instance_end k test h = search colour_pair-instance_text
 
 pub free-untimed_end : (k : Bool) (test : CountedInstance) → IsPlainTest test → AreFree k (untimed_end test)
 unfolding untimed_end
@@ -58,5 +46,4 @@ free-untimed_end k test h = (tt, free-instance_end k test h)
 
 -- a script as its lines name it
 pub free-shown_script : (k : Bool) (x : Script) → IsPlainScript x → AreFree k (shown_script x)
-free-shown_script k x h = colour_pair-script_text k _ _ x.stress_index x.script_id _ h.0
-    (free-shell_words (x.program ∷ x.args) (h.1, h.2))
+free-shown_script k x h = search (colour_pair-script_text, free-shell_words)

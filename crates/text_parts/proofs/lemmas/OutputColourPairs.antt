@@ -17,24 +17,8 @@ use Rattle.styled_text.specs.declared.style.Style.TheVariants as style
 colour_pair-layout_in : (k : Bool) (kind : UnitKind) (b : Bool) (theme : ThemeCharacters) (s : Style)
     → IsColourPairOfLayout k (layout_in kind b theme s) (layout_in kind b theme style.Plain)
 unfolding without_end_spaces
-colour_pair-layout_in k kind true theme s = record {
-  stdout = colour_pair-bars k _ _ _ _ _;
-  stderr = colour_pair-bars k _ _ _ _ _;
-  combined = colour_pair-bars k _ _ _ _ _;
-  exec_fail = colour_pair-bars k _ _ _ _ _;
-  margin = refl;
-  free = refl;
-  blank = refl;
-}
-colour_pair-layout_in k kind false theme s = record {
-  stdout = colour_pair-bars k _ _ _ _ _;
-  stderr = colour_pair-bars k _ _ _ _ _;
-  combined = colour_pair-bars k _ _ _ _ _;
-  exec_fail = colour_pair-bars k _ _ _ _ _;
-  margin = refl;
-  free = refl;
-  blank = refl;
-}
+colour_pair-layout_in k kind true theme s = search colour_pair-bars
+colour_pair-layout_in k kind false theme s = search colour_pair-bars
 
 -- without colour each style is plain
 plain_style : (x : ExecutionResultDescription) (b : Bool) → header_style (styles_of false) x b ≡ style.Plain
@@ -53,9 +37,9 @@ pub free-unit_output : (k : Bool) (s : Settings) (kind : UnitKind) (is_retry : B
     → IsPlainResult x → IsPlainWritten k w
     → AreFree k (unit_output s kind is_retry x w)
 unfolding unit_output info_line shown_info_line
-free-unit_output k s kind is_retry x w h j =
-    let layout = colour_pair-layout_in k kind s.no_output_indent s.theme_characters
-    (header_style (styles_of true) x is_retry) in (
-      rw plain_style (colour_pair-execution_output k s.unit_output _ _ layout w j),
-      ((tt, (free-info_text k false x h, tt)), tt),
-    )
+free-unit_output k s kind is_retry x w h j = search (
+  colour_pair-layout_in,
+  plain_style,
+  colour_pair-execution_output,
+  free-info_text,
+)

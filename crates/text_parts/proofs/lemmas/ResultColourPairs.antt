@@ -67,8 +67,10 @@ free-abort_line k outcome.Pass h = tt
 free-abort_line k (outcome.Leak result) h = tt
 free-abort_line k (outcome.Fail (ExitCode code) leaked) h = tt
 free-abort_line k (outcome.Fail (Abort (UnixSignal signal name)) leaked) h = tt
-free-abort_line k (outcome.Fail (Abort (WindowsNtStatus code message)) leaked) h =
-    (tt, (tt, (tt, (tt, (colour_pair-free k _ (free-nt_message message h), tt)))))
+free-abort_line k (outcome.Fail (Abort (WindowsNtStatus code message)) leaked) h = search (
+  colour_pair-free,
+  free-nt_message,
+)
 free-abort_line k (outcome.Fail (Abort WindowsJobObject) leaked) h = tt
 free-abort_line k outcome.ExecFail h = tt
 free-abort_line k (outcome.Timeout result) h = tt
@@ -85,8 +87,10 @@ unfolding signal_info
 free-info_text k b outcome.Pass h = tt
 free-info_text k b (outcome.Leak result) h = tt
 free-info_text k b (outcome.Fail (ExitCode code) leaked) h = tt
-free-info_text k b (outcome.Fail (Abort (UnixSignal signal name)) leaked) h =
-    (tt, (tt, (tt, (colour_pair-free k _ (free-signal_name name h), tt))))
+free-info_text k b (outcome.Fail (Abort (UnixSignal signal name)) leaked) h = search (
+  colour_pair-free,
+  free-signal_name,
+)
 free-info_text k b (outcome.Fail (Abort (WindowsNtStatus code message)) leaked) h = tt
 free-info_text k b (outcome.Fail (Abort WindowsJobObject) leaked) h = tt
 free-info_text k b outcome.ExecFail h = tt

@@ -1,17 +1,18 @@
 -- Captured output with its highlight, in colour and plain (for `colour_pair-shown_stream`).
-use Rattle.std.proofs.Common.{◌≡◌, ℕ, ◌<◌, Bool, true, false, List, [], ◌∷◌, ◌++◌, refl, sym, ◌∙◌, ap, ap₂, arith, inl}
-use Rattle.std.proofs.Common.{inr, append_assoc, append-nil, Option, None, Some, length, take, drop, take-append-drop}
-use Rattle.std.proofs.Common.{drop-drop, length-drop, ◌==◌, eqb-true}
+use Rattle.std.proofs.Common.{◌≡◌, ◌<◌, Bool, true, false, List, [], ◌∷◌, ◌++◌, refl, sym, ◌∙◌, ap, arith}
+use Rattle.std.proofs.Common.{append_assoc, append-nil, Option, None, Some, length, take, drop, take-append-drop}
+use Rattle.std.proofs.Common.{drop-drop, length-drop, ◌==◌}
 use Rattle.styled_text.specs.Names.{AllByRecursion, flat_map, without_trailing_newline, ends_in_line_feed}
 use Rattle.styled_text.specs.Names.{visible_after, visible, HasNoEscape, highlight_end, indent, plain, styles_of}
-use Rattle.styled_text.specs.Names.{reset_color, style_suffix, Text, onto_first_line, whole_lines, without_end_spaces}
+use Rattle.styled_text.specs.Names.{reset_color, style_suffix, Text, onto_first_line, whole_lines}
 use Rattle.report_words.specs.Names.{Style, IsColourPair, HoldsIf}
-use Rattle.{std.proofs.lemmas.Bool.cases_Bool, run_model.specs.Names.Subslice, run_model.specs.Names.decoded_text}
+use Rattle.{run_model.specs.Names.Subslice, run_model.specs.Names.decoded_text}
 use Rattle.unit_report.specs.Captured.{plain_output, reset_output, highlighted_output, is_valid, highlight_stop}
 use Rattle.unit_report.specs.Captured.{highlighted_by, coloured_output, captured}
 use Rattle.unit_report.specs.{HighlightedLines.body_len, HighlightedLines.highlighted_line}
 use Rattle.unit_report.specs.{HighlightedLines.highlighted_lines, PlainOutputs.IsInside, PlainOutputs.IsPlainStream}
 use Rattle.styled_text.proofs.lemmas.{Pieces.free_parts, Pieces.visible-free, IndentedEndSpaces.IsBlank}
+use Rattle.styled_text.proofs.lemmas.{TrailingNewlines.end-after}
 use Rattle.styled_text.proofs.lemmas.{Widths.free_both, Widths.visible-free_append}
 use Rattle.report_words.proofs.lemmas.FreeWords.{free-take, free-drop, free-indent, free-visible}
 use Rattle.report_words.proofs.lemmas.ColourPairs.{prefix-append, suffix-append, reset-append, colour_pair-indent}
@@ -31,11 +32,7 @@ pub record IsEndedColourPair (k : Bool) (c u : Text) : Type 0 where
 
 coloured-indent : (p : Text) (c u : Text) → HasNoEscape p → IsBlank p → IsEndedColour c u
     → IsColourPair true (indent p true c) (indent p true u)
-coloured-indent p c u h blank e =
-    rw (e.coloured_is, e.uncoloured_is) (colour_pair-indent true p true e.coloured e.uncoloured h blank (record {
-      coloured = λ q. ap without_end_spaces e.same;
-      plain = λ q. cc;
-    }))
+coloured-indent p c u h blank e = grind (arith, colour_pair-indent)
 
 pub colour_pair-indent_ended : (k : Bool) (p : Text) (c u : Text) → HasNoEscape p → IsBlank p → IsEndedColourPair k c u
     → IsColourPair k (indent p true c) (indent p true u)
@@ -47,17 +44,15 @@ colour_pair-indent_ended k p c u h blank e = record {
 free-without_trailing_newline : (t : Text) → HasNoEscape t → HasNoEscape (without_trailing_newline t)
 unfolding without_trailing_newline
 free-without_trailing_newline [] h = refl
-free-without_trailing_newline (c ∷ []) h = elim (cases_Bool (c == 10)) [ inl e ↦ rw e refl | inr n ↦ rw n h ]
-free-without_trailing_newline (c ∷ d ∷ t) h = let both = free_parts c (d ∷ t) h in rw
-    (both.0, free-without_trailing_newline (d ∷ t) both.1) refl
+free-without_trailing_newline (c ∷ []) h = grind arith
+free-without_trailing_newline (c ∷ d ∷ t) h = let both = free_parts c (d ∷ t) h in
+    grind (arith, free-without_trailing_newline (d ∷ t) both.1)
 
 -- the text without a highlight, before its line feed
 visible-reset : (t : Text) → HasNoEscape t
     → visible (without_trailing_newline t ++ reset_color) ≡ without_trailing_newline t
 unfolding visible_after
-visible-reset t h = visible-free_append (without_trailing_newline t) reset_color (free-without_trailing_newline t h)
-    ∙ ap (λ x. without_trailing_newline t ++ x) (ap visible (sym (append-nil reset_color)) ∙ reset-append [])
-    ∙ append-nil (without_trailing_newline t)
+visible-reset t h = search (visible-free_append, free-without_trailing_newline, append-nil, reset-append)
 
 ended-reset : (t : Text) → HasNoEscape t → IsEndedColour (reset_output t) (plain_output t)
 unfolding reset_output plain_output
@@ -73,26 +68,13 @@ no_trailing_newline : (t : Text) → ends_in_line_feed t ≡ false → without_t
 unfolding without_trailing_newline ends_in_line_feed
 no_trailing_newline [] h = refl
 no_trailing_newline (c ∷ []) h = rw h refl
-no_trailing_newline (c ∷ d ∷ t) h = ap (λ l. c ∷ l) (no_trailing_newline (d ∷ t) h)
-
-without_trailing_newline-more : (t : Text) (d : ℕ) (u : Text)
-    → without_trailing_newline (t ++ d ∷ u) ≡ t ++ without_trailing_newline (d ∷ u)
-unfolding without_trailing_newline
-without_trailing_newline-more [] d u = refl
-without_trailing_newline-more (c ∷ []) d u = refl
-without_trailing_newline-more (c ∷ e ∷ t) d u = ap (λ l. c ∷ l) (without_trailing_newline-more (e ∷ t) d u)
+no_trailing_newline (c ∷ d ∷ t) h = cc (no_trailing_newline (d ∷ t) h)
 
 without_trailing_newline-inside : (t u : Text) → (ends_in_line_feed (t ++ u) ≡ true → 0 < length u)
     → without_trailing_newline (t ++ u) ≡ t ++ without_trailing_newline u
 unfolding without_trailing_newline
-without_trailing_newline-inside t [] h = elim (cases_Bool (ends_in_line_feed (t ++ []))) [
-  | inl y ↦ absurd (let l = h y in omega arith)
-  | inr n ↦ no_trailing_newline (t ++ []) n
-]
-without_trailing_newline-inside t (d ∷ u) h = without_trailing_newline-more t d u
-
-line_parts : (l : Text) (n : ℕ) → take n l ++ drop n l ≡ l
-line_parts l n = take-append-drop n l
+without_trailing_newline-inside t [] h = grind (arith, no_trailing_newline)
+without_trailing_newline-inside t (d ∷ u) h = (end-after t d u).0
 
 lit_line-append : (s : Style) (l u : Text) → HasNoEscape l → visible (highlighted_line s l ++ u) ≡ l ++ visible u
 unfolding highlighted_line
@@ -102,7 +84,7 @@ lit_line-append s l u h =
     prefix-append s (take n l ++ (style_suffix s ++ (drop n l ++ u)))
     ∙ visible-free_append (take n l) (style_suffix s ++ (drop n l ++ u)) body
     ∙ ap (λ t. take n l ++ t) (suffix-append s (drop n l ++ u) ∙ visible-free_append (drop n l) u (free-drop n l h))
-    ∙ sym (append_assoc (take n l) (drop n l) (visible u)) ∙ ap (λ t. t ++ visible u) (line_parts l n)))
+    ∙ sym (append_assoc (take n l) (drop n l) (visible u)) ∙ ap (λ t. t ++ visible u) (take-append-drop n l)))
 
 abbrev concat_lines : List Text → Text
 concat_lines [] = []
@@ -112,11 +94,7 @@ whole_lines-are : (t : Text) → HasNoEscape t
     → AllByRecursion HasNoEscape (whole_lines t) × (concat_lines (whole_lines t) ≡ t)
 unfolding whole_lines
 whole_lines-are [] h = (tt, refl)
-whole_lines-are (c ∷ t) h = let both = free_parts c t h in let more = whole_lines-are t both.1 in
-    elim (cases_Bool (c == 10)) [
-      | inl e ↦ rw e ((refl, more.0), ap₂ (λ d l. d ∷ l) (sym (eqb-true c 10 e)) more.1)
-      | inr n ↦ rw n (go both.0 (whole_lines t) more.0, same (whole_lines t) ∙ ap (λ l. c ∷ l) more.1)
-    ]
+whole_lines-are (c ∷ t) h = let both = free_parts c t h in grind (arith, whole_lines-are t both.1)
   where
     go : (c == 27) ≡ false → (ls : List Text) → AllByRecursion HasNoEscape ls
         → AllByRecursion HasNoEscape (onto_first_line c ls)
@@ -135,8 +113,7 @@ lit_lines-append s (l ∷ ls) u h = simp append_assoc
 
 highlighted-append : (s : Style) (t u : Text) → HasNoEscape t → visible (highlighted_lines s t ++ u) ≡ t ++ visible u
 unfolding highlighted_lines
-highlighted-append s t u h = let lines = whole_lines-are t h in lit_lines-append s (whole_lines t) u lines.0
-    ∙ ap (λ x. x ++ visible u) lines.1
+highlighted-append s t u h = grind (arith, whole_lines-are, lit_lines-append)
 
 -- a highlight between two texts
 ended-parts : (s : Style) (front lit back : Text) → HasNoEscape front → HasNoEscape lit → HasNoEscape back
@@ -146,8 +123,7 @@ unfolding highlighted_output plain reset_output plain_output
 ended-parts s front lit back a b d inside = record {
   coloured = front ++ (reset_color ++ (highlighted_lines s lit ++ (without_trailing_newline back ++ reset_color)));
   uncoloured = (front ++ lit) ++ without_trailing_newline back;
-  coloured_is = assoc_five front reset_color (highlighted_lines s lit) (without_trailing_newline back) reset_color
-      (10 ∷ []);
+  coloured_is = simp append_assoc;
   uncoloured_is = ap (λ x. without_trailing_newline x ++ 10 ∷ [])
       (visible-free ((front ++ lit) ++ back) (free_both (front ++ lit) back (free_both front lit a b) d))
       ∙ ap (λ x. x ++ 10 ∷ []) (without_trailing_newline-inside (front ++ lit) back inside);
@@ -158,9 +134,6 @@ ended-parts s front lit back a b d inside = record {
       ∙ ap (λ x. lit ++ x) (visible-reset back d))
       ∙ sym (append_assoc front lit (without_trailing_newline back));
 }
-  where
-    assoc_five : (p q r x y z : Text) → p ++ (q ++ (r ++ (x ++ (y ++ z)))) ≡ (p ++ (q ++ (r ++ (x ++ y)))) ++ z
-    assoc_five p q r x y z = simp append_assoc refl
 
 ended-highlighted : (s : Style) (t : Text) (h : Subslice) → HasNoEscape t → IsInside t h → is_valid t h ≡ true
     → IsEndedColour (highlighted_by s t h) (plain_output t)
@@ -182,22 +155,15 @@ coloured-captured : (t : Text) (o : Option Subslice) → HasNoEscape t → Holds
     → IsEndedColour (captured (styles_of true) t o) (captured (styles_of false) t o)
 unfolding captured coloured_output
 coloured-captured t None free inside = ended-reset t free
-coloured-captured t (Some h) free inside = elim (cases_Bool (is_valid t h)) [
-  | inl y ↦ rw y (ended-highlighted (styles_of true).fail t h free inside y)
-  | inr n ↦ rw n (ended-reset t free)
-]
+coloured-captured t (Some h) free inside = grind (arith, ended-highlighted, ended-reset)
 
 -- the plain one holds no escape character, whatever the output and its highlight are
 plain-captured : (t : Text) (o : Option Subslice) → HasNoEscape (captured (styles_of false) t o)
 unfolding captured plain_output
-plain-captured t o = free_both (without_trailing_newline (visible t)) (10 ∷ [])
-    (free-without_trailing_newline (visible t) (free-visible t)) refl
+plain-captured t o = search (free_both, free-without_trailing_newline, free-visible)
 
 pub ended-captured : (k : Bool) (bytes : Text) (o : Option Subslice) → IsPlainStream k o bytes
     → IsEndedColourPair k (captured (styles_of true) (decoded_text bytes) o) (captured (styles_of false)
     (decoded_text bytes) o)
-ended-captured true bytes o h = record {
-  coloured = λ q. coloured-captured (decoded_text bytes) o h.0 h.1;
-  plain = λ q. cc;
-}
-ended-captured false bytes o h = record { coloured = λ q. cc; plain = λ q. plain-captured (decoded_text bytes) o }
+ended-captured true bytes o h = grind (arith, coloured-captured)
+ended-captured false bytes o h = grind (arith, plain-captured)

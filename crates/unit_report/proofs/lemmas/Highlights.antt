@@ -1,5 +1,5 @@
 -- Highlights that are valid (for `split_highlight`).
-use Rattle.std.proofs.Common.{◌≡◌, ℕ, true, false, ◌==◌, ◌&&◌, Bool, refl, ◌∙◌, arith, drop, drop-drop}
+use Rattle.std.proofs.Common.{◌≡◌, ℕ, true, false, ◌==◌, arith, drop, drop-drop}
 use Rattle.unit_report.specs.Captured.{ends_character, highlight_stop, is_valid}
 use Rattle.{std.proofs.lemmas.Bool.Decides.nat_tests, std.proofs.lemmas.Str.IsCharBoundary-from_rest}
 use Rattle.{run_model.specs.Outputs.Subslice}
@@ -11,22 +11,16 @@ boundary-ends n t (l, b) = grind (arith, nat_tests)
 -- a text and a part of it
 module _ (t : Text) (h : Subslice) where
   pub part_absent : starts_with ◌==◌ (drop h.start t) h.bytes ≡ false → is_valid t h ≡ false
-  part_absent e = rw e (none (ends_character h.start t))
-    where
-      none : (b : Bool) → (b && false) ≡ false
-      none true = refl
-      none false = refl
+  part_absent e = grind arith
 
   module _ (end : ℕ) (e : end ≡ highlight_end h.bytes) where
     pub part_valid : IsCharBoundary t h.start → starts_with ◌==◌ (drop h.start t) h.bytes ≡ true
         → IsCharBoundary (drop h.start t) end → is_valid t h ≡ true
-    part_valid place here stop = rw (
+    part_valid place here stop = cc (
       boundary-ends h.start t place,
-      here,
       boundary-ends (highlight_stop h) t
           (rw e at (IsCharBoundary-from_rest t h.start end place.0 stop)),
     )
-        refl
 
     pub part_rest : drop end (drop h.start t) ≡ drop (highlight_stop h) t
-    part_rest = drop-drop end h.start t ∙ rw e refl
+    part_rest = search (arith, drop-drop)

@@ -1,4 +1,5 @@
 -- The output of a unit, in colour and plain (for the output of attempts and of responses).
+use Rattle.std.proofs.Common.{arith}
 use Rattle.std.proofs.Common.{◌≡◌, ℕ, Bool, true, false, refl, List, [], ◌∷◌, Option, None, Some, codes}
 use Rattle.styled_text.specs.Names.{AllByRecursion, flat_map, option_and_then, Text, HasNoEscape, styles_of}
 use Rattle.report_words.specs.Names.{Style, Styles, IsColourPair, EndsLine, drawn_given, words, ◌⧺◌, HoldsIf}
@@ -55,16 +56,16 @@ colour_pair-label k s n = search (colour_pairs, free-output_name_text) depth 12
 free-causes : (causes : List Text) → AllByRecursion HasNoEscape causes → HasNoEscape (flat_map cause_text causes)
 unfolding cause_text
 free-causes [] h = refl
-free-causes (cause ∷ causes) h = let first = h.0 in let more = free-causes causes h.1 in search frees depth 12
+free-causes (cause ∷ causes) h = search (frees, free-causes causes h.1)
 
 free-causes_text : (causes : List Text) → AllByRecursion HasNoEscape causes → HasNoEscape (causes_text causes)
 unfolding causes_text
 free-causes_text [] h = refl
-free-causes_text (cause ∷ causes) h = let more = free-causes (cause ∷ causes) h in search frees depth 12
+free-causes_text (cause ∷ causes) h = search (free-causes, frees)
 
 free-error_chain_text : (chain : MessageAndCauses) → IsPlainChain chain → HasNoEscape (error_chain_text chain)
 unfolding error_chain_text
-free-error_chain_text chain h = let first = h.0 in let more = free-causes_text chain.causes h.1 in search frees depth 12
+free-error_chain_text chain h = search (free-causes_text, frees)
 
 -- two layouts that differ in the styles of their headers; the second has no styles
 pub record IsColourPairOfLayout (k : Bool) (l m : OutputLayout) : Type 0 where
@@ -87,23 +88,25 @@ module _ (k : Bool) (margin : Text) (free : HasNoEscape margin) (blank : IsBlank
       → IsColourPair k (shown_stream (styles_of true) margin h bytes o) (shown_stream (styles_of false) margin j bytes
       o)
   unfolding shown_stream
-  colour_pair-shown_stream bytes o p = let shown = colour_pair-indent_ended k margin _ _ free blank
-      (ended-captured k bytes o p) in colour_pair-append k _ _ _ _ header (search colour_pairs)
+  colour_pair-shown_stream bytes o p = search (
+    colour_pair-indent_ended,
+    ended-captured,
+    colour_pair-append,
+    colour_pairs,
+  )
 
   colour_pair-present_stream : (bytes : Text) (o : Option Subslice) → IsPlainStream k o bytes
       → IsColourPair k (present_stream r (styles_of true) margin h bytes o) (present_stream r (styles_of false) margin
       j bytes o)
   unfolding present_stream
-  colour_pair-present_stream bytes o p = colour_pair-if k _ _ _ _ _ (colour_pair-shown_stream bytes o p)
-      (colour_pair-none k)
+  colour_pair-present_stream bytes o p = search (colour_pair-if, colour_pair-shown_stream, colour_pair-none)
 
   colour_pair-stream_text : (n : OutputName) (bytes : Option Text) (o : Option Subslice)
       → HoldsIf (IsPlainStream k o) bytes
       → IsColourPair k (stream_text r (styles_of true) margin h n bytes o) (stream_text r (styles_of false) margin j n
       bytes o)
   unfolding stream_text
-  colour_pair-stream_text n None o p = colour_pair-if k _ _ _ _ _ (colour_pair-not_captured_text k n)
-      (colour_pair-none k)
+  colour_pair-stream_text n None o p = search (colour_pair-if, colour_pair-not_captured_text, colour_pair-none)
   colour_pair-stream_text n (Some bytes) o p = colour_pair-present_stream bytes o p
 
 module _ (k : Bool) (r : UnitOutputReporter) (l m : OutputLayout) (layout : IsColourPairOfLayout k l m) where
@@ -113,30 +116,31 @@ module _ (k : Bool) (r : UnitOutputReporter) (l m : OutputLayout) (layout : IsCo
       → IsColourPair k (both_streams r (styles_of true) l stdout stderr o)
       (both_streams r (styles_of false) m stdout stderr o)
   unfolding both_streams
-  colour_pair-both_streams stdout stderr o p q =
-      let out = colour_pair-stream_text k m.output_indent layout.free layout.blank r l.stdout_header m.stdout_header
-      layout.stdout name.Stdout stdout _ p in
-      let err = colour_pair-stream_text k m.output_indent layout.free layout.blank r l.stderr_header m.stderr_header
-      layout.stderr name.Stderr stderr _ q in
-      rw layout.margin (search (colour_pairs, out, err) depth 12)
+  colour_pair-both_streams stdout stderr o p q = grind (arith, colour_pair-stream_text, colour_pairs)
 
   colour_pair-child_output : (output : ChildOutputDescription) (o : Option Highlight) → IsPlainOutput k output o
       → IsColourPair k (child_output r (styles_of true) l output o) (child_output r (styles_of false) m output o)
   unfolding child_output split_text
-  colour_pair-child_output (Split None None) o p = colour_pair-if k _ _ _ _ _
-      (colour_pair-not_captured_text k name.Output) (colour_pair-both_streams None None o tt tt)
+  colour_pair-child_output (Split None None) o p = search (
+    colour_pair-if,
+    colour_pair-not_captured_text,
+    colour_pair-both_streams,
+  )
   colour_pair-child_output (Split None (Some stderr)) o p = colour_pair-both_streams None (Some stderr) o tt p.1
   colour_pair-child_output (Split (Some stdout) stderr) o p = colour_pair-both_streams (Some stdout) stderr o p.0 p.1
-  colour_pair-child_output (Combined output) o p = rw layout.margin
-      (colour_pair-present_stream k m.output_indent layout.free layout.blank r l.combined_header m.combined_header
-      layout.combined output _ p)
+  colour_pair-child_output (Combined output) o p = grind (arith, colour_pair-present_stream)
   colour_pair-child_output NotLoaded o p = colour_pair-none k
 
   colour_pair-errors_block : (chain : MessageAndCauses) → IsPlainChain chain
       → IsColourPair k (errors_block l chain) (errors_block m chain)
   unfolding errors_block
-  colour_pair-errors_block chain p = let free = layout.free in let text = free-error_chain_text chain p in rw
-      layout.margin (colour_pair-append k _ _ _ _ layout.exec_fail (search (colour_pairs, colour_pair-free) depth 12))
+  colour_pair-errors_block chain p = grind (
+    arith,
+    free-error_chain_text,
+    colour_pair-append,
+    colour_pairs,
+    colour_pair-free,
+  )
 
   colour_pair-errors_text : (errors : Option MessageAndCauses) → HoldsIf IsPlainChain errors
       → IsColourPair k (errors_text l errors) (errors_text m errors)
@@ -148,10 +152,12 @@ module _ (k : Bool) (r : UnitOutputReporter) (l m : OutputLayout) (layout : IsCo
       → IsPlainWritten k w
       → IsColourPair k (execution_output r (styles_of true) l w) (execution_output r (styles_of false) m w)
   unfolding execution_output
-  colour_pair-execution_output (Output result output errors o) p = let first = colour_pair-errors_text errors p.0 in let
-      second = colour_pair-child_output output o p.1 in search colour_pairs depth 12
-  colour_pair-execution_output (StartError chain) p = let first = colour_pair-errors_block chain p in search
-      colour_pairs depth 12
+  colour_pair-execution_output (Output result output errors o) p = search (
+    colour_pair-errors_text,
+    colour_pair-child_output,
+    colour_pairs,
+  )
+  colour_pair-execution_output (StartError chain) p = search (colour_pair-errors_block, colour_pairs)
 
 -- the output of a unit ends in an empty line
 pub ends-execution_output : (r : UnitOutputReporter) (s : Styles) (layout : OutputLayout) (w :

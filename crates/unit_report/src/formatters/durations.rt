@@ -1,7 +1,7 @@
 //! Durations as the lines of a report show them.
 
 ghost use Rattle.unit_report.specs.Durations.{bracketed_clock, bracketed_duration, duration_by, slow_duration};
-ghost use Rattle.{std.specs.Prelude.Some, styled_text.specs.Names.seconds, styled_text.specs.Names.Puts};
+ghost use Rattle.{std.specs.Prelude.Some, styled_text.specs.Names.seconds};
 
 use report_words::durations::write_clock_between;
 use run_model::time::Nanos;

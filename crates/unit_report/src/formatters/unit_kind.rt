@@ -1,7 +1,7 @@
 //! The word for a unit.
 
 ghost use Rattle.std.specs.Prelude.{◌≡◌, Some};
-ghost use Rattle.{writers.specs.Writer.Puts, unit_report.specs.UnitKind.unit_word};
+ghost use Rattle.{unit_report.specs.UnitKind.unit_word};
 
 use run_model::config::NextestRunMode;
 use run_model::unit::UnitKind;

@@ -1,9 +1,9 @@
 //! What is shown of the output of a test or a setup script.
 
 ghost use Rattle.std.specs.Prelude.{◌≡◌, ◌∷◌, ◌++◌, [], true};
-ghost use Rattle.styled_text.specs.Names.{option_map, option_and_then, indent, Puts};
-ghost use Rattle.{unit_report.specs.Captured.captured, unit_report.specs.ErrorChain.error_chain_text};
-ghost use Rattle.run_model.specs.Outputs.{combined_slice, has_loaded_output, is_loaded, stderr_slice, stdout_slice};
+ghost use Rattle.styled_text.specs.Names.{option_map, Puts};
+ghost use Rattle.{unit_report.specs.Captured.captured};
+ghost use Rattle.run_model.specs.Outputs.{has_loaded_output, is_loaded};
 ghost use Rattle.run_model.specs.Outputs.{subslice_value};
 ghost use Rattle.unit_report.specs.UnitOutput.{both_streams, child_output, errors_block, errors_text, execution_output};
 ghost use Rattle.unit_report.specs.UnitOutput.{layout_of, not_captured_text, present_stream, shown_stream, split_text};

@@ -8,7 +8,7 @@ returns-in_ok-extend_from_slice-in-Some g c = λ text known.
     let left = buffered_first (reader_capacity c.args.reader.now == 0) (reader_buffer c.args.reader.now)
     (g.R.Read.remaining c.args.reader.now.inner) text known in
     let bytes = rw known at c.consume.ensures.bytes in
-    let feed = rw (c.buffer-buffered.ensures, c.in-Some.is) at c.end_of_lines.ensures in
+    let feed = rw (c.buffer-buffered.ensures, c.in-Some.is) at c.end_of_lines.ensures.feed in
     let taken = lines_taken c.in-Some.at c.args.piece.now.items (reader_buffer c.args.reader.now) text left feed in (
       drop (c.in-Some.at + 1) text,
       bytes (omega (arith, feed.0)),
@@ -18,12 +18,12 @@ returns-in_ok-extend_from_slice-in-Some g c = λ text known.
 
 pub slice_bounds-extend_from_slice-end : goal.slice_bounds-extend_from_slice-end
 slice_bounds-extend_from_slice-end g c =
-    let within = (rw c.in-Some.is at c.end_of_lines.ensures).0 in
+    let within = (rw c.in-Some.is at c.end_of_lines.ensures.feed).0 in
     search rules
 
 pub overflow_add-at : goal.overflow_add-at
 overflow_add-at g c =
-    let within = (rw c.in-Some.is at c.end_of_lines.ensures).0 in
+    let within = (rw c.in-Some.is at c.end_of_lines.ensures.feed).0 in
     search rules
 
 pub returns-in_ok-extend_from_slice-in-None-2 : goal.returns-in_ok-extend_from_slice-in-None-2
@@ -31,7 +31,7 @@ returns-in_ok-extend_from_slice-in-None-2 g c = λ text known.
     let left = buffered_first (reader_capacity c.args.reader.now == 0) (reader_buffer c.args.reader.now)
     (g.R.Read.remaining c.args.reader.now.inner) text known in
     let bytes = rw known at c.consume-in-None-2.ensures.bytes in
-    let none = rw (c.buffer-buffered.ensures, c.in-None.is) at c.end_of_lines.ensures in
+    let none = rw (c.buffer-buffered.ensures, c.in-None.is) at c.end_of_lines.ensures.feed in
     let size = ap length c.buffer-buffered.ensures in
     rw (c.in_ok-extend_from_slice-in-None-2.ensures.items, c.buffer-buffered.ensures) (
       drop (length c.buffer-buffered.result.now) text,

@@ -3,7 +3,7 @@ use Rattle.recorded.specs.Names.{counted, is_undamaged, outputs_len, wanted}
 use Rattle.{scene_reader.specs.Names.call_by_names}
 use Rattle.recorded.{proofs.lemmas.Fields.IsLeft, proofs.lemmas.Fields.IsLeftEvent}
 
--- the outputs so far, of those that are loaded, are undamaged and in the event, and the others will be
+-- Every wanted output so far is undamaged and in the event; what remains is still to be loaded.
 abbrev pub invariant-loop-placed : Rattle.recorded.proofs.events.load_wanted.Given.invariant-loop-placed
 invariant-loop-placed g l = record {
   undamaged : IsLeft is_undamaged (g.O.ReadAt.recorded l.fn.outputs.source)

@@ -17,7 +17,7 @@ returns-clause-pushed c =
     let character = encode_utf8 c.decode_lossy-character.result.0 in
     let some : 0 < length c.args.bytes.now = grind (arith, nat_tests, c.if-is_empty.false, c.is_empty.ensures) in
     let first = decoded-char c.args.bytes.now some in
-    ap (λ t. t ++ decoded_text rest) c.in_ok-push.ensures.bytes
+    ap (λ t. t ++ decoded_text rest) c.in_ok-push_decoded.ensures
     ∙ append_assoc old character (decoded_text rest)
     ∙ ap (λ t. old ++ t) (rw (
       c.split_at.ensures.back,

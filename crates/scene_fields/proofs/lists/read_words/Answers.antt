@@ -94,5 +94,5 @@ returns c =
     let some : bytes_eq c.args.field.now (codes "-") ≡ false = sym c.eq.ensures ∙ c.if-eq.false in
     let all = pushed _ _ _ _ c.in_ok-push-2.ensures.items c.in_ok-push_str-2.ensures.bytes in
     rw some
-    (ap (λ ws. Some (map string_bytes ws)) c.shrink_to_fit.ensures.items ∙ ap (λ ws. Some ws) all
+    (ap (λ ws. Some ws) all
     ∙ sym (word-ends-list _ _ _ _ c.loop-plain.invariant.read c.in_default.ensures.parts))

@@ -1,15 +1,15 @@
-use Rattle.std.proofs.Common.{◌∙◌, inl, refl}
+use Rattle.std.proofs.Common.{◌∙◌, refl}
 use Rattle.scene_follower.{proofs.Common.Appends-nil, proofs.Common.OutOfMemory, specs.Names.device}
-use Rattle.scene_follower.{proofs.lemmas.FollowedRuns.nothing_stops}
+use Rattle.scene_follower.{proofs.lemmas.FollowedRuns.nothing_stops, proofs.lemmas.ReadLines.whole_left}
 use Rattle.scene_follower.proofs.follow.follow_scene.Goals as goal
 
 pub returns-in-Ok-clause-ok : goal.returns-in-Ok-clause-ok
 returns-in-Ok-clause-ok g c = λ text known. c.follow_source.ensures.ok 0 _
-    (_, refl, (text, c.in-Ok.ensures ∙ known, inl refl))
+    (whole_left _ _ c.in-Ok.ensures.1 text (c.in-Ok.ensures.0 ∙ known))
 
 pub returns-in-Ok-clause-err : goal.returns-in-Ok-clause-err
 returns-in-Ok-clause-err g c = λ text known. c.follow_source.ensures.err 0 _
-    (_, refl, (text, c.in-Ok.ensures ∙ known, inl refl))
+    (whole_left _ _ c.in-Ok.ensures.1 text (c.in-Ok.ensures.0 ∙ known))
 
 pub returns-in-Err-clause-err : goal.returns-in-Err-clause-err
 returns-in-Err-clause-err g c = λ text known. nothing_stops device device c.args.options.now _ _ (Appends-nil _)

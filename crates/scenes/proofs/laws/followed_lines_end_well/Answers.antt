@@ -1,5 +1,5 @@
 use Rattle.scene_follower.specs.Names.{device}
-use Rattle.scenes.proofs.lemmas.EndsWell.{lines_stop}
+use Rattle.scenes.proofs.lemmas.Laws.{lines_stop}
 
 pub returns : Rattle.scenes.proofs.laws.followed_lines_end_well.Goals.returns
 returns g c = λ options all old new fault. lines_stop device device options

@@ -1,19 +1,17 @@
-use Rattle.std.proofs.Common.{◌≡◌, inr, rules}
+use Rattle.std.proofs.Common.{inr}
 use Rattle.std.proofs.lemmas.Result.{IfErr-weaker}
 use Rattle.scene_follower.proofs.Common.{text_lines}
+use Rattle.scenes.proofs.lemmas.Gathered.{delivered_printed, front_printed}
 use Rattle.scenes.proofs.report.report_gathered.Goals as goal
 
-pub returns-clause-ok : goal.returns-clause-ok
-returns-clause-ok g c = λ text held known.
-    let run = c.in-Ok.ensures.run text known in
-    let same = c.report_rest-lent.ensures.same_reference (text_lines text) run in
-    let there : c.into_inner-writer.result.0 ≡ c.report_rest-lent.result.1.now.writer = search rules in
-    rw (there, ← c.in-Ok-new.ensures.ok.0) (c.report_rest-lent.ensures.ok (text_lines text) held run)
+pub returns-in-Ok-clause-ok : goal.returns-in-Ok-clause-ok
+returns-in-Ok-clause-ok g c = λ text held known.
+    delivered_printed c.args.options.now c.requires.no_store (text_lines text) _ (c.in-Ok.ensures.report text known)
+    _ _ held _ (rw c.as_str.ensures.value at c.deliver.ensures.ok)
 
-pub returns-clause-err : goal.returns-clause-err
-returns-clause-err g c = λ text held known.
-    let run = c.in-Ok.ensures.run text known in
-    let same = c.report_rest-lent.ensures.same_reference (text_lines text) run in
-    let there : c.into_inner-writer.result.0 ≡ c.report_rest-lent.result.1.now.writer = search rules in
-    rw (there, ← c.in-Ok-new.ensures.ok.0)
-    (IfErr-weaker _ _ _ (λ fault h. inr h) (c.report_rest-lent.ensures.err (text_lines text) held run))
+pub returns-in-Ok-clause-err : goal.returns-in-Ok-clause-err
+returns-in-Ok-clause-err g c = λ text held known. IfErr-weaker _ _ _
+    (λ fault h. inr
+    (front_printed c.args.options.now c.requires.no_store (text_lines text) _ (c.in-Ok.ensures.report text known) _ _
+    held fault h))
+    (rw c.as_str.ensures.value at c.deliver.ensures.err)

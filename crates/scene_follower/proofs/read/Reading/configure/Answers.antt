@@ -30,7 +30,7 @@ at_place g c total all nothing left =
 pub returns-in-Err-configure_piece : goal.returns-in-Err-configure_piece
 returns-in-Err-configure_piece g c = λ total all nothing left.
     let before = at_place g (goal.at.returns-in-Err-configure_piece g c).After-as_slice-piece total all nothing left in
-    record { ok = tt; err = (c.in-Err-configure_piece.ensures.left total all before).err }
+    (c.in-Err-configure_piece.ensures.left total all before).err
 
 pub returns-then-is_some : goal.returns-then-is_some
 returns-then-is_some g c = λ total all nothing left.
@@ -39,13 +39,10 @@ returns-then-is_some g c = λ total all nothing left.
     let next = subst (λ t. g.L.RunSource.left total c.configure_piece.new.source (left_at t c.in-Ok.next) p.run p.lines)
     c.as_slice-piece.ensures.value p.left.0 in
     let some : is_some c.in-Ok.next ≡ true = search rules in
-    record {
-      ok = still_configured p
-          (λ run lines. g.L.RunSource.left total c.configure_piece.new.source
-          (left_at c.fill.new.self.piece.items c.in-Ok.next) run lines × IsBegin run lines)
-          c.configure_piece.new.read refl (next, p.left.1 some);
-      err = tt;
-    }
+    still_configured p
+    (λ run lines. g.L.RunSource.left total c.configure_piece.new.source
+    (left_at c.fill.new.self.piece.items c.in-Ok.next) run lines × IsBegin run lines)
+    c.configure_piece.new.read refl (next, p.left.1 some)
 
 pub loop-turn-preserved : goal.loop-turn-preserved
 loop-turn-preserved g c = λ total all nothing left.

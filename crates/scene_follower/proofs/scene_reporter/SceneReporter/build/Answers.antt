@@ -1,6 +1,6 @@
 use Rattle.std.proofs.Common.{refl, subst, sym}
 use Rattle.scene_follower.proofs.Common.{store_meaning}
-use Rattle.scene_follower.proofs.lemmas.SceneReporters.{starts}
+use Rattle.scene_follower.proofs.lemmas.ReportedCalls.{starts}
 
 pub returns-clause-start : Rattle.scene_follower.proofs.scene_reporter.SceneReporter.build.Goals.returns-clause-start
 returns-clause-start g c = λ built asked delivered store_delivered.

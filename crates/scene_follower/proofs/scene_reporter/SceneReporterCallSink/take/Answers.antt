@@ -1,6 +1,6 @@
 use Rattle.std.proofs.Common.{ap, refl, ◌∙◌}
 use Rattle.scene_follower.specs.Reports.{ready_if}
-use Rattle.scene_follower.proofs.lemmas.SceneReporters.{one_told, one_stopped}
+use Rattle.scene_follower.proofs.lemmas.ReportedCalls.{one_told, one_stopped}
 use Rattle.scene_follower.proofs.scene_reporter.SceneReporterCallSink.take.Goals as goal
 
 pub returns-in-Ok : goal.returns-in-Ok

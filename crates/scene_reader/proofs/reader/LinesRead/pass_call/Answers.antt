@@ -7,7 +7,7 @@ use Rattle.scene_reader.proofs.reader.LinesRead.pass_call.Goals as goal
 pub returns : goal.returns
 returns g c =
     let number : c.in_ok-next.next ≡ c.args.self.now.next + 1 = grind (arith, common_steps) in
-    record {
+    rw c.count_event.ensures (record {
       ok = (
         EventLine (call_by_names c.in-Ok.call),
         c.into_stored-stored.result.items,
@@ -17,4 +17,4 @@ returns g c =
         number,
       );
       err = tt;
-    }
+    })

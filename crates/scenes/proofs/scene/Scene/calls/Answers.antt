@@ -1,7 +1,7 @@
 use Rattle.std.proofs.Common.{rules, ◌≡◌, ◌++◌, length, take, drop, ap, sym, subst, ◌∙◌}
 use Rattle.{std.proofs.Math.Seq.take-append_seam, std.proofs.lemmas.List.length-map}
 use Rattle.scene_follower.proofs.lemmas.ReadyCalls.{ready_unread}
-use Rattle.scenes.proofs.lemmas.Scenes.{for_both, view_config}
+use Rattle.scenes.proofs.lemmas.SceneCalls.{for_both, view_config}
 use Rattle.scene_follower.proofs.Common.{decider_for, unread, unread_call}
 use Rattle.scene_follower.specs.Names.{AreReadyCallsOf, OfText}
 

@@ -2,7 +2,7 @@ use Rattle.std.proofs.Common.{◌∙◌, ◌∷◌, ap, map, subst, Ok, Err}
 use Rattle.scene_reader.specs.Names.{IsReadAgain, parsed_line, pieces_left, plain_line, text_lines}
 use Rattle.scene_follower.proofs.Common.{AllZip, IsCallOf}
 use Rattle.scene_follower.specs.ParsedScenes.{OfLines}
-use Rattle.scenes.proofs.lemmas.Scenes.{all_made, AreMade, no_call, none_made, not_wrong, one_call}
+use Rattle.scenes.proofs.lemmas.SceneCalls.{all_made, AreMade, no_call, none_made, not_wrong, one_call}
 use Rattle.scenes.proofs.scene.Scene.whole_calls.Goals.{After-first_line, in-Some-call+in_ok-push, in_default-call}
 use Rattle.scenes.proofs.scene.Scene.whole_calls.Goals as goal
 

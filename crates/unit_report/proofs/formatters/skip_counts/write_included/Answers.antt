@@ -1,4 +1,4 @@
-use Rattle.std.proofs.Common.{◌≡◌, Bool, true, false, not, List, [], ◌++◌, ◌&&◌, ◌||◌, if◌then◌else◌, refl, rules}
+use Rattle.std.proofs.Common.{◌≡◌, Bool, true, false, not, [], ◌++◌, ◌&&◌, ◌||◌, if◌then◌else◌, refl}
 use Rattle.styled_text.specs.Names.{Text}
 use Rattle.unit_report.specs.SkipCounts.{included_text, rerun_text, filtered_text}
 use Rattle.unit_report.proofs.formatters.skip_counts.write_included.Goals as goal

@@ -1,4 +1,0 @@
-use Rattle.writers.proofs.lemmas.Flushes.{puts_flushed}
-
-pub returns-clause-text : Rattle.console_reporter.proofs.imp.reporter.deliver_text.Goals.returns-clause-text
-returns-clause-text g c = puts_flushed g.met.W.WriteStr.laws _ _ _ _ _ c.in_ok-write_str.ensures c.deliver.ensures.text

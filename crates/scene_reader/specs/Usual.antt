@@ -1,0 +1,77 @@
+-- The usual `done` line, and what it says.
+use Rattle.std.specs.Prelude.{◌≡◌, ℕ, ℤ, List, [], false, Option, None, Some, Ok, codes}
+use Rattle.run_model.specs.Names.{Attempt}
+use Rattle.run_model.specs.declared.{stats.RunStats.RunStats}
+use Rattle.run_model.specs.declared.status.{ExecutionResultDescription.ExecutionResultDescription}
+use Rattle.scene_fields.specs.{Calls.event_at, Calls.test_named, Calls.SceneEvent, Counts.stats_in, Results.exit_code}
+use Rattle.scene_fields.specs.{Texts.text_in}
+use Rattle.run_model.specs.Names.{OwnedTestInstanceId}
+use Rattle.scene_fields.specs.Fields.{with_attempts}
+use Rattle.scene_unit_lines.specs.Lines.{done_line_fields, retry_numbered, stream_in}
+use Rattle.scene_reader.specs.SceneTexts.{event_word, with_stored}
+use Rattle.scene_reader.specs.SceneTexts.ParsedLine.{EventLine}
+use Rattle.scene_reader.specs.declared.usual.{UsualDone.UsualDone, UsualFields.UsualFields}
+use Rattle.run_model.specs.declared.output.ChildExecutionOutputDescription.TheVariants as wrote
+use Rattle.run_model.specs.declared.output.ChildOutputDescription.TheVariants as streams
+use Rattle.run_model.specs.declared.event.TestEventKind.TheVariants as event
+use Rattle.run_model.specs.declared.status.ExecutionResultDescription.TheVariants as outcome
+
+-- how an attempt ended that has this exit code, if it failed
+abbrev pub usual_result : Option ℤ → ExecutionResultDescription
+usual_result None = outcome.Pass
+usual_result (Some code) = exit_code false code
+
+abbrev pub usual_attempt : UsualDone → Attempt
+usual_attempt u = record {
+  retry_data = retry_numbered u.values.total_attempts 1;
+  output = wrote.Output (Some (usual_result u.values.exit_code)) (streams.Split u.stdout u.stderr) None None;
+  result = usual_result u.values.exit_code;
+  time_taken = u.values.time_taken;
+  is_slow = false;
+}
+
+-- the event of a usual line with these names
+abbrev pub usual_event : OwnedTestInstanceId → UsualDone → SceneEvent
+usual_event names u = event_at 0
+    (event.TestFinished None (test_named names.binary_id names.test_name) u.values.success_output
+    u.values.failure_output (record {
+      earlier = [];
+      last = usual_attempt u;
+      flaky_result = u.values.flaky_result;
+    }) u.current_stats)
+
+-- the fields that are the same in all usual lines: the iteration, whether the attempt was slow, the form of its output,
+-- errors, and a highlight
+abbrev pub AreUsual : List ℕ → List ℕ → List ℕ → List ℕ → List ℕ → Type 0
+AreUsual stress slow form errors highlight = (stress ≡ codes "-") × (slow ≡ codes "0") × (form ≡ codes "split")
+    × (errors ≡ codes "-") × (highlight ≡ codes "-")
+
+-- the names that the fields of a usual line spell
+abbrev pub NamesUsual : UsualFields → OwnedTestInstanceId → Type 0
+NamesUsual u names = (text_in u.binary_id.now ≡ Some names.binary_id) × (text_in u.test_name.now ≡ Some names.test_name)
+
+-- the fields say this, with the names, the statistics and the streams that their fields spell
+abbrev pub SaysFields : List (List ℕ) → UsualFields → Type 0
+SaysFields fields u = (n : ℕ) (names : OwnedTestInstanceId) (stats : RunStats) (stdout stderr : Option (List ℕ))
+    → NamesUsual u names → stats_in u.stats.now ≡ Some stats → stream_in u.stdout.now ≡ Some stdout
+    → stream_in u.stderr.now ≡ Some stderr
+    → (end : ℕ) × (with_attempts done_line_fields (record { number = n; left = fields; noted = None })
+    ≡ Ok (
+      usual_event names (record {
+        values = u.values;
+        current_stats = stats;
+        stdout = stdout;
+        stderr = stderr;
+      }),
+      record {
+        number = end;
+        left = [];
+        noted = None;
+      },
+    ))
+
+-- the fields behind `done` say this, with these names
+abbrev pub SaysUsual : List (List ℕ) → OwnedTestInstanceId → UsualDone → Type 0
+SaysUsual fields names u = (n : ℕ)
+    → with_stored (event_word (codes "done") (record { number = n; left = fields; noted = None }))
+    ≡ Ok (EventLine (usual_event names u), [])
