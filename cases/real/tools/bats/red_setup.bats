@@ -1,0 +1,2 @@
+setup_file() { echo "cannot set up"; false; }
+@test "never runs" { true; }

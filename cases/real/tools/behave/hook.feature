@@ -1,0 +1,3 @@
+Feature: with a hook that fails
+  Scenario: never runs
+    Given a store

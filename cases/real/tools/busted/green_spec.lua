@@ -1,0 +1,1 @@
+it("adds", function() assert.are.equal(2, 1 + 1) end)

@@ -1,0 +1,6 @@
+describe("store", function()
+  it("adds", function() assert.are.equal(2, 1 + 1) end)
+  it("fails", function() assert.are.equal(1, 2) end)
+  it("raises", function() error("gone <it>") end)
+  pending("is pending")
+end)

@@ -1,0 +1,4 @@
+// Copyright 2026 Demo
+int main() {
+  return 0;
+}

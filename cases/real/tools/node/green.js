@@ -1,0 +1,2 @@
+const { test } = require("node:test"), assert = require("node:assert");
+test("adds", () => assert.equal(1 + 1, 2));

@@ -1,0 +1,4 @@
+<?php
+class riskyTest extends PHPUnit\Framework\TestCase {
+    function testHasNoAssertion() {}
+}

@@ -1,0 +1,1 @@
+test_that("adds", expect_equal(1 + 1, 2))
