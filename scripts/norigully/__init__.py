@@ -21,7 +21,7 @@ sys.excepthook = end_by_exception
 import pathlib  # noqa: E402
 
 # The version of this project (CHANGELOG.md).
-VERSION = "0.1.0"
+VERSION = "0.2.0"
 # The top of the repository.
 TOP = pathlib.Path(__file__).resolve().parent.parent.parent
 

@@ -8,13 +8,19 @@ from norigully import entry
 from norigully.entry import Bad
 from norigully.page_scene import FIELDS_BEFORE, FIELDS_OF_AN_ATTEMPT, PASSED, SLOWEST, number_of, plain, spoken
 
-# Of a run so many failures are shown, and of each stream of one so many lines and characters at its beginning and at
-# its end. GitHub takes a megabyte of a summary, and ten annotations of a step.
-MOST, LINES, LONGEST, ANNOTATIONS = 50, 20, 2000, 10
+# Of a run so many failures are shown, of each stream of one so many lines at its beginning and at its end, and so many
+# characters of a line and of a name.
+MOST, LINES, LONGEST, LONGEST_NAME = 50, 20, 2000, 300
+# GitHub takes ten annotations of a step, and 1,048,576 bytes of a summary: of a longer one it shows nothing. So many of
+# them are for failures; the rest of a summary has fewer.
+ANNOTATIONS, SIZE = 10, 900_000
+# Of a package's path so many folders may be below the current one.
+DEEPEST = 8
 # Escape sequences, and what else is no text.
 UNSEEN = re.compile(r"\x1b\[[0-?]*[ -/]*[@-~]|[\x00-\x08\x0b\x0c\x0e-\x1f\x7f-\x9f]")
 # `src/lib.rs:6:100`, `File "test_store.py", line 11`, `StoreTests.cs:line 12`.
-PLACE = re.compile(r"""([\w.+@/-]{1,300}\.\w{1,9})(?::(?:line )?|", line )(\d{1,7})\b""", re.A)
+# Within such a word none begins: at each place of a long one it would be looked for in the rest.
+PLACE = re.compile(r"""(?<![\w.+@/-])([\w.+@/-]{1,300}\.\w{1,9})(?::(?:line )?|", line )(\d{1,7})\b""", re.A)
 KIND = re.compile(rb"[a-z-]+")
 SHOWN = {"flaky": "flaky", "failed": "failed", "exec": "could not be started", "timedout": "timed out"}
 # What a run came to counts as failures by these keys.
@@ -26,17 +32,21 @@ class Failure:
 
     def __init__(self, names, fields):
         self.name, self.result = " ".join(map(plain, names)), plain(fields[0])
+        self.folders = plain(names[0]).split("/")[-DEEPEST:]
         # What JUnit XML says of a failure is before standard error.
         streams = [fields[5], fields[4]] if fields[3] == b"split" else [fields[4]]
         self.wrote = [text for text in (UNSEEN.sub("", plain(it)) for it in streams if it != b"-") if text.strip()]
         self.wrote = [it.replace("\r\n", "\n").replace("\r", "\n").lstrip("\n").rstrip() for it in self.wrote]
 
     def place(self):
-        """The first file that what it wrote names and that is there, and the line; None where there is none."""
+        """The first file that what it wrote names and that is there, and the line; None where there is none. Go names
+        a file without its folder, which the end of the package's path has."""
         for found in (it for text in self.wrote for it in PLACE.finditer(text)):
-            path = os.path.relpath(found[1])
-            if not path.startswith("..") and os.path.isfile(path):
-                return path, found[2]
+            folders = [] if "/" in found[1] else self.folders
+            for start in range(len(folders) + 1):
+                path = os.path.relpath("/".join([*folders[start:], found[1]]))
+                if not path.startswith("..") and os.path.isfile(path):
+                    return path, found[2]
         return None
 
 
@@ -107,11 +117,10 @@ class Summary:
         lost = max(0, self.count("initial") - finished)
         shown += [(f"{self.count('skipped')} skipped", True), (f"{lost} not run", lost)]
         yield f"{', '.join(text for text, is_shown in shown if is_shown)}, in {spoken(self.took)}.\n\n"
-        for it in self.failures:
-            code = "\n\n".join(map(indented, it.wrote)) or f"    {it.result}"
-            yield f"<details><summary><code>{escaped(it.name)}</code></summary>\n\n{code}\n\n</details>\n\n"
-        if self.failed > len(self.failures):
-            yield f"And {self.failed - len(self.failures)} more.\n\n"
+        parts = self.parts()
+        yield from parts
+        if self.failed > len(parts):
+            yield f"And {self.failed - len(parts)} more.\n\n"
         if self.flaky:
             more = f" and {len(self.flaky) - MOST} more" if len(self.flaky) > MOST else ""
             yield f"**Flaky:** {', '.join(f'<code>{escaped(it)}</code>' for it in self.flaky[:MOST])}{more}\n\n"
@@ -119,6 +128,18 @@ class Summary:
             yield "| Slowest tests | |\n|---|---|\n"
         for nanos, _, name in sorted(self.slowest, reverse=True):
             yield f"| <code>{escaped(name)}</code> | {spoken(nanos)} |\n"
+
+    def parts(self):
+        """The parts for the first failures, as many as there is room for."""
+        parts, room = [], SIZE
+        for it in self.failures:
+            code = "\n\n".join(map(indented, it.wrote)) or f"    {it.result}"
+            part = f"<details><summary><code>{escaped(it.name)}</code></summary>\n\n{code}\n\n</details>\n\n"
+            room -= len(entry.encoded(part))
+            if room < 0:
+                break
+            parts.append(part)
+        return parts
 
     def annotations(self):
         count = ANNOTATIONS if self.failed <= ANNOTATIONS else ANNOTATIONS - 1
@@ -141,8 +162,12 @@ def shortened(text):
     lines = text.split("\n")
     if len(lines) > 2 * LINES:
         lines[LINES:-LINES] = [f"[{len(lines) - 2 * LINES} lines left out]"]
-    long = "{} [{} characters left out]".format
-    return "\n".join(it if len(it) <= LONGEST else long(it[:LONGEST], len(it) - LONGEST) for it in lines)
+    return "\n".join(cut(it, LONGEST) for it in lines)
+
+
+def cut(text, longest):
+    """The beginning of a text that is longer, and how much is left out."""
+    return text if len(text) <= longest else f"{text[:longest]} [{len(text) - longest} characters left out]"
 
 
 def indented(text):
@@ -151,8 +176,8 @@ def indented(text):
 
 
 def escaped(text):
-    """A text in one line of HTML in Markdown."""
-    text = UNSEEN.sub("", text).replace("&", "&amp;").replace("<", "&lt;").replace(">", "&gt;")
+    """A name in one line of HTML in Markdown."""
+    text = cut(UNSEEN.sub("", text), LONGEST_NAME).replace("&", "&amp;").replace("<", "&lt;").replace(">", "&gt;")
     return re.sub(r"\s", " ", re.sub(r"[|*_`\[\]\\~$@#:]", lambda it: f"&#{ord(it[0])};", text))
 
 
@@ -164,12 +189,11 @@ def property_of(text):
     return message_of(UNSEEN.sub("", text)).replace(":", "%3A").replace(",", "%2C")
 
 
-def main(word, words):
-    """Prints what the first word asks for, of a scene."""
+def made_of(word, words):
+    """What the first word asks for, of a scene."""
     if len(words) != 1 or (words[0].startswith("-") and words[0] != "-"):
         raise Bad(f"{word} needs a FILE, which is the last word")
     summary = Summary("standard input" if words[0] == "-" else words[0])
     for number, line in enumerate(entry.lines_of(words[0]), 1):
         summary.read(number, line)
-    for part in summary.markdown() if word == "--summary" else summary.annotations():
-        entry.write(part)
+    return "".join(summary.markdown() if word == "--summary" else summary.annotations())

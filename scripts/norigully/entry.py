@@ -14,6 +14,8 @@ import time
 NOT_BUILT, WRONG, FAILED = 1, 2, 3
 # The standard descriptors.
 INPUT, OUTPUT, ERROR = range(3)
+# What changes a terminal, or ends a line, in the name of a file.
+CONTROL = re.compile("[\x00-\x1f\x7f-\x9f\u2028\u2029]")
 # So long a process has to end by itself, in seconds.
 GRACE = 10.0
 TICK = 0.02
@@ -139,7 +141,7 @@ def encoded(text):
 def fault(name, what, status):
     """Says what is wrong in one line, and returns the status."""
     with contextlib.suppress(OSError):
-        write(f"{name}: {what}".replace("\n", "\\n") + "\n", ERROR)
+        write(CONTROL.sub(lambda found: repr(found[0])[1:-1], f"{name}: {what}") + "\n", ERROR)
     return status
 
 

@@ -8,45 +8,56 @@ import tempfile
 import threading
 import time
 
-from norigully import kit, unproved_program
-from norigully.entry import NOT_BUILT, NotBuilt
+from norigully import entry, kit, unproved_program
+from norigully.entry import ERROR, FAILED, NOT_BUILT, NotBuilt, Signal, write
 from norigully.front import fault
 from norigully.programs import is_of, program, sum_of_sources, take
 
-# How often the line of a build is shown anew on a terminal, and how long a build takes, in seconds.
-TICK, BUILD = 1.0, 60
+# How often a build says how far it is, on a terminal and elsewhere, and how long it takes, in seconds.
+TICK, LATER, BUILD = 1.0, 30.0, 60
 
 
 class BuildLine:
-    """Says that a program is built without its proof. On a terminal it shows the seconds, and the line goes in the
-    end."""
+    """Says that a program is built without its proof, at what stage that is and since when: on a terminal in one line,
+    which goes in the end, and elsewhere in a line each half minute."""
 
     def __init__(self, called, name):
-        how = "without its proof, once for these sources"
+        self.what, self.how = f"{called}: building {name}", "without its proof, once for these sources"
         if not unproved_program.programs().is_there():
-            how = "without its proof, for this call only (no cache that nobody else can write)"
-        self.line = f"{called}: building {name} {how}"
+            self.how = "without its proof, for this call only (no cache that nobody else can write)"
+        self.stage, self.began, self.is_terminal = unproved_program.READING, time.monotonic(), sys.stderr.isatty()
         self.ended, self.thread = threading.Event(), threading.Thread(target=self.show, daemon=True)
 
+    def tell(self, stage):
+        self.stage = stage
+
+    def say(self):
+        seconds = int(time.monotonic() - self.began)
+        taken = f"{seconds} of some {BUILD} s" if seconds <= BUILD else f"{seconds} s"
+        line = f"{self.what} ({self.stage}, {taken}) {self.how}"
+        with contextlib.suppress(OSError):
+            if self.is_terminal:
+                # A line that is wrapped could not be shown anew.
+                width = os.get_terminal_size(ERROR).columns or len(line)
+                write(f"\r\033[K{line[: width - 1]}", ERROR)
+            else:
+                write(f"{line}\n", ERROR)
+
     def show(self):
-        began, is_ended = time.monotonic(), False
-        while not is_ended:
-            seconds = int(time.monotonic() - began)
-            text = f"{seconds} of some {BUILD} s" if seconds <= BUILD else f"{seconds} s, on a busy machine"
-            print(f"\r{self.line}: {text} ", end="", file=sys.stderr, flush=True)
-            is_ended = self.ended.wait(TICK)
-        print("\r\033[K", end="", file=sys.stderr, flush=True)
+        while not self.ended.wait(TICK if self.is_terminal else LATER):
+            self.say()
 
     def __enter__(self):
-        if sys.stderr.isatty():
-            self.thread.start()
-        else:
-            print(f"{self.line}, in some {BUILD} s", file=sys.stderr, flush=True)
+        self.say()
+        self.thread.start()
+        return self
 
     def __exit__(self, *_):
         self.ended.set()
-        if self.thread.is_alive():
-            self.thread.join()
+        self.thread.join()
+        if self.is_terminal:
+            with contextlib.suppress(OSError):
+                write("\r\033[K", ERROR)
 
 
 def build(called, name):
@@ -55,8 +66,11 @@ def build(called, name):
     check_mount(called, "TMPDIR", tempfile.gettempdir())
     check_mount(called, "XDG_CACHE_HOME", unproved_program.programs().at)
     try:
-        with BuildLine(called, name):
-            return unproved_program.build(name)
+        with BuildLine(called, name) as line:
+            return unproved_program.build(name, line.tell)
+    except Signal:
+        entry.fault(called, "interrupted", FAILED)
+        raise
     except unproved_program.NotBuilt as error:
         sys.stderr.write(str(error))
     except (NotBuilt, OSError) as error:

@@ -21,8 +21,10 @@ from norigully.words import options_of, usage, why_wrong
 PROGRAMS = {"--follow": "follow", "--recorded": "replay"}
 # The first words that make something else of a run than its report, and those of files of other tools, of which a
 # scene is made.
-PAGE, SUMMARIES = "--page", ("--summary", "--annotations")
+PAGE, SUMMARY, ANNOTATIONS = "--page", "--summary", "--annotations"
 CONVERTERS = {"--junit": "norigully.junit", "--libtest": "norigully.libtest_json"}
+# The word that leaves the lines out by which GitHub takes no command.
+UNSTOPPED = "--no-stop-commands"
 # The statuses of a program that printed a whole report.
 WHOLE = (0, 4, 100)
 
@@ -55,27 +57,22 @@ def why_unread(name, file):
     return None if os.access(file, os.R_OK) else os.strerror(errno.EACCES)
 
 
-def looks_like(typed, name, options):
-    """What a file looks like that is no scene, by its beginning; None for a pipe, which can be read once."""
-    path = INPUT if options.reads_input else options.file
+def looks_like(path):
+    """What a file, or standard input, looks like that is no scene, by its beginning; None for a pipe, which can be read
+    once."""
     try:
-        if name == "replay" or not stat.S_ISREG(os.stat(path).st_mode):
+        if not stat.S_ISREG(os.stat(path).st_mode):
             return None
-        how = {"buffering": 0, "closefd": not options.reads_input, "opener": opened_at_once}
+        how = {"buffering": 0, "closefd": path != INPUT, "opener": opened_at_once}
         with open(path, "rb", **how) as file:
             if not stat.S_ISREG(os.fstat(file.fileno()).st_mode):
                 return None
             text = os.pread(file.fileno(), 4096, file.tell()).removeprefix(codecs.BOM_UTF8).lstrip()
     except OSError:
         return None
-    for begin, what, option, script in (
-        (b"<", "this is XML", "--junit", "junit"),
-        (b"{", "this is JSON", "--libtest", "libtest-json"),
-    ):
+    for begin, what in ((b"<", "this is XML: --junit"), (b"{", "this is JSON: --libtest")):
         if text.startswith(begin):
-            made = f"scripts/scene-of-{script} makes a scene of it"
-            maker = made if typed == "./run" else f"{typed} {option} reports it"
-            return f"{what}: {maker}"
+            return f"{what} reads it"
     line = next((it for it in text.split(b"\n") if it and not it.startswith(b"#")), b"")
     if line.endswith(b"\r"):
         return "its lines end with CR LF, and those of a scene with LF"
@@ -151,6 +148,14 @@ def make_page(words, find):
         raise NotWritten(*error.args) from error
 
 
+def write_beside(made, words):
+    """Writes a summary, in which GitHub takes no line for a command where it goes to the log, or annotations, which are
+    commands."""
+    text = importlib.import_module("norigully.ci_summary").made_of(made, [it for it in words if it != UNSTOPPED])
+    token = token_for(UNSTOPPED not in words) if made != ANNOTATIONS else None
+    entry.write(f"::stop-commands::{token}\n{text}::{token}::\n" if token else text)
+
+
 def with_scene(typed, converter, words):
     """The words with - in place of the files of another tool, of which standard input is the scene from here on; None
     where they name no file."""
@@ -185,7 +190,7 @@ def do(typed, words, kit_line, find):
         about = f"norigully {VERSION}, the console reporter of nextest-runner 0.129.0 with a proof\n"
         entry.write(about + kit_line())
         return
-    made = words[0] if words and words[0] in (PAGE, *SUMMARIES) else None
+    made = words[0] if words and words[0] in (PAGE, SUMMARY, ANNOTATIONS) else None
     words = words[made is not None :]
     # Results of other tools are followed in any case: the status is that of their run.
     if made is None and words[:1] == ["--follow"] and words[1:2] and words[1] in CONVERTERS:
@@ -196,12 +201,16 @@ def do(typed, words, kit_line, find):
             del words[0]
         if converted := with_scene(typed, converter, words):
             words = converted if made else ["--follow", *converted]
-    if made == PAGE:
-        make_page(words, find)
-    elif made:
-        importlib.import_module("norigully.ci_summary").main(made, words)
-    else:
+    if made is None:
         become(typed, words, find)
+    try:
+        if made == PAGE:
+            make_page(words, find)
+        else:
+            write_beside(made, words)
+    except Bad as error:
+        looks = looks_like(words[-1]) if words and words[-1] != "-" else None
+        raise Bad(f"{error}: {looks}" if looks else str(error)) from error
 
 
 def become(typed, words, find):
@@ -220,7 +229,8 @@ def become(typed, words, find):
         signal.signal(signal.SIGINT, signal.SIG_IGN)
         signal.signal(signal.SIGQUIT, signal.SIG_IGN)
     wait_at_descriptors()
-    looks, token = looks_like(typed, name, options), token_for(options)
+    path = INPUT if options.reads_input else options.file
+    looks, token = None if name == "replay" else looks_like(path), token_for(options.stops_commands)
     if token:
         entry.write(f"::stop-commands::{token}\n")
     if (looks or token) and (child := os.fork()):
@@ -231,12 +241,12 @@ def become(typed, words, find):
         raise NotBuilt(f"cannot run {os.path.realpath(program)}: {error.strerror}") from error
 
 
-def token_for(options):
+def token_for(stops_commands):
     """A word that nobody can guess, where the report goes to the log of a job on GitHub: between the lines that have it
     GitHub takes no line for a command, and a test may print one. None elsewhere."""
     kinds = stat.S_ISFIFO, stat.S_ISSOCK, stat.S_ISCHR
     is_log = os.environ.get("GITHUB_ACTIONS") and any(it(os.fstat(OUTPUT).st_mode) for it in kinds)
-    return secrets.token_hex(16) if is_log and options.stops_commands else None
+    return secrets.token_hex(16) if is_log and stops_commands else None
 
 
 def ended(child, typed, what, token):

@@ -48,7 +48,8 @@ from norigully.front import start
 MODULES = (
     *("__init__.py", "entry.py", "front.py", "installed.py", "words.py"),
     *("page.py", "page_scene.py", "page_table.py", "page_text.py"),
-    *("scene_lines.py", "junit.py", "libtest_json.py", "cargo.py", "ci_summary.py"),
+    *("scene_lines.py", "junit.py", "held_lines.py", "xml_characters.py", "libtest_json.py", "cargo.py"),
+    "ci_summary.py",
 )
 HERE = pathlib.Path(__file__).parent
 MAIN = "from norigully.installed import main\n\nmain()\n"

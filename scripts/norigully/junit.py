@@ -8,7 +8,9 @@ from collections import Counter
 from xml.parsers import expat
 
 from norigully.entry import Bad, pieces_of
+from norigully.held_lines import held
 from norigully.scene_lines import RUN_ID, UNKNOWN_FAILURE, Attempt, WholeRun, nanos
+from norigully.xml_characters import without_unfit
 
 # How nextest's types of failures begin. The signal of an abort is in its message; no other message counts, since it has
 # the words of a test.
@@ -19,6 +21,8 @@ TIMEOUT = re.compile(r"(?:test|(?:setup )?script) timeout\b")
 # Thousands with commas, as surefire writes them; any other comma is that of a decimal fraction.
 THOUSANDS = re.compile(r"\s*\d{1,3}(?:,\d{3})+(?:\.\d*)?\s*", re.A)
 COUNT = re.compile(r"\d{1,9}", re.A)
+# pytest writes such a line above each stream, also where nothing follows.
+NOTHING_CAPTURED = re.compile(r"^-{33} Captured (?:Log|Out|Err) -{33}\n\s*(?=\Z|-{33} Captured )", re.M)
 # Node writes the duration of its run in a comment.
 DURATION = re.compile(r"\s*duration_ms (\d+(?:\.\d+)?)\s*", re.A)
 FAILED, FAILURES = ("failure", "error"), ("failures", "errors")
@@ -38,8 +42,15 @@ ATTRIBUTES = {
     *("name", "classname", "time", "status", "message", "type", "uuid", "failures", "errors", "file", "line"),
     *("tests", "skipped", "disabled", "warnings", "flakes", "assertions", "failure", "result", "timestamp", "duration"),
     *("hostname", "id", "package", "class", "version", "value", "value_param", "type_param", "random_seed", "skips"),
+    *("skip", "tag", "doctest_version"),
 }
 MAY_FAIL = "TEST_CASE tagged with !mayfail"
+# How tests without an element that says so have failed, by their `status` or `result`.
+STATED = ("fail", "failed", "failure", "error")
+# Tools that say something in another way than all others, as their files name them.
+QTEST, DOCTEST, CPPLINT, NOSE2 = "QTest", "doctest", "cpplint", "nose2-junit"
+# What fails a run of nose2, and what fails none of prove.
+UNEXPECTED, TODO_PASSED = "test passes unexpectedly", "TodoTestSucceeded"
 # Suites in suites: more are no test results.
 DEEPEST = 100
 # Of what was left out so many names are said, and so much of each.
@@ -48,10 +59,17 @@ SAID, LONGEST = 8, 40
 
 class Suite:
     """A suite that is being read, or what is around all: its name, its test while that is the only one, whether there
-    was one, and whether one failed."""
+    was one, and whether one failed; its tool, and how many failures and errors it counts, and the suites in it."""
 
-    def __init__(self, name):
+    def __init__(self, name=None, tool=None, counts=(0, 0)):
         self.name, self.only, self.has_tests, self.has_failed = name, None, False, False
+        self.tool, self.counts, self.sums = tool, counts, [0, 0]
+
+    def counted(self):
+        """The failures and errors of all suites in it where it counts none itself. The errors of QTest are messages,
+        and so is all that cpplint counts, of which a failure has those of a file."""
+        failures, errors = self.counts if any(self.counts) else self.sums
+        return [0, 0] if self.tool == CPPLINT else [failures, 0 if self.tool == QTEST else errors]
 
 
 class Tree:
@@ -62,7 +80,7 @@ class Tree:
     def __init__(self, file, scene):
         self.file, self.scene, self.builder, self.within = file, scene, tree.TreeBuilder(), [None]
         # The elements that it is within, and the suites.
-        self.open, self.suites, self.left_out = [], [Suite(None)], Counter()
+        self.open, self.suites, self.left_out = [], [Suite()], Counter()
         self.data = self.builder.data
         self.close = self.builder.close
 
@@ -85,6 +103,8 @@ class Tree:
         elif name == "testcase":
             self.take_only()
             self.scene.files[-1].is_mixed |= len(self.open) == 1
+        elif name == "property":
+            self.read_property(attributes)
         self.within.append(name)
         self.open.append(self.builder.start(name, attributes))
 
@@ -96,8 +116,14 @@ class Tree:
         self.take_only()
         if around is None or len(self.open) == 1:
             self.scene.begin(around is None, attributes)
-        # A suite in one with a name has that, where it has none of its own.
-        self.suites.append(Suite(attributes.get("name") or self.suites[-1].name))
+        # A suite in one with a name has that, where it has none of its own, and its tool.
+        name, tool = attributes.get("name") or self.suites[-1].name, tool_of(attributes) or self.suites[-1].tool
+        self.suites.append(Suite(name, tool, counts_of(attributes)))
+
+    def read_property(self, attributes):
+        # What Qt 6 writes is as that of others.
+        if attributes.get("name") == "QTestVersion" and attributes.get("value", "").startswith(("4.", "5.")):
+            self.suites[-1].tool = QTEST
 
     def end(self, _tag):
         if (name := self.within.pop()) == "":
@@ -116,8 +142,8 @@ class Tree:
 
     def take(self, case):
         suite = self.suites[-1]
+        self.scene.take(suite, case)
         suite.has_failed |= first(case, *FAILED) is not None
-        self.scene.take(suite.name, case)
 
     def take_only(self):
         """Takes the test of a suite that has more than this one, or suites."""
@@ -143,6 +169,7 @@ class Tree:
             self.take(case)
         suite = self.suites.pop()
         self.suites[-1].has_failed |= suite.has_failed
+        self.suites[-1].sums = [*map(int.__add__, self.suites[-1].sums, suite.counted())]
         self.left_out.update(("element", it.tag) for it in wrote if suite.has_failed)
         element.clear()
 
@@ -160,14 +187,14 @@ def read(file, text, scene):
     target = Tree(file, scene)
     parser = tree.XMLParser(target=target)
     try:
-        parser.feed(text)
+        parser.feed(without_unfit(text, target.left_out))
         parser.close()
     except tree.ParseError as error:
         raise Bad(f"{file}: line {error.position[0]}: {expat.ErrorString(error.code)}") from error
     except (LookupError, ValueError, OverflowError) as error:
         # The encoding that it names, of which Python says what is wrong.
         raise Bad(f"{file}: {error}") from error
-    scene.end_file(os.path.basename(file))
+    scene.end_file(os.path.basename(file), target.suites[0].sums)
     return target.left_out
 
 
@@ -182,7 +209,7 @@ def has_text(element):
 def text_in(element, name):
     """The text of all such elements, or None where there is none: the stream was not captured."""
     found = ["".join(it.itertext()) for it in element if it.tag == name]
-    return "".join(found) if found else None
+    return NOTHING_CAPTURED.sub("", "".join(found)) if found else None
 
 
 def result_of(failure):
@@ -200,31 +227,24 @@ def result_of(failure):
     return "exec" if kind == "execution failure" else UNKNOWN_FAILURE
 
 
-def holds(text, part):
-    """Whether lines of a text end as those of another one are, in order: tools indent them, and put a type in front."""
-    lines = map(str.rstrip, text.split("\n"))
-    return all(any(ends_as(it, line) for it in lines) for line in filter(None, map(str.strip, part.split("\n"))))
-
-
-def ends_as(line, end):
-    return line.endswith(end) and not line[: len(line) - len(end)][-1:].isalnum()
-
-
 def described(failure):
     """What a failure says: its text, which most tools begin with the message, else the message and the text."""
-    pieces, message = [failure.text or ""], (failure.get("message") or "").strip("\n")
+    message = ": ".join(filter(None, (failure.get("tag"), (failure.get("message") or "").strip("\n"))))
+    pieces = [failure.text or ""]
     for it in failure:
         pieces += ["" if it.tag in STREAMS else "".join(it.itertext()), it.tail or ""]
     body = "".join(it for it in pieces if it.strip()).lstrip("\n").rstrip()
     # An attribute has spaces where its tool wrote line feeds.
-    is_in_body = holds(body, message) or f" {' '.join(message.split())} " in f" {' '.join(body.split())} "
+    is_in_body = held(body, [message]) or f" {' '.join(message.split())} " in f" {' '.join(body.split())} "
     return body if is_in_body else f"{message}\n{body}".rstrip()
 
 
 def with_failures(failures, place, out, err):
     """Standard error with what the failures say in front, unless the streams have it anyway. GoogleTest and Catch2 have
     one for each check that failed."""
-    said = [it for it in map(described, failures) if it and not holds(out or "", it) and not holds(err or "", it)]
+    said = [*filter(None, map(described, failures))]
+    written = held(out or "", said) | held(err or "", said)
+    said = [it for number, it in enumerate(said) if number not in written]
     if place and not any(place.split(":")[0] in it for it in (*said, out or "", err or "")):
         said.append(place)
     return "\n".join([*said, err or ""]) if said else err
@@ -294,38 +314,71 @@ def counts_of(attributes):
 
 
 class File:
-    """What a file says of its run as a whole, in its first element, else in the suites that are right in it: how long
-    it took, and how many failures there were. And how many of these its tests have."""
+    """What a file says of its run as a whole: how long it took, in its first element, else in the suites that are right
+    in it. And what its tests come to."""
 
     def __init__(self, attributes):
         self.name, self.run_id = attributes.get("name"), attributes.get("uuid")
         # A time of 0 is written by tools that do not know it.
-        self.took, self.counts = int(nanos(seconds_of(attributes))), counts_of(attributes)
-        # Of the suites right in it, and whether tests are there, too.
-        self.times, self.sums, self.is_mixed = [], [0, 0], False
-        self.tests, self.nanos, self.elements = 0, 0, Counter()
+        self.took = int(nanos(seconds_of(attributes)))
+        # The times of the suites right in it, and whether tests are there, too.
+        self.times, self.is_mixed = [], False
+        self.tests, self.nanos, self.longest, self.elements = 0, 0, 0, Counter()
 
     def suite(self, attributes):
         self.times.append(int(nanos(seconds_of(attributes))))
-        self.sums = [*map(int.__add__, self.sums, counts_of(attributes))]
 
-    def add(self, case):
-        """Counts the failures of a test, but for those that Catch2 does not count either."""
-        found, skipped = [it.tag for it in case if it.tag in (*FAILED, *EARLIER)], first(case, "skipped")
-        if skipped is None or skipped.get("message") != MAY_FAIL:
+    def add(self, case, tool):
+        """Counts the failures of a test, but for those that its tool does not count either. What that says in another
+        way the test then says as all do."""
+        skipped = first(case, "skipped")
+        if tool == QTEST and case.get("result") is None:
+            tree.SubElement(case, "skipped")
+        elif tool == NOSE2 and skipped is not None and skipped.get("message") == UNEXPECTED:
+            skipped.tag = "failure"
+        elif first(case, "skipped", *FAILED) is None and (stated := stated_failure(case)):
+            tree.SubElement(case, "failure", message=f"The file says {stated} of this test, and no more.")
+        found = [it.tag for it in case if it.tag in (*FAILED, *EARLIER)]
+        if tool != CPPLINT and (skipped is None or skipped.get("message") != MAY_FAIL):
             self.elements.update(found)
             self.tests += bool(found)
+        for it in [it for it in case if tool == DOCTEST and it.get("type") == "WARN" or is_passed_todo(it)]:
+            case.remove(it)
 
     def duration(self):
-        """That of its tests where it has no other."""
-        return self.took or (sum(self.times) if all(self.times) and not self.is_mixed else 0) or self.nanos
+        """That of its tests where it has no other; it is at least that of the longest one."""
+        took = self.took or (sum(self.times) if all(self.times) and not self.is_mixed else 0) or self.nanos
+        return max(took, self.longest)
 
-    def lost(self):
-        """How many failures no test has: a package that could not be built, say. Some tools count tests, others count
-        checks or attempts, of which a test has several."""
-        failures, errors = self.counts if any(self.counts) else self.sums
+    def spend(self, nanos):
+        """Counts the time of a test."""
+        self.nanos += nanos
+        self.longest = max(self.longest, nanos)
+
+    def lost(self, counts):
+        """How many of the failures and errors that it counts no test has: a package that could not be built, say. Some
+        tools count tests, others count checks or attempts, of which a test has several."""
+        failures, errors = counts
         of_errors = errors - sum(count for tag, count in self.elements.items() if tag.endswith("rror"))
         return max(0, failures + errors - self.elements.total(), min(of_errors, failures + errors - self.tests))
+
+
+def tool_of(attributes):
+    """The tool that is told by the attributes of a suite, or None."""
+    if "doctest_version" in attributes:
+        return DOCTEST
+    return attributes.get("name") if attributes.get("name") in (CPPLINT, NOSE2) else None
+
+
+def stated_failure(case):
+    """The attribute by which a test has failed, as it is in the file; None where there is none."""
+    stated = ((it, case.get(it) or "") for it in ("status", "result"))
+    return next((f'{name}="{value}"' for name, value in stated if value.lower() in STATED), None)
+
+
+def is_passed_todo(element):
+    """Whether an error is that of a test that passed and is still marked as one to do, by which prove fails no run."""
+    return element.tag == "error" and element.get("type") == TODO_PASSED
 
 
 class Scene:
@@ -343,25 +396,25 @@ class Scene:
             self.files[-1].suite(attributes)
 
     def take(self, suite, case):
-        """Takes a test."""
-        binary, name = place_of(case, suite)
+        """Takes a test of a suite."""
+        binary, name = place_of(case, suite.name)
         self.binaries.add(binary)
         file = self.files[-1]
-        file.add(case)
+        file.add(case, suite.tool)
         if is_skipped(case):
             self.skipped += 1
-            file.nanos += int(nanos(seconds_of(case)))
+            file.spend(int(nanos(seconds_of(case))))
             self.run.skip(binary, name)
         else:
             self.total += 1
             attempts = attempts_of(case)
             # Where it has one attempt, that took its time.
-            file.nanos += int(attempts[0].fields[1] if len(attempts) == 1 else nanos(seconds_of(case)))
+            file.spend(int(attempts[0].fields[1] if len(attempts) == 1 else nanos(seconds_of(case))))
             self.run.done(binary, name, attempts)
 
-    def end_file(self, name):
+    def end_file(self, name, counts):
         """A file that counts more failures than its tests have is that of a run that failed."""
-        if lost := self.files[-1].lost():
+        if lost := self.files[-1].lost(counts):
             binary = self.files[-1].name or name
             self.total += 1
             self.binaries.add(binary)
@@ -402,9 +455,9 @@ def said_of(left_out):
 
 def convert(words, say=lambda _: None):
     """The lines of the scene of the files that the words name, or of standard input, some at a time."""
-    for word in words:
+    for number, word in enumerate(words):
         if word.startswith("-") and word != "-":
-            raise Bad(f"unknown option {word}")
+            raise Bad(f"{word} is behind a FILE, and options come before it" if number else f"unknown option {word}")
     return scene_of(((name_to_say(it), whole(it)) for it in words or ["-"]), say)
 
 

@@ -14,8 +14,8 @@ import time
 
 from norigully import entry
 
-# What was not used for this many days is removed, and what is beyond the most entries of a folder, the longest unused
-# first.
+# Files that were not used for this many days are removed; so are, the longest unused first, those beyond the limit of a
+# folder.
 DAYS = 30
 # What a killed run left of a file is removed after this many seconds.
 LEFT_OVER = 24 * 3600
@@ -100,11 +100,15 @@ class Kept:
             return at is not None
 
     @contextlib.contextmanager
-    def locked(self):
-        """Keeps other runs that lock the folder waiting."""
+    def locked(self, wait=lambda: None):
+        """Keeps other runs that lock the folder waiting. Where this one has to wait, it makes a call first."""
         with self.opened() as at:
             if at:
-                fcntl.flock(int(at.name), fcntl.LOCK_EX)
+                try:
+                    fcntl.flock(int(at.name), fcntl.LOCK_EX | fcntl.LOCK_NB)
+                except BlockingIOError:
+                    wait()
+                    fcntl.flock(int(at.name), fcntl.LOCK_EX)
             yield
 
     def open(self, name):

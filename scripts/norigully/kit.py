@@ -20,6 +20,11 @@ def folder():
     return pathlib.Path(shutil.which("rt") or sys.exit("there is no rt on the PATH")).resolve().parent.parent
 
 
+def identity():
+    """What tells this kit from all others."""
+    return (folder() / "KIT-ID").read_text()
+
+
 def version():
     """What `rt version` prints, as `rattle-kit-13f logic dac8208d650f15bf`; None where there is no `rt`."""
     if not shutil.which("rt"):

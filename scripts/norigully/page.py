@@ -22,7 +22,7 @@ from norigully.entry import INPUT, OUTPUT, Bad, is_same_file
 from norigully.page_table import Reports, Table
 from norigully.words import FILES_OF_RUN, LEVELS
 
-USAGE = "[--title T] [--choices all|few] [-o FILE] SCENE|--recorded DIR"
+USAGE = "[--junit|--libtest] [--title T] [--choices all|few] [-o PAGE] FILE|--recorded DIR"
 # When output may be shown, of tests that fail and of tests that pass; an empty word is as the run says. What comes
 # first has the most lines.
 FAILURE = ("immediate", "final", "", "never")

@@ -60,9 +60,9 @@ def shared():
     return kept.Kept(kept.folder("proved"), MOST)
 
 
-def share(name, sources):
-    """Keeps a program that was just proved for the other checkouts of this machine."""
-    shared().keep(shared_name(name, sources), program(name).read_bytes())
+def share(name, sources, made):
+    """Keeps a program that was just proved for all checkouts of this machine."""
+    shared().keep(shared_name(name, sources), made)
     shared().shrink()
 
 

@@ -13,7 +13,7 @@ const indexed = n => {
   if (n > 231) return `rgb(${Array(3).fill(8 + 10 * (n - 232))})`;
   return `rgb(${[36, 6, 1].map(k => LEVELS[Math.floor((n - 16) / k) % 6])})`;
 };
-// The colour behind 38 or 48, and how many numbers it took.
+// The colour after 38 or 48, and how many numbers it takes.
 const extended = list => {
   const [kind, ...rest] = list.map(n => Math.min(255, n || 0));
   return kind === 2 ? [`rgb(${[...rest, 0, 0, 0].slice(0, 3)})`, 4] : kind === 5 ? [indexed(rest[0] || 0), 2] : ["", 1];

@@ -61,23 +61,31 @@ const listAll = lists => {
   $("tests-fold").textContent = TITLES.failed(failures.length);
 };
 
-// Leads to the test that the address names, and the focus along.
-const goToAddress = async () => {
-  const number = addressed();
+// Leads to a test, and the focus along. It may be in two lists: that where it was clicked is scrolled, else the first.
+let current = -1;
+const leadTo = async number => {
+  const its = [];
+  current = number;
   for (const link of links()) {
     if (Number(link.dataset.test) !== number) { link.removeAttribute("aria-current"); continue; }
     link.setAttribute("aria-current", "true");
-    link.scrollIntoView({ block: "nearest" });
     stopAt(link);
+    its.push(link);
   }
+  (its.find(link => link === document.activeElement) || its[0])?.scrollIntoView({ block: "nearest" });
   if (narrow.matches) fold($("tests"), true);
   if (shown.lines[number] >= 0) await goTo(shown.lines[number], true);
 };
+const goToAddress = () => leadTo(addressed());
+// The address follows once the keys rest, since a browser takes few a second, and is replaced: Back leaves the page.
+let resting;
 const stepFailure = by => {
-  const now = failures.indexOf(addressed()), count = failures.length;
+  const now = failures.indexOf(current), count = failures.length;
   if (!count) return;
-  const next = now < 0 ? (by > 0 ? 0 : count - 1) : (now + by + count) % count;
-  location.hash = addressOf(tests[failures[next]]);
+  const next = failures[now < 0 ? (by > 0 ? 0 : count - 1) : (now + by + count) % count];
+  clearTimeout(resting);
+  resting = setTimeout(() => history.replaceState(null, "", addressOf(tests[next])), 100);
+  leadTo(next);
 };
 
 // What the line of a test has beside it: its name as `nextest run` takes it, and what it wrote, as text.

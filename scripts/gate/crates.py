@@ -3,15 +3,16 @@ them: for scripts/prove, which marks what it proved, and the checks that take it
 
 With LIBS=FOLDER the libraries are those of another copy of the repository, which serve as far as its sources are the
 same. A mark is a sum of the kit and of the sources, since it says what that kit proved. The sums beside the programs
-(programs.py) are others: they have no kit in them.
+(programs.py) are others: they have no kit in them. So are those of a check of a mistake, which has no comment, body or
+proof of a crate below in them: a crate rests on what those below it state, and the gate proves these themselves.
 """
 
-import hashlib
 import os
 import pathlib
 import re
 
-from norigully import TOP, kit
+from gate.functions import read_above
+from norigully import TOP, kept, kit
 from norigully.crate_list import lines_of, named_in, sources_of, with_those_below
 
 LIBS = pathlib.Path(os.environ.get("LIBS") or TOP).resolve()
@@ -53,14 +54,27 @@ class Crate:
         folder, files = sources_of(self.name, top or self.top)
         return {it: pathlib.Path(folder, it) for it in files}
 
-    def sum(self, known, of_kit=None):
-        """A sum of all that its proof rests on: the kit, or what is said of it, its line of crates.txt, its files, and
-        those of the crates below. What is known, by the crates' names, is not summed again, and this one is added."""
+    def sum(self, known):
+        """A sum of all that its proof rests on: the kit, its line of crates.txt, its files, and those of the crates
+        below. What is known, by the crates' names, is not summed again, and this one is added."""
         if self.name not in known:
             files = [(path, file.read_bytes()) for path, file in self.sources().items()]
-            below = [it.sum(known, of_kit) for it in self.deps()]
-            said = (of_kit or (kit.folder() / "KIT-ID").read_text(), self.line, files, below)
-            known[self.name] = hashlib.sha256(repr(said).encode()).hexdigest()
+            below = [it.sum(known) for it in self.deps()]
+            known[self.name] = kept.sum_of(kit.identity(), self.line, files, below)
+        return known[self.name]
+
+    def sum_of_check(self, known):
+        """A sum of all that a check of a part of it reads, without the kit: its line of crates.txt, its files, and what
+        it reads of the crates below. Of these, what is known is not summed again, and theirs are added."""
+        files = [(path, file.read_bytes()) for path, file in self.sources().items()]
+        return kept.sum_of(self.line, files, [it.sum_above(known) for it in self.deps()])
+
+    def sum_above(self, known):
+        """A sum of what the crates above read of it and, through it, of those below."""
+        if self.name not in known:
+            texts = [(path, read_above(path, file.read_text())) for path, file in self.sources().items()]
+            below = [it.sum_above(known) for it in self.deps()]
+            known[self.name] = kept.sum_of(self.line, [it for it in texts if it[1] is not None], below)
         return known[self.name]
 
     def why_not_current(self, known=None):

@@ -8,6 +8,7 @@ import hashlib
 import itertools
 import os
 import pathlib
+import re
 import resource
 import shutil
 import signal
@@ -18,8 +19,9 @@ import termios
 import time
 
 from norigully import TOP, kit
+from gate.checks import CASES
 from norigully.entry import ENDING
-from norigully.run_checks import BUILDS, PATIENCE, SCENE, ran, shimmed, with_output
+from gate.run_checks import BUILDS, PATIENCE, SCENE, ran, shimmed, with_output
 
 
 def check_unblocked(checks, room, run, many, report):
@@ -74,8 +76,14 @@ def check_places(checks, room, build, bare):
         said = f"build: cannot write {(folder / name).resolve()}: it is no regular file\n".encode()
         checks.expect_line(f"--archive {name}", refused, 1, said)
         checks.expect(os.path.samestat(before, (folder / name).stat()), f"--archive {name}: it was replaced")
+    (folder / "leads nowhere").symlink_to("no folder/x.tar")
+    said = f"build: cannot write {folder}/leads nowhere: it is a link that leads nowhere\n".encode()
+    checks.expect_line("--archive and a link", ran([build, "--archive", folder / "leads nowhere"], **bare), 1, said)
+    checks.expect(not (folder / "no folder").exists(), "--archive and a link that leads nowhere: a folder is made")
+    said = f"build: cannot write {folder}/pipe/x\\r: File exists\n".encode()
+    checks.expect_line("--archive and a CR", ran([build, "--archive", folder / "pipe/x\r"], **bare), 1, said)
     os.mkfifo(folder / "norigully-follow")
-    said = f"build: cannot write {folder}: it is no regular file\n".encode()
+    said = f"build: cannot write {folder}/norigully-follow: it is no regular file\n".encode()
     checks.expect_line("--install and a pipe", ran([build, "--install", folder], **bare), 1, said)
     checks.expect(not (folder / "norigully").exists(), "--install and a pipe: something is written")
     (folder / "norigully-follow").unlink()
@@ -230,8 +238,12 @@ def check_interrupted(checks, room):
     copy, temporary = room.sources("interrupted"), room.folder / "temporary"
     temporary.mkdir()
     shutil.copy(TOP / "test", copy)
+    shutil.copytree(TOP / "scripts/gate", copy / "scripts/gate")
+    # What ./test runs before it builds.
+    (copy / "scripts/check-layout").write_text("#!/bin/sh\n")
+    (copy / "scripts/check-layout").chmod(0o755)
+    pathlib.Path(late["PATH"], "sh").symlink_to(shutil.which("sh"))
     how = {"stdin": subprocess.PIPE, "stdout": subprocess.PIPE, "stderr": subprocess.PIPE}
-    last = {"build": b"build: interrupted\n", "test": b"test: interrupted\n"}
     calls = ["run", room.scene], ["run", "--follow"], ["build"], ["test", "--quick"]
     for sent, words in itertools.product(ENDING, calls):
         building = subprocess.Popen([copy / words[0], *words[1:]], env={**late, "TMPDIR": str(temporary)}, **how)
@@ -240,9 +252,11 @@ def check_interrupted(checks, room):
             time.sleep(0.1)
         building.send_signal(sent)
         out, said = checks.outputs(building, what, PATIENCE)
-        ended = subprocess.CompletedProcess([], building.returncode, b"" if words[0] in last else out, said)
-        checks.expect_run(what, ended, 128 + sent, b"", last.get(words[0], b"run: building "))
-        checks.expect(said.count(b"\n") == 1, f"{what}: {said}")
+        holds = building.returncode == 128 + sent and (words[0] != "run" or out == b"")
+        above, _, last = said.rstrip(b"\n").rpartition(b"\n")
+        holds = holds and last == f"{words[0]}: interrupted".encode()
+        holds = holds and re.fullmatch(rb"(run: building .*)?", above)
+        checks.expect(holds, f"{what}: status {building.returncode}, printed {out[:200]}, said {said}")
         is_there = begun.exists() and any(map(is_running, begun.read_text().split()))
         checks.expect(begun.exists() and not is_there, f"{what}: the kit goes on")
         checks.expect(not [*temporary.iterdir()], f"{what}: {[*temporary.iterdir()]} are left")
@@ -254,3 +268,84 @@ def is_running(pid):
         return pathlib.Path("/proc", pid, "stat").read_text().rpartition(")")[2].split()[0] != "Z"
     except OSError:
         return False
+
+
+def check_hints(checks, room, run):
+    """What is said where the word for a file of another tool is missing, or not where it may be."""
+    how, xml = {"cwd": room.folder}, str(CASES / "real/pytest.xml")
+    for words, said in (
+        ([xml], "report: line 1: unknown event\n./run: this is XML: --junit reads it\n"),
+        (["--page", xml], "run: line 1: unknown event: this is XML: --junit reads it\n"),
+        (["--summary", xml], f"run: {xml}: line 1: no line of a scene: this is XML: --junit reads it\n"),
+        (["--junit", xml, "--level", "fail"], "run: --level is behind a FILE, and options come before it\n"),
+        (["--junit", "--bogus", xml], "./run: unknown option --bogus (./run --help)\n"),
+    ):
+        result = ran([run, *words], **how)
+        checks.expect_run(f"{words}", result, 2, b"", said.encode())
+        checks.expect(result.stderr == said.encode(), f"{words}: {result.stderr}")
+    result = ran([run, "--page", "--choices", "few", "--junit", xml], **how)
+    checks.expect_line("--junit behind an option", result, 2, b"run: usage: page [--junit|--libtest] ")
+    name = room.folder / "a name\rof\x1b[31m a file"
+    said = f"run: cannot read {room.folder}/a name\\rof\\x1b[31m a file: No such file or directory\n".encode()
+    checks.expect_line("a name with a CR", ran([run, "--summary", name], **how), 2, said)
+
+
+def check_kept(checks, room):
+    """A checkout that cannot be written is told before the proofs; where that is so after them, they are kept."""
+    copy, environment = room.sources("not to be written"), room.with_stand_in("for that", f"stand-in logic {kit.LOGIC}")
+    out, how = copy / "crates/replay/out", {"env": environment}
+    out.write_text("in the way\n")
+    said = f"build: cannot write {out}/replay: File exists\n".encode()
+    checks.expect_line("./build in such a checkout", ran([copy / "build"], **how), 1, said)
+    out.unlink()
+    tool = pathlib.Path(environment["PATH"], "rt")
+    proves = tool.read_text()
+    breaks = f"    pathlib.Path({str(out)!r}).rmdir()\n    open({str(out)!r}, 'w')\n"
+    tool.write_text(f"{proves}if sys.argv[1] == 'ci':\n{breaks}")
+    ended = ran([copy / "build"], **how)
+    checks.expect((ended.returncode, ended.stderr) == (1, said), f"./build, and then such a checkout: {ended}")
+    out.unlink()
+    tool.write_text("")
+    checks.expect_run("./build once more", ran([copy / "build"], **how), 0, b"build: the programs are up to date\n")
+
+
+# What a test prints that GitHub takes for commands, and how a text is kept from that.
+COMMANDS = b"::add-mask::x\\n  ::set-output name=a::b\\n::stop-commands::mine\\n::mine::\\n##[error]c"
+
+
+STOPPED = rb"::stop-commands::([0-9a-f]{32})\n(.*\n)::\1::\n"
+
+
+def check_stopped_commands(checks, room):
+    """Where GitHub has the log of a job, it is given no command that a test printed."""
+    run, hostile = room.copy("on GitHub") / "run", room.folder / "hostile"
+    text = SCENE.replace(b"\tsplit\t", b"\tsplit\t%b\\n" % COMMANDS)
+    hostile.write_bytes(text.replace(b"\tnever\tnever\t", b"\timmediate\timmediate\t"))
+    plain, github = ran([room.programs["report"], hostile]).stdout, {**room.without_kit, "GITHUB_ACTIONS": "true"}
+    checks.expect(plain.count(b"::add-mask") > 1, "that is hostile")
+    tokens = set()
+    for words, status in ([], 0), (["--follow"], 100):
+        result = ran([run, *words, hostile], env=github)
+        found = re.fullmatch(STOPPED, result.stdout, re.S)
+        holds = result.returncode == status and found and found[2] == plain
+        checks.expect(holds, f"{words} on GitHub: {result}")
+        tokens.add(found and found[1])
+        result = ran([run, *words, "--no-stop-commands", hostile], env=github)
+        checks.expect_run(f"{words} --no-stop-commands on GitHub", result, status, plain)
+        with open(room.folder / "kept", "wb") as kept:
+            ran([run, *words, hostile], env=github, stdout=kept)
+        checks.expect((room.folder / "kept").read_bytes() == plain, f"{words} into a file on GitHub")
+    checks.expect(len(tokens) == 2, "the same token twice")
+    plain = ran([run, "--summary", hostile], env=room.without_kit).stdout
+    found = re.fullmatch(STOPPED, ran([run, "--summary", hostile], env=github).stdout, re.S)
+    checks.expect(found and found[2] == plain and b"    ::add-mask" in plain, "a summary on GitHub")
+    result = ran([run, "--summary", "--no-stop-commands", hostile], env=github)
+    checks.expect_run("a summary with commands on GitHub", result, 0, plain)
+    with open(room.folder / "kept", "wb") as kept:
+        ran([run, "--summary", hostile], env=github, stdout=kept)
+    checks.expect((room.folder / "kept").read_bytes() == plain, "a summary into a file on GitHub")
+    result = ran([run, "--annotations", hostile], env=github)
+    checks.expect(result.stdout.startswith(b"::error "), f"annotations on GitHub: {result}")
+    cut = ran([run, "--follow"], env=github, stdin=None, input=SCENE[:200])
+    closed = re.search(rb"\n::[0-9a-f]{32}::\n$", cut.stdout)
+    checks.expect(cut.returncode in (2, 3) and closed, f"a run that is cut off, on GitHub: {cut}")

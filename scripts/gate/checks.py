@@ -1,5 +1,6 @@
 """What the check scripts share: what they need before they begin, and how they count what they found."""
 
+import collections
 import multiprocessing
 import os
 import re
@@ -10,6 +11,7 @@ import sys
 from importlib.machinery import SourceFileLoader
 from importlib.util import module_from_spec, spec_from_loader
 
+from gate import places
 from norigully import TOP, kit
 from norigully.programs import note_sources, program, sum_of_sources
 
@@ -47,7 +49,7 @@ def build_shim(folder):
     """Builds the library that changes the calls of a program (faults.c), and returns where it is."""
     need_tool("cc")
     made = folder / "faults.so"
-    source = TOP / "scripts/norigully/faults.c"
+    source = TOP / "scripts/gate/faults.c"
     subprocess.run(["cc", "-shared", "-fPIC", "-O1", "-o", made, source, "-ldl"], check=True)
     return made
 
@@ -104,24 +106,27 @@ def copy_scripts(folder):
 
 
 class Checks:
-    """Counts what was checked and what failed."""
+    """Counts what was checked and what failed, and what was checked by its kind."""
 
     def __init__(self, name):
-        self.name, self.done, self.failed = name, 0, 0
+        self.name, self.done, self.failed, self.kinds = name, 0, 0, collections.Counter()
 
     def expect(self, holds, message):
         """Prints the message if this does not hold."""
         self.done += 1
+        self.kinds[places.kind()] += 1
         if not holds:
             self.failed += 1
             print(f"FAILED: {message}", flush=True)
+            places.note_failure()
 
     def side_by_side(self, calls):
         """Makes these calls with checks of their own, each in a process, as many at a time as processors allow. What
         they count is counted here."""
         with multiprocessing.get_context("fork").Pool(kit.jobs(), end_at_ctrl_c) as pool:
-            for done, failed in pool.imap_unordered(self.counts_of, calls):
+            for done, failed, kinds in pool.imap_unordered(self.counts_of, calls):
                 self.done, self.failed = self.done + done, self.failed + failed
+                self.kinds.update(kinds)
 
     def counts_of(self, call):
         own = type(self)(self.name)
@@ -130,7 +135,7 @@ class Checks:
         # It would end those beside it before they have said what failed.
         except Exception as error:
             own.expect(False, f"checks ended by {error!r}")
-        return own.done, own.failed
+        return own.done, own.failed, own.kinds
 
     def outputs(self, child, what, seconds):
         """What a process writes until it ends. One that goes on for longer is a failed check, and is killed."""
@@ -142,14 +147,18 @@ class Checks:
             return child.communicate()
 
     def count(self, done, failed, message):
-        """Counts what was checked elsewhere, and prints the message if some of it failed."""
+        """Counts what was checked elsewhere, of the kind that begins the message, which it prints if some failed."""
         self.done, self.failed = self.done + done, self.failed + int(failed)
+        self.kinds[message.partition(":")[0]] += done
         if failed:
             print(f"FAILED: {message}")
+            places.note_failure()
 
     def end(self):
         """Ends the script: its last line counts, and its status is 1 where something failed or nothing was checked."""
         if not self.done:
             self.expect(False, "nothing was checked")
+        for why in places.too_few(self.kinds):
+            self.count(1, 1, why)
         print(f"{self.name}: {self.done - self.failed} passed, {self.failed} failed")
         sys.exit(1 if self.failed else 0)

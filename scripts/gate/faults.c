@@ -1,12 +1,13 @@
 /* Loaded before the C library, it makes one call of a program fail: the growth of memory, the write to standard
    output or to a file that was opened, the read, the read at a place of a file (`read-at`), or the look at what a file
    is (`look`). FAULT_KIND names the kind, and FAULT_AT says which call of it. A short write takes one byte; what is
-   interrupted takes or gives none, and may be tried again. It creates the file FAULT_MARK where the call came. Six
+   interrupted takes or gives none, and may be tried again. It creates the file FAULT_MARK where the call came. Seven
    kinds change many calls, the first of which creates that file. With `one-number` every file has the number 1 on its
    device. With `one-byte` every read gives a byte. With `random` reads and writes are interrupted or short, as FAULT_AT
    seeds it. With `interrupted-line` so many writes to standard error are interrupted. With `paced` each read of a file
    run.scene waits for a byte of the descriptor FAULT_AT, and ends behind a line feed. With `no-root` the folder `/`
-   cannot be opened. `scripts/check-faults`, `scripts/check-process` and `scripts/check-replay` use it. */
+   cannot be opened. With `grows` a file gets a line more once its end was read. `scripts/check-faults`,
+   `scripts/check-process` and `scripts/check-replay` use it. */
 #define _GNU_SOURCE
 #include <dlfcn.h>
 #include <errno.h>
@@ -114,6 +115,17 @@ static ssize_t read_line(ssize_t (*real)(int, void *, size_t), int file, char *b
     return at;
 }
 
+/* Puts a wrong line behind the end of a file. */
+static void grow(int file)
+{
+    char link[32];
+    snprintf(link, sizeof link, "/proc/self/fd/%d", file);
+    int end = open(link, O_WRONLY | O_APPEND);
+    if (end >= 0 && write(end, "\ndnoe\t-\n", 8) == 8)
+        mark();
+    close(end);
+}
+
 static void *next(const char *name)
 {
     return dlsym(RTLD_NEXT, name);
@@ -180,7 +192,10 @@ ssize_t read(int file, void *bytes, size_t count)
         errno = strncmp(kind, "interrupted-", 12) ? EIO : EINTR;
         return -1;
     }
-    return real(file, bytes, count);
+    ssize_t given = real(file, bytes, count);
+    if (given == 0 && count && !strcmp(kind, "grows"))
+        grow(file);
+    return given;
 }
 
 int open(const char *path, int flags, ...)

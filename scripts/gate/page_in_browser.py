@@ -5,10 +5,10 @@ import re
 import shutil
 import time
 
+from gate.browser import OPTIONS
+from gate.checks import CASES, REPORT
+from gate.page_checks import STYLE, changed, make, run
 from norigully import TOP
-from norigully.browser import OPTIONS
-from norigully.checks import CASES, REPORT
-from norigully.page_checks import STYLE, changed, make, run
 from norigully.scene_lines import Attempt, Run, header
 
 TAB, ENTER, END, DOWN, N = ("Tab", 9), ("Enter", 13), ("End", 35), ("ArrowDown", 40), ("n", 78)
@@ -335,6 +335,37 @@ CODES = """(() => {
 })()"""
 
 
+def check_steps(checks, folder, browser):
+    """However fast `n` is pressed, it leads to each of 500 failures, and none is an entry of Back. Of the lists of
+    those that are slow, too, that of failures is scrolled."""
+    file, scene, made = folder / "page.html", folder / "steps.scene", []
+    of = Run(made.append, 500, 1)
+    for number in range(500):
+        of.done("steps", f"case_{number:03}", [Attempt("fail:1", 9 * (number > 490), b"", b"")])
+    of.end(1)
+    scene.write_text("".join(made))
+    make(checks, file, "--choices", "few", scene)
+    browser.resize(1200, 800)
+    browser.open(f"file://{file}")
+    found = browser.value(f"({STEPS})(500)")
+    checks.expect(found == [500, 0, "#steps%20case_499", True], f"500 steps: {found}")
+
+
+STEPS = """async count => {
+  const before = history.length, found = new Set();
+  for (let number = 0; number < count; number++) {
+    document.body.dispatchEvent(new KeyboardEvent("keydown", { key: "n", bubbles: true }));
+    await new Promise(it => setTimeout(it, 0));
+    found.add(document.querySelector("[aria-current]")?.lastChild.textContent);
+  }
+  await new Promise(it => setTimeout(it, 300));
+  const link = document.querySelector(".failed [aria-current]")?.getBoundingClientRect();
+  const list = $("tests").getBoundingClientRect();
+  const isShown = link && link.top >= list.top - 1 && link.bottom <= list.bottom + 1;
+  return [found.size, history.length - before, location.hash, isShown];
+}"""
+
+
 def lists_scene():
     """A recorded run with a failure in each form that its name may have, a flaky test, and slow ones."""
     made = [header((2024, 2, 29, 7, 5, 9), "ok")]
@@ -515,7 +546,7 @@ def check_long_paper(checks, folder, browser):
 
 CHECKS = (
     *(check_search, check_looks, check_pictures, check_colours, check_own_colours, check_stretches, check_keyboard),
-    *(check_many, check_lists, check_no_script, check_paper),
+    *(check_many, check_steps, check_lists, check_no_script, check_paper),
 )
 # Those of the page that `check_memory` made.
 LONG_CHECKS = (check_long, check_long_paper)

@@ -18,7 +18,8 @@ IMPL = re.compile(r"^impl(?:<[^{]*?>)? (?:[\w:]+(?:<.*?>)? for )?(\w+)", re.M)
 OWNER = re.compile(
     r"^(?:impl(?:<[^{]*?>)? (?P<of>[\w:]+(?:<.*?>)? for )?(?P<type>\w+)|pub trait (?P<trait>\w+))[^{]*?(?= *\{)", re.M
 )
-CLAUSE = re.compile(r"^ *(ensures|requires) (\w+ )?\{", re.M)
+# A clause: its kind, its name if it has one, and what it says where that is on one line.
+CLAUSE = re.compile(r"^ *(ensures|requires) (?:(\w+) )?\{(?: (.*?) \}$)?", re.M)
 USE = re.compile(r"^pub use ((?:\w+::)*)(?:\{(.*?)\}|(\w+(?: as \w+)?));", re.M | re.S)
 HAS_BODY = ("struct", "enum", "trait")
 
@@ -33,9 +34,9 @@ class Module:
 
 @dataclass(frozen=True)
 class Item:
-    """A public item: its path in its module, its kind, where it is declared, the first sentence of its comment, and the
-    kinds and names of its clauses. Also its declaration as in the source, without comment and clauses, the attributes
-    above it, the head of the `impl` that it is in, and the module that offers it."""
+    """A public item: its path in its module, its kind, where it is declared, the first sentence of its comment, and its
+    clauses, each by CLAUSE. Also its declaration as in the source, without comment and clauses, the attributes above
+    it, the head of the `impl` that it is in, and the module that offers it."""
 
     path: str
     kind: str
@@ -48,7 +49,11 @@ class Item:
     module: Module = field(compare=False)
 
     def has_condition(self):
-        return any(kind == "requires" for kind, _ in self.clauses)
+        return any(self.conditions())
+
+    def conditions(self):
+        """What it requires of its callers, each by its name and what it says."""
+        return [(name, said) for kind, name, said in self.clauses if kind == "requires"]
 
 
 def items_of(file, names, module):
@@ -65,7 +70,7 @@ def items_of(file, names, module):
             continue
         of = owner and (owner["type"] or owner["trait"])
         if names is None or (of or name) in names:
-            clauses = tuple((it[1], (it[2] or "").strip()) for it in CLAUSE.finditer(rest))
+            clauses = tuple(it.groups("") for it in CLAUSE.finditer(rest))
             comment, attributes = above(text[: found.start()])
             head, path = owner[0] if owner else "", f"{of}::{name}" if of else name
             declared = declaration(text, found)

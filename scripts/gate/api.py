@@ -6,8 +6,8 @@ import itertools
 import re
 import textwrap
 
+from gate.offered import CRATES, HAS_BODY, Module, first_sentence, offered, passed_on
 from norigully import TOP
-from norigully.offered import CRATES, HAS_BODY, Module, first_sentence, offered, passed_on
 
 REPORTER = Module("console_reporter", CRATES / "console_reporter/src/lib.rt")
 PRELUDE = Module("console_reporter::prelude", CRATES / "console_reporter/src/prelude.rt")
@@ -33,9 +33,9 @@ MOST_USED = (
 HEAD = """# What a program can call
 
 The public items of `console_reporter`, with those of other crates that it passes on. Each is declared as in its
-source, and has the first sentence of its comment. Below a function are the names of its clauses, as in
-`ensures writer, store`; a clause without a name is shown as `{..}`. What a clause says is in the source, whose file is
-named above.
+source, and has the first sentence of its comment. Below a function are its clauses: the names of those that have one,
+as in `ensures writer, store`, and what the others say, or `{..}` for more than a line. [PROOF](PROOF.md#how-to-read-it)
+explains the signs. The rest is in the source, whose file is named above.
 
 [USING.md](USING.md) says how to begin. `scripts/check-docs --write` makes this page, and `./test` fails where it is
 not up to date.
@@ -117,14 +117,15 @@ def traits_of(item):
 
 
 def function_lines(item):
-    """A function as its source declares it, with the names of its clauses."""
+    """A function as its source declares it, with its clauses: the names of some, and what the others say."""
     indent = "    " if item.head else ""
     yield from comment_lines(item.comment, indent)
     yield from item.declaration.split("\n")[:-1]
-    last = item.declaration.split("\n")[-1]
-    clauses = [", ".join(name or "{..}" for it, name in item.clauses if it == kind) for kind in ("requires", "ensures")]
-    named = [f"\n{indent}    {kind} {names}" for kind, names in zip(("requires", "ensures"), clauses) if names]
-    yield from f"{last}{''.join(named)};".split("\n")
+    shown = [item.declaration.split("\n")[-1]]
+    for (kind, is_named), group in itertools.groupby(item.clauses, lambda it: (it[0], bool(it[1]))):
+        said = [name or (f"{{ {text} }}" if text else "{..}") for _, name, text in group]
+        shown += (f"{indent}    {kind} {it}" for it in ([", ".join(said)] if is_named else said))
+    yield from (*shown[:-1], f"{shown[-1]};")
 
 
 def block(items):

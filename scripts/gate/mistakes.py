@@ -7,8 +7,8 @@ import functools
 import re
 import shutil
 
+from gate.functions import emptied, functions, head_above, name_at
 from norigully.crate_list import PARTS
-from norigully.functions import emptied, functions, head_above, name_at
 
 # The proof of a function that has no body.
 HOLE = """use Rattle.{crate}.proofs.{path}.Statement.{{statement}}

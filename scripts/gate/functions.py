@@ -1,10 +1,18 @@
 """The functions in a crate's text, as `rt fmt` lays them out: where each begins, where its body is, and what it is
-a method of. For scripts/check-mistakes, which changes, copies and empties them."""
+a method of. For scripts/check-mistakes, which changes, copies and empties them, and for what the crates above read."""
 
 import re
 
 FUNCTION = re.compile(r"^( *)(?:pub(?:\([^)]*\))? )?(const )?(unsafe )?(extern \"C\" )?fn (\w+)", re.M)
 OWNER = re.compile(r"^(?:pub(?:\([^)]*\))? )?(?:unsafe )?(?:impl|trait)\b([^{]*)\{", re.M)
+TRAIT = re.compile(r"(?:pub(?:\([^)]*\))? )?(?:unsafe )?trait\b")
+# A line that is empty or a comment, by the mark of a comment; else a string, a character or the end of a line, so that
+# none of these begins one.
+COMMENTS = r"""^[ \t]*(?:{mark}[^\n]*)?\n|"(?:\\[\s\S]|[^"\\])*"|'(?:\\[\s\S][^']*|[^'\\])'|{mark}[^\n]*"""
+# A derive of this library and a macro may read all that is in their file, and a comment in brackets may be anywhere.
+READ_WHOLE = re.compile(r"\bmacro_rules!|\bthiserror\b|/\*|\{-|\br#*\"")
+# The files of a function's proof, which no other file names.
+OF_A_PROOF = ("Answers.antt", "Invariants.antt", "Proof.antt")
 
 
 class Function:
@@ -95,3 +103,28 @@ def emptied(text, is_emptied):
         if it.is_plain and is_emptied(text, it):
             text = f"{text[: it.body]}{it.indent}    unreachable!()\n{text[it.end :]}"
     return text
+
+
+def without_comments(text, mark):
+    """The text without the lines that are empty or a comment."""
+    return re.sub(COMMENTS.format(mark=mark), lambda it: "" if it[0].endswith("\n") else it[0], text, flags=re.M)
+
+
+def has_own_body(text, it):
+    """Whether nothing but the function itself has this body: an `impl` in another crate takes that of a trait's method
+    over, and functions in a cycle are proved together."""
+    owners = [found[0] for found in OWNER.finditer(text, 0, it.start)] if it.indent else []
+    is_of_trait = owners and TRAIT.match(owners[-1])
+    return not is_of_trait and "#[cycle" not in text[it.above : it.start]
+
+
+def read_above(path, text):
+    """What the crates above read of a file of this crate: what it declares, contracts, definitions and lemmas, and no
+    comment, body or proof of a function. In doubt it is all of the file. None if it is nothing."""
+    if path.endswith(OF_A_PROOF):
+        return None
+    if READ_WHOLE.search(text):
+        return text
+    if path.endswith(".antt"):
+        return without_comments(text, "--")
+    return without_comments(emptied(text, has_own_body), "//")

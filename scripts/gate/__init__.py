@@ -1,0 +1,2 @@
+"""What ./test and the scripts check-* share. It imports from norigully, which is what people run, and nothing there
+imports from here."""
