@@ -12,6 +12,10 @@ Lacks b (c ∷ t) = ((c == b) ≡ false) × Lacks b t
 unfoldable pub split_on : ℕ → List ℕ → List (List ℕ)
 split_on b t = slice_split (λ c. c == b) t
 
+-- the first field of a line is read as this, and this text follows its tab
+abbrev pub BeginsWith : {X : Type 0} → (List ℕ → Option X) → List ℕ → X → List ℕ → Type 0
+BeginsWith read t x rest = (field : List ℕ) × (split_on 9 t ≡ field ∷ split_on 9 rest) × (read field ≡ Some x)
+
 -- the pieces of a text that is left, or none
 abbrev pub pieces_left : ℕ → Option (Bor (List ℕ)) → List (List ℕ)
 pieces_left b None = []

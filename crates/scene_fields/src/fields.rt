@@ -1,7 +1,7 @@
 //! A line of a scene, taken apart from left to right.
 
 ghost use Rattle.std.specs.Prelude.{◌≡◌, ◌+◌, ◌-◌, ◌++◌, ◌≤◌, ◌%◌, ◌^◌, ◌==◌, ◌&&◌, [], ◌∷◌, MatchOption, MatchResult};
-ghost use Rattle.std.specs.Prelude.{IfSome, None, OnOk, Some, drop, length, nat_le, Ok};
+ghost use Rattle.std.specs.Prelude.{None, OnOk, Some, drop, length, nat_le, Ok};
 ghost use Rattle.{std.specs.Option.ForSome, std.specs.Option.is_some, scene_fields.specs.Split.split_on};
 ghost use Rattle.{scene_fields.specs.Split.field_texts, scene_fields.specs.declared.fault.LineFault.LineFault};
 ghost use Rattle.scene_fields.specs.Fields.{IsRightNumber, Noted, Place, ReadsBy, TriesBy, answered, next, next_stored};
@@ -248,18 +248,6 @@ impl<'a> Fields<'a> {
         ensures { self.now.left ≡ field_texts result.now ++ drop (length result.now) self.now.left }
     {
         self.left
-    }
-
-    /// All fields that are left, unless one has memory of its own or outputs of the line may be stored.
-    #[inline(always)]
-    pub fn plain(&self) -> Option<&'a [&'a str]>
-        ensures { IfSome result (λ texts. self.now
-            ≡ record { number = self.now.number; left = field_texts texts.now; noted = None }) }
-    {
-        if !self.owned.is_empty() || self.noted.is_some() {
-            return None;
-        }
-        Some(self.left)
     }
 
     /// Skips the given number of fields.

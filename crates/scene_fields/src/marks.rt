@@ -58,6 +58,30 @@ pub fn find_byte(byte: u8, bytes: &[u8]) -> Option<usize>
     None
 }
 
+/// The first position of the byte, like [`find_byte`], for texts that mostly have it among their first 32 bytes. No more
+/// is inlined: where several such searches follow one another, the compiler would mix them.
+#[inline(always)]
+pub fn find_near(byte: u8, bytes: &[u8]) -> Option<usize>
+    requires { byte ≢ 0 }
+    ensures { IsFirstByte (is_byte byte) bytes.now result }
+{
+    if bytes.len() >= 32 {
+        let marks = marks_from(byte, bytes, 0);
+        if marks != 0 {
+            return Some(first_place(marks));
+        }
+    }
+    find_far(byte, bytes)
+}
+
+#[inline(never)]
+fn find_far(byte: u8, bytes: &[u8]) -> Option<usize>
+    requires { byte ≢ 0 }
+    ensures { IsFirstByte (is_byte byte) bytes.now result }
+{
+    find_byte(byte, bytes)
+}
+
 /// The positions of a byte in a block, counted in bytes from 0: the mask has the bit of each.
 #[inline(always)]
 pub fn match_mask(byte: u8, block: u8x32) -> u64

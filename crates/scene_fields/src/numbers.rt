@@ -2,10 +2,10 @@
 //!
 //! They are decimal, and may have leading zeros. A plus is never allowed, and a minus only if a number may be negative.
 
-ghost use Rattle.std.specs.Prelude.{◌≡◌, ◌<◌, ◌≤◌, ◌^◌, length, false, MatchOption};
+ghost use Rattle.std.specs.Prelude.{◌≡◌, ◌<◌, ◌≤◌, ◌^◌, length, false, IfSome, MatchOption};
 ghost use Rattle.std.specs.{Option.SomeIff, Str.Parse.IsNumeral, Str.Parse.digits_value, Str.Parse.signed_digits_value};
 ghost use Rattle.scene_fields.specs.Numbers.{IsLeadingNumber, IsSigned, code_in, nanos_in, number_in};
-ghost use Rattle.scene_fields.specs.Numbers.{starts_with_digit};
+ghost use Rattle.scene_fields.specs.{Numbers.starts_with_digit, Split.BeginsWith};
 
 use run_model::time::Nanos;
 
@@ -94,6 +94,24 @@ pub fn read_nanos(text: &str) -> Option<Nanos>
     ensures { result ≡ nanos_in text.now }
 {
     Some(Nanos(read_wide_count(text)?))
+}
+
+/// Reads the first field of a line as a duration of at most nineteen digits, and returns the text after its tab, too.
+///
+/// ```
+/// assert_eq!(cut_nanos("250\t0\tsplit"), Some((Nanos(250), "0\tsplit")));
+/// ```
+#[inline(always)]
+pub fn cut_nanos(line: &str) -> Option<(Nanos, &str)>
+    ensures { IfSome result (λ x. BeginsWith nanos_in line.now x.0 x.1.now) }
+{
+    let (number, rest) = leading_number(line.as_bytes())?;
+    let (behind, _) = rest.split_first()?;
+    if *behind != b'\t' {
+        return None;
+    }
+    let tab = line.len() - rest.len();
+    Some((Nanos(u128::from(number)), &line[tab + 1..]))
 }
 
 // Reads a number of 128 bits.

@@ -7,7 +7,7 @@ ghost use Rattle.std.specs.Prelude.{◌≡◌, ◌<◌, ◌≤◌, ◌+◌, [], 
 ghost use Rattle.scene_fields.specs.Split.{Lacks, cut, cut_texts, split_on, pieces_left, size_left};
 ghost use Rattle.{memchr.specs.Find.IsFirstByte, memchr.specs.Find.is_byte};
 
-use super::marks::find_byte;
+use super::marks::{find_byte, find_near};
 use memchr::memchr;
 
 /// How many bytes at the front of a text are searched before memchr is called: most separators are there.
@@ -57,6 +57,19 @@ pub fn split_at_byte(text: &str, byte: u8) -> Option<(&str, &str)>
         return None;
     };
     Some((&text[..at], &text[at + 1..]))
+}
+
+/// The first field of a line, and the text after its tab.
+///
+/// ```
+/// assert_eq!(cut_field("alpha\tt1\tpass"), Some(("alpha", "t1\tpass")));
+/// ```
+#[inline(always)]
+pub fn cut_field(line: &str) -> Option<(&str, &str)>
+    ensures { IfSome result (λ x. split_on 9 line.now ≡ x.0.now ∷ split_on 9 x.1.now) }
+{
+    let tab = find_near(b'\t', line.as_bytes())?;
+    Some((&line[..tab], &line[tab + 1..]))
 }
 
 /// The text before the first of these bytes, and the text after it, if it has one. The byte is ASCII.

@@ -1,5 +1,5 @@
 -- The usual `done` line, and what it says.
-use Rattle.std.specs.Prelude.{◌≡◌, ℕ, ℤ, List, [], false, Option, None, Some, Ok, codes}
+use Rattle.std.specs.Prelude.{◌≡◌, ℕ, ℤ, List, [], ◌∷◌, false, Option, None, Some, Ok, codes}
 use Rattle.run_model.specs.Names.{Attempt}
 use Rattle.run_model.specs.declared.{stats.RunStats.RunStats}
 use Rattle.run_model.specs.declared.status.{ExecutionResultDescription.ExecutionResultDescription}
@@ -8,7 +8,7 @@ use Rattle.scene_fields.specs.{Texts.text_in}
 use Rattle.run_model.specs.Names.{OwnedTestInstanceId}
 use Rattle.scene_fields.specs.Fields.{with_attempts}
 use Rattle.scene_unit_lines.specs.Lines.{done_line_fields, retry_numbered, stream_in}
-use Rattle.scene_reader.specs.SceneTexts.{event_word, with_stored}
+use Rattle.scene_reader.specs.SceneTexts.{LinesBefore, line_place, line_words, with_stored}
 use Rattle.scene_reader.specs.SceneTexts.ParsedLine.{EventLine}
 use Rattle.scene_reader.specs.declared.usual.{UsualDone.UsualDone, UsualFields.UsualFields}
 use Rattle.run_model.specs.declared.output.ChildExecutionOutputDescription.TheVariants as wrote
@@ -40,22 +40,17 @@ usual_event names u = event_at 0
       flaky_result = u.values.flaky_result;
     }) u.current_stats)
 
--- the fields that are the same in all usual lines: the iteration, whether the attempt was slow, the form of its output,
--- errors, and a highlight
-abbrev pub AreUsual : List ℕ → List ℕ → List ℕ → List ℕ → List ℕ → Type 0
-AreUsual stress slow form errors highlight = (stress ≡ codes "-") × (slow ≡ codes "0") × (form ≡ codes "split")
-    × (errors ≡ codes "-") × (highlight ≡ codes "-")
-
 -- the names that the fields of a usual line spell
 abbrev pub NamesUsual : UsualFields → OwnedTestInstanceId → Type 0
 NamesUsual u names = (text_in u.binary_id.now ≡ Some names.binary_id) × (text_in u.test_name.now ≡ Some names.test_name)
 
--- the fields say this, with the names, the statistics and the streams that their fields spell
+-- the fields say this behind `done`, with the names, the statistics and the streams that their fields spell
 abbrev pub SaysFields : List (List ℕ) → UsualFields → Type 0
-SaysFields fields u = (n : ℕ) (names : OwnedTestInstanceId) (stats : RunStats) (stdout stderr : Option (List ℕ))
+SaysFields fields u = (behind : List (List ℕ)) × (fields ≡ codes "done" ∷ behind) × ((n : ℕ)
+    (names : OwnedTestInstanceId) (stats : RunStats) (stdout stderr : Option (List ℕ))
     → NamesUsual u names → stats_in u.stats.now ≡ Some stats → stream_in u.stdout.now ≡ Some stdout
     → stream_in u.stderr.now ≡ Some stderr
-    → (end : ℕ) × (with_attempts done_line_fields (record { number = n; left = fields; noted = None })
+    → (end : ℕ) × (with_attempts done_line_fields (record { number = n; left = behind; noted = None })
     ≡ Ok (
       usual_event names (record {
         values = u.values;
@@ -68,10 +63,9 @@ SaysFields fields u = (n : ℕ) (names : OwnedTestInstanceId) (stats : RunStats)
         left = [];
         noted = None;
       },
-    ))
+    )))
 
--- the fields behind `done` say this, with these names
-abbrev pub SaysUsual : List (List ℕ) → OwnedTestInstanceId → UsualDone → Type 0
-SaysUsual fields names u = (n : ℕ)
-    → with_stored (event_word (codes "done") (record { number = n; left = fields; noted = None }))
-    ≡ Ok (EventLine (usual_event names u), [])
+-- the line says this, with these names
+abbrev pub SaysUsual : List ℕ → OwnedTestInstanceId → UsualDone → Type 0
+SaysUsual line names u = (before : LinesBefore)
+    → with_stored (line_words before (line_place None line)) ≡ Ok (EventLine (usual_event names u), [])

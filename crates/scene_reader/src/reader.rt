@@ -4,14 +4,15 @@
 //! kind of the event. `lines` knows which kinds there are; what fields each has is in the crates `scene_unit_lines` and
 //! `scene_run_lines`.
 
-ghost use Rattle.std.specs.Prelude.{◌≡◌, ◌+◌, ℕ, List, false, true, IfErr, Result, None, Ok, OnOk, Some, codes};
+ghost use Rattle.std.specs.Prelude.{◌≡◌, ◌+◌, ℕ, List, false, true, IfErr, Result, None, Ok, OnOk, Some};
 ghost use Rattle.{scene_fields.specs.Fields.none_noted, scene_fields.specs.Fields.answered};
 ghost use Rattle.{scene_run_lines.specs.Configs.unconfigured};
 ghost use Rattle.{run_model.specs.declared.call.ReportCall.ReportCall};
 ghost use Rattle.{scene_fields.specs.declared.stored.PlacedOutput.PlacedOutput};
 ghost use Rattle.{command_line.specs.declared.fault.Fault.Fault};
 ghost use Rattle.scene_reader.specs.SceneTexts.{PassesValue, before_next, event_word, config_words, with_config};
-ghost use Rattle.scene_reader.specs.SceneTexts.{fault_at, is_configuration, is_passed_over, line_from, line_words};
+ghost use Rattle.scene_reader.specs.SceneTexts.{fault_at, is_configuration, is_passed_over, line_from, line_place};
+ghost use Rattle.scene_reader.specs.SceneTexts.{line_words};
 ghost use Rattle.scene_reader.specs.SceneTexts.{IsReadAgain, LinesBefore, parsed_line, value_of, with_stored};
 
 pub mod lines;
@@ -98,8 +99,10 @@ impl LinesRead {
         let Ok(line) = str::from_utf8(line) else {
             return Err(self.fault(LineFault::NotUtf8));
         };
-        split_fields(line, texts)?;
-        self.pass_fields(alloc, file, Fields::new(texts.as_slice()), sink)
+        if line.starts_with("done\t") {
+            return self.pass_done(alloc, file, line, texts, sink);
+        }
+        self.pass_split(alloc, file, line, texts, sink)
     }
 
     /// Reads the line that follows as `pass_line` does. It has its own memory, which a large output in it takes. Each
@@ -171,7 +174,6 @@ impl LinesRead {
             Err(fault) => return Err(self.fault(fault)),
         };
         match word {
-            "done" => self.pass_done(alloc, file, fields, sink),
             "config" => match self.read_config_line(&mut fields) {
                 Ok(()) => self.pass_over(),
                 Err(fault) => Err(self.fault(fault)),
@@ -195,23 +197,22 @@ impl LinesRead {
         Ok(())
     }
 
-    // Reads a `done` line. Not inlined, like the next one: the compiler zeroes all locals of a function at its entry,
+    // Reads a `done` line. Not inlined, like the next ones: the compiler zeroes all locals of a function at its entry,
     // used or not.
     #[inline(never)]
-    fn pass_done<'a, K: CallSink>(
+    fn pass_done<'a, 't, K: CallSink>(
         &mut self,
         alloc: Global,
         file: &'a str,
-        fields: Fields<'_>,
+        line: &'t str,
+        texts: &mut Vec<&'t str>,
         sink: &mut K,
     ) -> Result<(), Fault<'a>>
-        ensures { PassesValue K.takes file.now (with_stored (event_word (codes "done") fields.entry)) self.old
-            sink.old result self.new sink.new }
+        ensures { PassesValue K.takes file.now
+            (with_stored (line_words (before_next self.old) (line_place None line.now))) self.old sink.old result
+            self.new sink.new }
     {
-        let Some(texts) = fields.plain() else {
-            return self.pass_call(alloc, file, "done", fields, sink);
-        };
-        match read_usual(alloc, texts, &mut self.names)? {
+        match read_usual(alloc, line, &mut self.names)? {
             Some(usual) => {
                 let number = self.next;
                 // No text has that many lines.
@@ -221,8 +222,26 @@ impl LinesRead {
                 self.count_event(next);
                 Ok(())
             }
-            None => self.pass_call(alloc, file, "done", fields, sink),
+            None => self.pass_split(alloc, file, line, texts, sink),
         }
+    }
+
+    // Splits a line into its fields, and reads them.
+    #[inline(never)]
+    fn pass_split<'a, 't, K: CallSink>(
+        &mut self,
+        alloc: Global,
+        file: &'a str,
+        line: &'t str,
+        texts: &mut Vec<&'t str>,
+        sink: &mut K,
+    ) -> Result<(), Fault<'a>>
+        ensures { PassesValue K.takes file.now
+            (with_stored (line_words (before_next self.old) (line_place None line.now))) self.old sink.old result
+            self.new sink.new }
+    {
+        split_fields(line, texts)?;
+        self.pass_fields(alloc, file, Fields::new(texts.as_slice()), sink)
     }
 
     // Reads the fields behind the word of an event. Its call is large: it is made here, and lent.

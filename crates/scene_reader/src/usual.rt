@@ -1,14 +1,14 @@
 //! The usual `done` line, and the call that it says.
 //!
 //! Most lines of most scenes are such lines: of a test that is in no stress run, passed or ended with an exit code at
-//! its first attempt, and was not slow. Other lines are read field by field, up to the first fault. Here all fields are
-//! seen at once, and any line that is not usual is left to be read so, a faulty one too.
+//! its first attempt, and was not slow. Such a line is read in place. Any other line, and any with a fault, is split into
+//! fields, which are read one by one.
 
-ghost use Rattle.std.specs.Prelude.{◌≡◌, Some, IfOk, IfSome, IsTrue};
+ghost use Rattle.std.specs.Prelude.{◌≡◌, ◌∷◌, IfOk, IfSome};
 ghost use Rattle.scene_fields.specs.{Calls.call_by_names, Numbers.number_in, Results.result_in};
-ghost use Rattle.{scene_fields.specs.Split.field_texts};
+ghost use Rattle.scene_fields.specs.Split.{BeginsWith, split_on};
 ghost use Rattle.scene_unit_lines.specs.Lines.{stream_in};
-ghost use Rattle.scene_reader.specs.Usual.{AreUsual, NamesUsual, SaysFields, SaysUsual, usual_event, usual_result};
+ghost use Rattle.scene_reader.specs.Usual.{NamesUsual, SaysFields, SaysUsual, usual_event, usual_result};
 
 use run_model::call::ReportCall;
 use run_model::config::TestOutputDisplay;
@@ -26,7 +26,8 @@ use run_model::status::{
 use run_model::time::Nanos;
 use scene_fields::counts::read_stats;
 use scene_fields::names::replace_name;
-use scene_fields::numbers::{read_code, read_nanos, read_small_count};
+use scene_fields::numbers::{cut_nanos, read_code, read_small_count};
+use scene_fields::split::{cut_field, split_at_byte};
 use scene_fields::texts::read_bytes;
 use scene_fields::values::{read_display, read_flaky_result};
 use std::alloc::Global;
@@ -54,7 +55,7 @@ struct UsualValues {
     time_taken: Nanos,
 }
 
-// The fields of a usual line that are read one after another.
+// The fields of a usual line, of which these values are read.
 #[derive(Clone, Copy)]
 struct UsualFields<'t> {
     values: UsualValues,
@@ -65,20 +66,16 @@ struct UsualFields<'t> {
     stderr: &'t str,
 }
 
-/// Reads the fields of a usual line, with its names in place of others. Any other line gives None, and any names.
+/// Reads a usual line, with its names in place of others. Any other line gives None, and any names.
 ///
 /// # Errors
 ///
 /// Memory was refused.
 #[inline(always)]
-pub fn read_usual(
-    alloc: Global,
-    fields: &[&str],
-    names: &mut OwnedTestInstanceId,
-) -> Field<UsualDone>
-    ensures { IfOk result (λ usual. IfSome usual (SaysUsual (field_texts fields.now) names.new)) }
+pub fn read_usual(alloc: Global, line: &str, names: &mut OwnedTestInstanceId) -> Field<UsualDone>
+    ensures { IfOk result (λ usual. IfSome usual (SaysUsual line.now names.new)) }
 {
-    let Some(usual) = read_values(fields) else {
+    let Some(usual) = cut_fields(line) else {
         return Ok(None);
     };
     let Some(current_stats) = read_stats(usual.stats) else {
@@ -101,33 +98,24 @@ pub fn read_usual(
     }))
 }
 
-// Reads the fields of a usual line up to those that are read one after another.
+// Cuts a usual line into its fields, and reads those that allocate nothing. The line is read in place, from left to
+// right: what is the same in all usual lines is compared, and other fields are searched for their tabs.
 #[inline(always)]
-fn read_values<'t>(fields: &[&'t str]) -> Option<UsualFields<'t>>
-    ensures { IfSome result (SaysFields (field_texts fields.now)) }
+fn cut_fields(line: &str) -> Option<UsualFields<'_>>
+    ensures { IfSome result (SaysFields (split_on 9 line.now)) }
 {
-    let [
-        stress,
-        binary_id,
-        test_name,
-        success,
-        failure,
-        flaky,
-        stats,
-        total,
-        outcome,
-        nanos,
-        slow,
-        form,
-        stdout,
-        stderr,
-        errors,
-        highlight,
-    ] = fields
-    else {
-        return None;
-    };
-    if !is_usual(stress, slow, form, errors, highlight) {
+    let (binary_id, rest) = cut_field(line.strip_prefix("done\t-\t")?)?;
+    let (test_name, rest) = cut_field(rest)?;
+    let (success, rest) = cut_field(rest)?;
+    let (failure, rest) = cut_field(rest)?;
+    let (flaky, rest) = cut_field(rest)?;
+    let (stats, rest) = cut_field(rest)?;
+    let (total_attempts, rest) = cut_total(rest)?;
+    let (exit_code, rest) = cut_outcome(rest)?;
+    let (time_taken, rest) = cut_nanos(rest)?;
+    let (stdout, rest) = cut_stream(rest.strip_prefix("0\tsplit\t")?)?;
+    let (stderr, rest) = cut_stream(rest)?;
+    if rest != "-\t-" {
         return None;
     }
     Some(UsualFields {
@@ -135,48 +123,54 @@ fn read_values<'t>(fields: &[&'t str]) -> Option<UsualFields<'t>>
             success_output: read_display(success)?,
             failure_output: read_display(failure)?,
             flaky_result: read_flaky_result(flaky)?,
-            total_attempts: read_total(total)?,
-            exit_code: read_outcome(outcome)?,
-            time_taken: read_nanos(nanos)?,
+            total_attempts,
+            exit_code,
+            time_taken,
         },
-        binary_id: *binary_id,
-        test_name: *test_name,
-        stats: *stats,
-        stdout: *stdout,
-        stderr: *stderr,
+        binary_id,
+        test_name,
+        stats,
+        stdout,
+        stderr,
     })
 }
 
-// Whether the fields that are the same in all usual lines are so.
+// Reads how many attempts there can be, which mostly is one, and cuts it off.
 #[inline(always)]
-fn is_usual(stress: &str, slow: &str, form: &str, errors: &str, highlight: &str) -> bool
-    ensures { IsTrue result → AreUsual stress.now slow.now form.now errors.now highlight.now }
+#[tactic(auto, using(crate::proofs::lemmas::UsualFields::one))]
+fn cut_total(line: &str) -> Option<(u32, &str)>
+    ensures { IfSome result (λ x. BeginsWith (number_in 32) line.now x.0 x.1.now) }
 {
-    matches!((stress, slow, form), ("-", "0", "split")) && matches!((errors, highlight), ("-", "-"))
-}
-
-// Reads how many attempts there can be, which mostly is one.
-#[inline(always)]
-#[tactic(auto, unfolding(scene_fields::specs::Numbers::number_in))]
-fn read_total(field: &str) -> Option<u32>
-    ensures { result ≡ number_in 32 field.now }
-{
-    match field {
-        "1" => Some(1),
-        _ => read_small_count(field),
+    if let Some(rest) = line.strip_prefix("1\t") {
+        return Some((1, rest));
     }
+    let (field, rest) = cut_field(line)?;
+    Some((read_small_count(field)?, rest))
 }
 
-// Reads the exit code of a failure. A pass has none.
+// Reads the exit code of a failure, and cuts the outcome off. A pass has none.
 #[inline(always)]
 #[tactic(auto, using(crate::proofs::lemmas::UsualFields::passed, crate::proofs::lemmas::UsualFields::failed))]
-fn read_outcome(field: &str) -> Option<Option<i32>>
-    ensures { IfSome result (λ code. result_in field.now ≡ Some (usual_result code)) }
+fn cut_outcome(line: &str) -> Option<(Option<i32>, &str)>
+    ensures { IfSome result (λ x. BeginsWith result_in line.now (usual_result x.0) x.1.now) }
 {
-    match field {
-        "pass" => Some(None),
-        _ => Some(Some(read_code(field.strip_prefix("fail:")?)?)),
+    if let Some(rest) = line.strip_prefix("pass\t") {
+        return Some((None, rest));
     }
+    let (field, rest) = cut_field(line)?;
+    Some((Some(read_code(field.strip_prefix("fail:")?)?), rest))
+}
+
+// Cuts a stream off. Most are empty, and a long one is searched with memchr.
+#[inline(always)]
+#[tactic(auto, using(crate::proofs::lemmas::UsualFields::empty))]
+fn cut_stream(line: &str) -> Option<(&str, &str)>
+    ensures { IfSome result (λ x. split_on 9 line.now ≡ x.0.now ∷ split_on 9 x.1.now) }
+{
+    if let Some(rest) = line.strip_prefix("\t") {
+        return Some(("", rest));
+    }
+    split_at_byte(line, b'\t')
 }
 
 // Reads a stream's bytes, or `-` where it was not captured. None is a bad field. Most streams are empty.

@@ -1,7 +1,9 @@
--- Statistics in their usual order (for `number_after`, `read_usual_stats`).
+-- Statistics in their usual order, and a duration (for `cut_nanos`, `number_after`, `read_usual_stats`).
 use Rattle.std.proofs.Common.{◌≡◌, ℕ, zero, suc, ◌+◌, ◌^◌, ◌<◌, ◌≤◌, ◌≢◌, List, [], ◌∷◌, ◌++◌, Bool, true, false, not}
-use Rattle.std.proofs.Common.{◌==◌, length, take, take-append-drop, take_all, drop, get_or, set, get_or-set_other}
+use Rattle.std.proofs.Common.{◌==◌, ◌-◌, length, length-append, take, take-append-drop, take_all, drop, get_or, set}
+use Rattle.std.proofs.Common.{get_or-set_other}
 use Rattle.std.proofs.Common.{rules, replicate, codes, Option, Some, refl, ap, sym, ◌∙◌, append_assoc, arith, inl, inr}
+use Rattle.{std.proofs.Math.Seq.drop-append-add, std.proofs.Math.Seq.get_or-append_seam}
 use Rattle.std.{proofs.Common.append-nil, proofs.lemmas.Int.Digits.digits_value-lt}
 use Rattle.std.{proofs.lemmas.Bool.Decides.nat_tests, proofs.lemmas.List.take-append-le, specs.Bool.Decides}
 use Rattle.std.{specs.Char.digit_value, specs.Option.option_map, specs.Str.Parse.AllDigits}
@@ -11,8 +13,8 @@ use Rattle.scene_fields.proofs.lemmas.Cuts.{cut-parts, split_on-lacks, split_on-
 use Rattle.{run_model.specs.Stats.planned_stats, run_model.specs.declared.stats.RunStats.RunStats}
 use Rattle.{scene_fields.proofs.lemmas.Numbers.number_by}
 use Rattle.scene_fields.specs.Counts.{in_turn, pair_in, row_in, stats_in, stats_rows}
-use Rattle.scene_fields.specs.Numbers.{IsLeadingNumber, IsNumberAfter, IsNumberOrZero, number_in}
-use Rattle.scene_fields.specs.{Split.Lacks, Split.split_on}
+use Rattle.scene_fields.specs.Numbers.{IsLeadingNumber, IsNumberAfter, IsNumberOrZero, nanos_in, number_in}
+use Rattle.scene_fields.specs.Split.{BeginsWith, Lacks, split_on}
 
 -- the text after a key of n bytes
 pub behind_key : (key t front behind : List ℕ) (n : ℕ) → front ≡ take n t → behind ≡ drop n t → front ≡ key
@@ -59,13 +61,36 @@ Lacks-append : (b : ℕ) (x y : List ℕ) → Lacks b x → Lacks b y → Lacks 
 Lacks-append b [] y h k = k
 Lacks-append b (c ∷ x) y h k = (h.0, Lacks-append b x y h.1 k)
 
--- so few digits are a count
-count_by : (t : List ℕ) (n : ℕ) (rest : List ℕ) (r : IsLeadingNumber t n rest) → number_in 64 r.digits ≡ Some n
-count_by t n rest r =
+-- so few digits are a number of 64 bits and more
+few_digits : (bits : ℕ) → 2 ^ 64 ≤ 2 ^ bits → (t : List ℕ) (n : ℕ) (rest : List ℕ) (r : IsLeadingNumber t n rest)
+    → number_in bits r.digits ≡ Some n
+few_digits bits wide t n rest r =
     let below : digits_value 10 r.digits < 10 ^ length r.digits = digits_value-lt 10 r.digits r.numeral.1 in
     let most : 10 ^ length r.digits ≤ 10 ^ 19 = pow-le-pow_right {n = 10} (omega arith) r.short in
-    let fits : digits_value 10 r.digits < 2 ^ 64 = omega (arith, below, most) in
-    sym (number_by 64 (2 ^ 64) r.digits (Some n) ((r.numeral, fits), r.value) refl)
+    let fits : digits_value 10 r.digits < 2 ^ bits = omega (arith, below, most, wide) in
+    sym (number_by bits (2 ^ bits) r.digits (Some n) ((r.numeral, fits), r.value) refl)
+
+-- a duration in front of a tab
+pub nanos_first : (t : List ℕ) (n : ℕ) (rest behind : List ℕ) → IsLeadingNumber t n rest → rest ≡ 9 ∷ behind
+    → BeginsWith nanos_in t (record { 0 = n }) behind
+nanos_first t n rest behind r is = (
+  r.digits,
+  ap (split_on 9) (r.parts ∙ ap (λ u. r.digits ++ u) is)
+      ∙ split_on-parts 9 r.digits behind (digits_lack 9 r.digits refl r.numeral.1),
+  rw (few_digits 128 (omega arith) t n rest r) refl,
+)
+
+-- the place of that tab
+pub tab_behind : (t : List ℕ) (n : ℕ) (rest behind : List ℕ) → IsLeadingNumber t n rest → rest ≡ 9 ∷ behind → (tab : ℕ)
+    → tab ≡ length t - length rest → (tab < length t) × (get_or t tab 0 ≡ 9) × (drop (tab + 1) t ≡ behind)
+tab_behind t n rest behind r is tab at =
+    let parts : t ≡ r.digits ++ (9 ∷ behind) = r.parts ∙ ap (λ u. r.digits ++ u) is in
+    let size = ap length r.parts ∙ length-append r.digits rest in
+    let place : tab ≡ length r.digits = omega (arith, at, size) in (
+      omega (arith, at, size, ap length is),
+      rw (place, parts) (get_or-append_seam r.digits 9 behind 0),
+      rw (place, parts) (drop-append-add r.digits (9 ∷ behind) 1),
+    )
 
 -- a key each of whose numbers counts something in its own row
 record IsCounted (s : RunStats) (key : List ℕ) (place : ℕ) (counted : ℕ → RunStats) : Type 0 where
@@ -95,7 +120,7 @@ module _ (all : Option RunStats) (s : RunStats) (key : List ℕ) (place : ℕ) (
         → IsLeadingNumber behind n rest → SaidBefore all (place + 1) (counted n) rest
     unfolding said in_turn
     pair_read behind n rest before r =
-        let e = count_by behind n rest r in
+        let e = few_digits 64 (omega arith) behind n rest r in
         let lacks : Lacks 32 (key ++ (61 ∷ r.digits)) = Lacks-append 32 key (61 ∷ r.digits) is.no_space
         (refl, digits_lack 32 r.digits refl r.numeral.1) in
         let new = free place low in

@@ -1,75 +1,89 @@
--- The fields of a usual line, one after the other (for `read_outcome`, `read_usual`).
-use Rattle.std.proofs.Common.{◌≡◌, ℕ, zero, suc, ◌+◌, ◌≤◌, ◌<◌, List, [], ◌∷◌, ◌++◌, None, Some, refl, ap}
-use Rattle.std.proofs.Common.{sym, ◌∙◌, subst, length, drop, arith, Bor, slice_index_or, drop_of_length-le, add-one, ℤ}
+-- The fields of a usual line, one after the other (for `cut_outcome`, `cut_total`, `cut_stream`, `cut_fields`).
+use Rattle.std.proofs.Common.{◌≡◌, ℕ, ◌+◌, List, [], ◌∷◌, ◌++◌, None, Some, refl, ℤ}
 use Rattle.std.specs.Prelude.{codes}
-use Rattle.{std.proofs.Math.Seq.drop-cons}
-use Rattle.scene_fields.specs.{Numbers.code_in, Split.cut, Split.field_texts}
-use Rattle.scene_fields.specs.{Results.result_in, Values.display_in, Values.flaky_in, Numbers.nanos_in}
-use Rattle.scene_fields.specs.{Numbers.number_in}
+use Rattle.scene_fields.specs.{Numbers.code_in, Numbers.nanos_in, Numbers.number_in, Results.result_in}
+use Rattle.scene_fields.specs.{Split.BeginsWith, Split.cut, Split.split_on, Values.display_in, Values.flaky_in}
 use Rattle.scene_unit_lines.specs.Lines.{after_streams, all_attempts, attempt_fields, attempts_from, instance_fields}
 use Rattle.scene_unit_lines.specs.Lines.{output_fields, spelled_output_fields}
-use Rattle.scene_reader.specs.Usual.{AreUsual, SaysFields, usual_result}
+use Rattle.scene_reader.specs.Usual.{SaysFields, usual_result}
 use Rattle.scene_reader.specs.declared.usual.UsualFields.{UsualFields}
 
-pub usual_says : (u : UsualFields) (success failure flaky total outcome nanos : List ℕ)
+module _ (t rest : List ℕ) where
+  pub one : t ≡ codes "1\t" ++ rest → BeginsWith (number_in 32) t 1 rest
+  unfolding split_on number_in
+  one is = (codes "1", rw is refl, refl)
+
+  pub passed : t ≡ codes "pass\t" ++ rest → BeginsWith result_in t (usual_result None) rest
+  unfolding split_on result_in cut
+  passed is = (codes "pass", rw is refl, refl)
+
+  pub failed : (field code : List ℕ) (n : ℤ) → split_on 9 t ≡ field ∷ split_on 9 rest → field ≡ codes "fail:" ++ code
+      → code_in code ≡ Some n → BeginsWith result_in t (usual_result (Some n)) rest
+  unfolding result_in cut
+  failed field code n first is read = (field, first, rw (is, read) refl)
+
+  pub empty : t ≡ codes "\t" ++ rest → split_on 9 t ≡ [] ∷ split_on 9 rest
+  unfolding split_on
+  empty is = rw is refl
+
+  done : t ≡ codes "done\t-\t" ++ rest → split_on 9 t ≡ codes "done" ∷ codes "-" ∷ split_on 9 rest
+  unfolding split_on
+  done is = rw is refl
+
+  split : t ≡ codes "0\tsplit\t" ++ rest → split_on 9 t ≡ codes "0" ∷ codes "split" ∷ split_on 9 rest
+  unfolding split_on
+  split is = rw is refl
+
+last : (t : List ℕ) → t ≡ codes "-\t-" → split_on 9 t ≡ codes "-" ∷ codes "-" ∷ []
+unfolding split_on
+last t is = rw is refl
+
+usual_says : (u : UsualFields) (success failure flaky total outcome nanos : List ℕ)
     → display_in success ≡ Some u.values.success_output → display_in failure ≡ Some u.values.failure_output
     → flaky_in flaky ≡ Some u.values.flaky_result → number_in 32 total ≡ Some u.values.total_attempts
     → result_in outcome ≡ Some (usual_result u.values.exit_code) → nanos_in nanos ≡ Some u.values.time_taken
     → SaysFields
-    (codes "-" ∷ u.binary_id.now ∷ u.test_name.now ∷ success ∷ failure ∷ flaky ∷ u.stats.now ∷ total ∷ outcome
-    ∷ nanos ∷ codes "0" ∷ codes "split" ∷ u.stdout.now ∷ u.stderr.now ∷ codes "-" ∷ codes "-" ∷ []) u
+    (codes "done" ∷ codes "-" ∷ u.binary_id.now ∷ u.test_name.now ∷ success ∷ failure ∷ flaky ∷ u.stats.now ∷ total
+    ∷ outcome ∷ nanos ∷ codes "0" ∷ codes "split" ∷ u.stdout.now ∷ u.stderr.now ∷ codes "-" ∷ codes "-" ∷ []) u
 unfolding after_streams all_attempts attempt_fields attempts_from instance_fields output_fields spelled_output_fields
-usual_says u success failure flaky total outcome nanos e1 e2 e3 e4 e5 e6 n names stats stdout stderr named e7 e8 e9 = (
-  n + 1 + 1 + 1 + 1 + 1 + 1 + 1 + 1 + 1 + 1 + 1 + 1 + 1 + 1 + 1 + 1,
-  rw (named.0, named.1, e1, e2, e3, e7, e4, e5, e6, e8, e9) refl,
+usual_says u success failure flaky total outcome nanos e1 e2 e3 e4 e5 e6 = (
+  _,
+  refl,
+  λ n names stats stdout stderr named e7 e8 e9. (
+    n + 1 + 1 + 1 + 1 + 1 + 1 + 1 + 1 + 1 + 1 + 1 + 1 + 1 + 1 + 1 + 1,
+    rw (named.0, named.1, e1, e2, e3, e7, e4, e5, e6, e8, e9) refl,
+  ),
 )
 
-pub passed : (t : List ℕ) → t ≡ codes "pass" → result_in t ≡ Some (usual_result None)
-unfolding result_in cut
-passed t is = rw is refl
-
-pub failed : (t rest : List ℕ) (code : ℤ) → t ≡ codes "fail:" ++ rest → code_in rest ≡ Some code
-    → result_in t ≡ Some (usual_result (Some code))
-unfolding result_in cut
-failed t rest code is read = rw (is, read) refl
-
--- the text at an index
-abbrev pub nothing : Bor (List ℕ)
-nothing = record { ref_ptr = (0, 0); now = [] }
-
-abbrev pub field_at : List (Bor (List ℕ)) → ℕ → Bor (List ℕ)
-field_at ts k = slice_index_or ts k nothing
-
-abbrev pub at : List (Bor (List ℕ)) → ℕ → List ℕ
-at ts k = (field_at ts k).now
-
-now : {a b : Bor (List ℕ)} → a ≡ b → a.now ≡ b.now
-now h = ap (λ (t : Bor (List ℕ)). t.now) h
-
--- n of the texts, from an index on
-abbrev texts : List (Bor (List ℕ)) → ℕ → ℕ → List (List ℕ)
-texts ts k zero = []
-texts ts k (suc n) = at ts k ∷ texts ts (k + 1) n
-
-indexed : (ts : List (Bor (List ℕ))) (k n : ℕ) → k + n ≡ length ts → field_texts (drop k ts) ≡ texts ts k n
-indexed ts k zero all = ap field_texts (drop_of_length-le ts (omega (arith, all)))
-indexed ts k (suc n) all = ap field_texts (drop-cons ts k nothing (omega (arith, all)))
-    ∙ ap (λ us. at ts k ∷ us) (ap (λ j. field_texts (drop j ts)) (sym (add-one k))
-    ∙ indexed ts (k + 1) n (omega (arith, all)))
-
--- sixteen fields of which these five are usual
-pub usual_by : (ts : List (Bor (List ℕ))) (u : UsualFields) → 16 ≤ length ts → length ts < 17
-    → AreUsual (at ts 0) (at ts 10) (at ts 11) (at ts 14) (at ts 15)
-    → field_at ts 1 ≡ u.binary_id → field_at ts 2 ≡ u.test_name → field_at ts 6 ≡ u.stats
-    → field_at ts 12 ≡ u.stdout → field_at ts 13 ≡ u.stderr
-    → display_in (at ts 3) ≡ Some u.values.success_output → display_in (at ts 4) ≡ Some u.values.failure_output
-    → flaky_in (at ts 5) ≡ Some u.values.flaky_result → number_in 32 (at ts 7) ≡ Some u.values.total_attempts
-    → result_in (at ts 8) ≡ Some (usual_result u.values.exit_code) → nanos_in (at ts 9) ≡ Some u.values.time_taken
-    → SaysFields (field_texts ts) u
-usual_by ts u least most are b t s o e e1 e2 e3 e4 e5 e6 =
-    let all = indexed ts 0 16 (omega (arith, least, most)) in
-    let same : texts ts 0 16
-    ≡ codes "-" ∷ u.binary_id.now ∷ u.test_name.now ∷ at ts 3 ∷ at ts 4 ∷ at ts 5 ∷ u.stats.now ∷ at ts 7 ∷ at ts 8
-    ∷ at ts 9 ∷ codes "0" ∷ codes "split" ∷ u.stdout.now ∷ u.stderr.now ∷ codes "-" ∷ codes "-" ∷ []
-    = rw (are.0, are.1, are.2, are.3, are.4, now b, now t, now s, now o, now e) refl in
-    subst (λ fs. SaysFields fs u) (sym (all ∙ same)) (usual_says u _ _ _ _ _ _ e1 e2 e3 e4 e5 e6)
+-- the fields of a line that are cut off one after the other
+pub usual_by : (u : UsualFields)
+    (line r1 r2 r3 r4 r5 r6 r7 r8 r9 r10 r11 r12 r13 success failure flaky : List ℕ)
+    → line ≡ codes "done\t-\t" ++ r1 → split_on 9 r1 ≡ u.binary_id.now ∷ split_on 9 r2
+    → split_on 9 r2 ≡ u.test_name.now ∷ split_on 9 r3 → split_on 9 r3 ≡ success ∷ split_on 9 r4
+    → split_on 9 r4 ≡ failure ∷ split_on 9 r5 → split_on 9 r5 ≡ flaky ∷ split_on 9 r6
+    → split_on 9 r6 ≡ u.stats.now ∷ split_on 9 r7 → BeginsWith (number_in 32) r7 u.values.total_attempts r8
+    → BeginsWith result_in r8 (usual_result u.values.exit_code) r9 → BeginsWith nanos_in r9 u.values.time_taken r10
+    → r10 ≡ codes "0\tsplit\t" ++ r11 → split_on 9 r11 ≡ u.stdout.now ∷ split_on 9 r12
+    → split_on 9 r12 ≡ u.stderr.now ∷ split_on 9 r13 → r13 ≡ codes "-\t-"
+    → display_in success ≡ Some u.values.success_output → display_in failure ≡ Some u.values.failure_output
+    → flaky_in flaky ≡ Some u.values.flaky_result → SaysFields (split_on 9 line) u
+usual_by u line r1 r2 r3 r4 r5 r6 r7 r8 r9 r10 r11 r12 r13 success failure flaky e0 s1 s2 s3 s4 s5 s6 total outcome
+    nanos e10 s11 s12 e13 is_success is_failure is_flaky =
+    rw (
+      done line r1 e0,
+      s1,
+      s2,
+      s3,
+      s4,
+      s5,
+      s6,
+      total.1,
+      outcome.1,
+      nanos.1,
+      split r10 r11 e10,
+      s11,
+      s12,
+      last r13 e13,
+    )
+    (usual_says u success failure flaky total.0 outcome.0 nanos.0 is_success is_failure is_flaky total.2 outcome.2
+    nanos.2)

@@ -1,6 +1,6 @@
 use Rattle.std.proofs.Common.{◌≡◌, false, refl, sym, ap, ◌∙◌, None}
 use Rattle.{scene_fields.proofs.lemmas.Utf8.utf8_passes, scene_fields.proofs.lemmas.Utf8.utf8_fails}
-use Rattle.scene_reader.specs.Names.{before_next, field_texts, is_passed_over, split_on, with_stored}
+use Rattle.scene_reader.specs.Names.{before_next, is_passed_over, split_on, with_stored}
 use Rattle.scene_reader.proofs.lemmas.Passes.{passed_over, read_bad, read_none, read_words, stopped}
 use Rattle.scene_reader.specs.SceneTexts.ParsedLine.{NoEvent}
 use Rattle.scene_reader.proofs.reader.LinesRead.pass_line.Goals as goal
@@ -18,12 +18,18 @@ returns-in_default g c =
     let bad = utf8_fails _ c.in_default.ensures.cases.0 in
     stopped _ _ _ _ _ _ _ _ c.fault.ensures (ap with_stored (read_bad None (before_next c.args.self.now) _ some bad))
 
+pub returns-then-starts_with : goal.returns-then-starts_with
+returns-then-starts_with g c =
+    let line = c.args.line.now in
+    let some : is_passed_over line ≡ false = sym c.is_passed_over.ensures ∙ c.if-is_passed_over.false in
+    let good = utf8_passes line c.in-Ok.ensures.cases.1 in
+    rw (read_words None (before_next c.args.self.now) line _ some good (ap (split_on 9) c.in-Ok.ensures.cases.0))
+    c.pass_done.ensures
+
 pub returns : goal.returns
 returns g c =
     let line = c.args.line.now in
     let some : is_passed_over line ≡ false = sym c.is_passed_over.ensures ∙ c.if-is_passed_over.false in
     let good = utf8_passes line c.in-Ok.ensures.cases.1 in
-    let left = ap field_texts c.as_slice.ensures.value ∙ c.in_ok-split_fields.ensures
-    ∙ ap (split_on 9) c.in-Ok.ensures.cases.0 in
-    rw (read_words None (before_next c.args.self.now) line _ some good left)
-    (rw c.new.ensures at c.pass_fields.ensures)
+    rw (read_words None (before_next c.args.self.now) line _ some good (ap (split_on 9) c.in-Ok.ensures.cases.0))
+    c.pass_split.ensures
