@@ -1,4 +1,4 @@
--- The usual `done` line, and what it says.
+-- The usual lines, and what they say.
 use Rattle.std.specs.Prelude.{◌≡◌, ℕ, ℤ, List, [], ◌∷◌, false, Option, None, Some, Ok, codes}
 use Rattle.run_model.specs.Names.{Attempt}
 use Rattle.run_model.specs.declared.{stats.RunStats.RunStats}
@@ -10,7 +10,8 @@ use Rattle.scene_fields.specs.Fields.{with_attempts}
 use Rattle.scene_unit_lines.specs.Lines.{done_line_fields, retry_numbered, stream_in}
 use Rattle.scene_reader.specs.SceneTexts.{LinesBefore, line_place, line_words, with_stored}
 use Rattle.scene_reader.specs.SceneTexts.ParsedLine.{EventLine}
-use Rattle.scene_reader.specs.declared.usual.{UsualDone.UsualDone, UsualFields.UsualFields}
+use Rattle.scene_reader.specs.declared.usual.{NameFields.NameFields, UsualDone.UsualDone, UsualFields.UsualFields}
+use Rattle.scene_reader.specs.declared.usual.{UsualStart.UsualStart}
 use Rattle.run_model.specs.declared.output.ChildExecutionOutputDescription.TheVariants as wrote
 use Rattle.run_model.specs.declared.output.ChildOutputDescription.TheVariants as streams
 use Rattle.run_model.specs.declared.event.TestEventKind.TheVariants as event
@@ -30,7 +31,7 @@ usual_attempt u = record {
   is_slow = false;
 }
 
--- the event of a usual line with these names
+-- the event of a usual `done` line with these names
 abbrev pub usual_event : OwnedTestInstanceId → UsualDone → SceneEvent
 usual_event names u = event_at 0
     (event.TestFinished None (test_named names.binary_id names.test_name) u.values.success_output
@@ -40,15 +41,20 @@ usual_event names u = event_at 0
       flaky_result = u.values.flaky_result;
     }) u.current_stats)
 
--- the names that the fields of a usual line spell
-abbrev pub NamesUsual : UsualFields → OwnedTestInstanceId → Type 0
-NamesUsual u names = (text_in u.binary_id.now ≡ Some names.binary_id) × (text_in u.test_name.now ≡ Some names.test_name)
+-- the event of a usual `start` line with these names
+abbrev pub start_event : OwnedTestInstanceId → UsualStart → SceneEvent
+start_event names u = event_at 0 (event.TestStarted None (test_named names.binary_id names.test_name) u.current_stats
+    u.command_line)
+
+-- the names that the fields spell
+abbrev pub AreNames : NameFields → OwnedTestInstanceId → Type 0
+AreNames f names = (text_in f.binary_id.now ≡ Some names.binary_id) × (text_in f.test_name.now ≡ Some names.test_name)
 
 -- the fields say this behind `done`, with the names, the statistics and the streams that their fields spell
 abbrev pub SaysFields : List (List ℕ) → UsualFields → Type 0
 SaysFields fields u = (behind : List (List ℕ)) × (fields ≡ codes "done" ∷ behind) × ((n : ℕ)
     (names : OwnedTestInstanceId) (stats : RunStats) (stdout stderr : Option (List ℕ))
-    → NamesUsual u names → stats_in u.stats.now ≡ Some stats → stream_in u.stdout.now ≡ Some stdout
+    → AreNames u.names names → stats_in u.stats.now ≡ Some stats → stream_in u.stdout.now ≡ Some stdout
     → stream_in u.stderr.now ≡ Some stderr
     → (end : ℕ) × (with_attempts done_line_fields (record { number = n; left = behind; noted = None })
     ≡ Ok (
@@ -65,7 +71,7 @@ SaysFields fields u = (behind : List (List ℕ)) × (fields ≡ codes "done" ∷
       },
     )))
 
--- the line says this, with these names
-abbrev pub SaysUsual : List ℕ → OwnedTestInstanceId → UsualDone → Type 0
-SaysUsual line names u = (before : LinesBefore)
-    → with_stored (line_words before (line_place None line)) ≡ Ok (EventLine (usual_event names u), [])
+-- the line says this event, whatever the lines before it
+abbrev pub SaysEvent : List ℕ → SceneEvent → Type 0
+SaysEvent line e = (before : LinesBefore)
+    → with_stored (line_words before (line_place None line)) ≡ Ok (EventLine e, [])

@@ -17,7 +17,7 @@ ghost use Rattle.scene_reader.specs.SceneTexts.{IsReadAgain, LinesBefore, parsed
 
 pub mod lines;
 
-use crate::usual::read_usual;
+use crate::usual::{read_usual, read_usual_start};
 use command_line::fault::Fault;
 use lines::read_event;
 use run_model::call::ReportCall;
@@ -101,6 +101,9 @@ impl LinesRead {
         };
         if line.starts_with("done\t") {
             return self.pass_done(alloc, file, line, texts, sink);
+        }
+        if line.starts_with("start\t") {
+            return self.pass_start(alloc, file, line, texts, sink);
         }
         self.pass_split(alloc, file, line, texts, sink)
     }
@@ -218,6 +221,34 @@ impl LinesRead {
                 // No text has that many lines.
                 let next = number.checked_add(1).ok_or(Fault::OutOfMemory)?;
                 let call = usual.into_call(alloc, &self.names);
+                lend(alloc, file, number, &[], call, sink)?;
+                self.count_event(next);
+                Ok(())
+            }
+            None => self.pass_split(alloc, file, line, texts, sink),
+        }
+    }
+
+    // Reads a `start` line.
+    #[inline(never)]
+    fn pass_start<'a, 't, K: CallSink>(
+        &mut self,
+        alloc: Global,
+        file: &'a str,
+        line: &'t str,
+        texts: &mut Vec<&'t str>,
+        sink: &mut K,
+    ) -> Result<(), Fault<'a>>
+        ensures { PassesValue K.takes file.now
+            (with_stored (line_words (before_next self.old) (line_place None line.now))) self.old sink.old result
+            self.new sink.new }
+    {
+        match read_usual_start(alloc, line, &mut self.names)? {
+            Some(usual) => {
+                let number = self.next;
+                // No text has that many lines.
+                let next = number.checked_add(1).ok_or(Fault::OutOfMemory)?;
+                let call = usual.into_call(&self.names);
                 lend(alloc, file, number, &[], call, sink)?;
                 self.count_event(next);
                 Ok(())

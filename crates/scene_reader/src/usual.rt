@@ -1,16 +1,17 @@
-//! The usual `done` line, and the call that it says.
+//! The usual lines, and the calls that they say.
 //!
-//! Most lines of most scenes are such lines: of a test that is in no stress run, passed or ended with an exit code at
-//! its first attempt, and was not slow. Such a line is read in place. Any other line, and any with a fault, is split into
-//! fields, which are read one by one.
+//! Most lines of most scenes are the `done` and `start` lines of tests in no stress run that passed or ended with an exit
+//! code at their first attempt, and were not slow. Such a line is read in place. Any other line, and any with a fault,
+//! is split into fields, which are read one by one.
 
-ghost use Rattle.std.specs.Prelude.{◌≡◌, ◌∷◌, IfOk, IfSome};
+ghost use Rattle.std.specs.Prelude.{◌≡◌, ◌∷◌, [], IfOk, IfSome, codes};
 ghost use Rattle.scene_fields.specs.{Calls.call_by_names, Numbers.number_in, Results.result_in};
 ghost use Rattle.scene_fields.specs.Split.{BeginsWith, split_on};
 ghost use Rattle.scene_unit_lines.specs.Lines.{stream_in};
-ghost use Rattle.scene_reader.specs.Usual.{NamesUsual, SaysFields, SaysUsual, usual_event, usual_result};
+ghost use Rattle.scene_reader.specs.Usual.{AreNames, SaysEvent, SaysFields, start_event, usual_event, usual_result};
 
 use run_model::call::ReportCall;
+use run_model::command::CommandLine;
 use run_model::config::TestOutputDisplay;
 use run_model::event::{TestEvent, TestEventKind};
 use run_model::memory::OutOfMemory;
@@ -25,6 +26,7 @@ use run_model::status::{
 };
 use run_model::time::Nanos;
 use scene_fields::counts::read_stats;
+use scene_fields::lists::read_command_line;
 use scene_fields::names::replace_name;
 use scene_fields::numbers::{cut_nanos, read_code, read_small_count};
 use scene_fields::split::{cut_field, split_at_byte};
@@ -35,7 +37,7 @@ use std::alloc::Global;
 // What a field spells, where it spells something.
 type Field<T> = Result<Option<T>, OutOfMemory>;
 
-/// What a usual line says. Its names are read beside it.
+/// What a usual `done` line says. Its names are read beside it.
 #[derive(Drop)]
 pub struct UsualDone {
     values: UsualValues,
@@ -55,25 +57,46 @@ struct UsualValues {
     time_taken: Nanos,
 }
 
-// The fields of a usual line, of which these values are read.
+// The fields of a usual `done` line, of which these values are read.
 #[derive(Clone, Copy)]
 struct UsualFields<'t> {
     values: UsualValues,
-    binary_id: &'t str,
-    test_name: &'t str,
+    names: NameFields<'t>,
     stats: &'t str,
     stdout: &'t str,
     stderr: &'t str,
 }
 
-/// Reads a usual line, with its names in place of others. Any other line gives None, and any names.
+// The fields of the names of a test.
+#[derive(Clone, Copy)]
+struct NameFields<'t> {
+    binary_id: &'t str,
+    test_name: &'t str,
+}
+
+/// What a usual `start` line says. Its names are read beside it.
+#[derive(Drop)]
+pub struct UsualStart {
+    current_stats: RunStats,
+    command_line: CommandLine,
+}
+
+// The fields of a usual `start` line.
+#[derive(Clone, Copy)]
+struct StartFields<'t> {
+    names: NameFields<'t>,
+    stats: &'t str,
+    command_line: &'t str,
+}
+
+/// Reads a usual `done` line, with its names in place of others. Any other line gives None, and any names.
 ///
 /// # Errors
 ///
 /// Memory was refused.
 #[inline(always)]
 pub fn read_usual(alloc: Global, line: &str, names: &mut OwnedTestInstanceId) -> Field<UsualDone>
-    ensures { IfOk result (λ usual. IfSome usual (SaysUsual line.now names.new)) }
+    ensures { IfOk result (λ usual. IfSome usual (λ u. SaysEvent line.now (usual_event names.new u))) }
 {
     let Some(usual) = cut_fields(line) else {
         return Ok(None);
@@ -87,7 +110,7 @@ pub fn read_usual(alloc: Global, line: &str, names: &mut OwnedTestInstanceId) ->
     let Some(stderr) = read_stream(alloc, usual.stderr)? else {
         return Ok(None);
     };
-    let Some(()) = usual.read_names(alloc, names)? else {
+    let Some(()) = usual.names.read(alloc, names)? else {
         return Ok(None);
     };
     Ok(Some(UsualDone {
@@ -98,7 +121,7 @@ pub fn read_usual(alloc: Global, line: &str, names: &mut OwnedTestInstanceId) ->
     }))
 }
 
-// Cuts a usual line into its fields, and reads those that allocate nothing. The line is read in place, from left to
+// Cuts a usual `done` line into its fields, and reads those that allocate nothing. The line is read in place, from left to
 // right: what is the same in all usual lines is compared, and other fields are searched for their tabs.
 #[inline(always)]
 fn cut_fields(line: &str) -> Option<UsualFields<'_>>
@@ -115,7 +138,7 @@ fn cut_fields(line: &str) -> Option<UsualFields<'_>>
     let (time_taken, rest) = cut_nanos(rest)?;
     let (stdout, rest) = cut_stream(rest.strip_prefix("0\tsplit\t")?)?;
     let (stderr, rest) = cut_stream(rest)?;
-    if rest != "-\t-" {
+    if !matches!(rest, "-\t-") {
         return None;
     }
     Some(UsualFields {
@@ -127,8 +150,10 @@ fn cut_fields(line: &str) -> Option<UsualFields<'_>>
             exit_code,
             time_taken,
         },
-        binary_id,
-        test_name,
+        names: NameFields {
+            binary_id,
+            test_name,
+        },
         stats,
         stdout,
         stderr,
@@ -199,16 +224,91 @@ fn read_written(alloc: Global, field: &str) -> Field<Option<ChildSingleOutput>>
     }
 }
 
-impl UsualFields<'_> {
-    // Reads the names of the test in place of others. None is a bad field.
+/// Reads a usual `start` line, with its names in place of others. Any other line gives None, and any names.
+///
+/// # Errors
+///
+/// Memory was refused.
+#[inline(always)]
+pub fn read_usual_start(
+    alloc: Global,
+    line: &str,
+    names: &mut OwnedTestInstanceId,
+) -> Field<UsualStart>
+    ensures { IfOk result (λ usual. IfSome usual (λ u. SaysEvent line.now (start_event names.new u))) }
+{
+    let Some(usual) = cut_start(line) else {
+        return Ok(None);
+    };
+    let Some(current_stats) = read_stats(usual.stats) else {
+        return Ok(None);
+    };
+    let Some(command_line) = read_command_line(alloc, usual.command_line)? else {
+        return Ok(None);
+    };
+    let Some(()) = usual.names.read(alloc, names)? else {
+        return Ok(None);
+    };
+    Ok(Some(UsualStart {
+        current_stats,
+        command_line,
+    }))
+}
+
+// Cuts a usual `start` line into its fields.
+#[inline(always)]
+fn cut_start(line: &str) -> Option<StartFields<'_>>
+    ensures { IfSome result (λ u. split_on 9 line.now
+        ≡ codes "start" ∷ codes "-" ∷ u.names.binary_id.now ∷ u.names.test_name.now ∷ u.stats.now ∷ u.command_line.now
+        ∷ []) }
+{
+    let (binary_id, rest) = cut_field(line.strip_prefix("start\t-\t")?)?;
+    let (test_name, rest) = cut_field(rest)?;
+    let (stats, command_line) = cut_field(rest)?;
+    match split_at_byte(command_line, b'\t') {
+        Some(_) => None,
+        None => Some(StartFields {
+            names: NameFields {
+                binary_id,
+                test_name,
+            },
+            stats,
+            command_line,
+        }),
+    }
+}
+
+impl NameFields<'_> {
+    // Reads the names in place of others. None is a bad field.
     #[inline(always)]
-    fn read_names(&self, alloc: Global, names: &mut OwnedTestInstanceId) -> Field<()>
-        ensures { IfOk result (λ read. IfSome read (λ _. NamesUsual self.now names.new)) }
+    fn read(&self, alloc: Global, names: &mut OwnedTestInstanceId) -> Field<()>
+        ensures { IfOk result (λ read. IfSome read (λ _. AreNames self.now names.new)) }
     {
         let Some(()) = replace_name(alloc, self.binary_id, &mut names.binary_id)? else {
             return Ok(None);
         };
         replace_name(alloc, self.test_name, &mut names.test_name)
+    }
+}
+
+impl UsualStart {
+    /// The call of the line.
+    #[inline(always)]
+    pub fn into_call(self, names: &OwnedTestInstanceId) -> ReportCall<'_>
+        ensures { call_by_names result ≡ start_event names.now self }
+    {
+        ReportCall::Event(TestEvent {
+            elapsed: Nanos(0),
+            kind: TestEventKind::TestStarted {
+                stress_index: None,
+                test_instance: TestInstanceId {
+                    binary_id: &names.binary_id,
+                    test_name: &names.test_name,
+                },
+                current_stats: self.current_stats,
+                command_line: self.command_line,
+            },
+        })
     }
 }
 

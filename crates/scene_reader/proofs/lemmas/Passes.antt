@@ -1,7 +1,8 @@
 -- A line whose call is passed to a sink (for the functions `pass_*`).
-use Rattle.std.proofs.Common.{◌≡◌, ℕ, ◌+◌, List, false, true, Option, Result, Ok, Err, refl, ap, sym, subst, ◌∙◌, inl}
+use Rattle.std.proofs.Common.{◌≡◌, ℕ, ◌+◌, List, false, true, Option, None, Result, Ok, Err, refl, ap, sym, subst, ◌∙◌}
+use Rattle.std.proofs.Common.{inl}
 use Rattle.std.specs.Prelude.{IfErr, OnOk}
-use Rattle.{std.specs.Str.is_utf8}
+use Rattle.{std.specs.Str.IsUtf8, std.specs.Str.is_utf8, scene_fields.proofs.lemmas.Utf8.utf8_passes}
 use Rattle.scene_fields.specs.declared.fault.LineFault.TheVariants.{NotUtf8}
 use Rattle.command_line.specs.declared.fault.Fault.{Fault}
 use Rattle.command_line.specs.declared.fault.Fault.TheVariants as fault
@@ -24,6 +25,12 @@ module _ (noted : Option Noted) (before : LinesBefore) (t : List ℕ) where
       → line_from noted before t ≡ line_words before (record { number = 0; left = left; noted = noted })
   unfolding line_from
   read_words left some good is = rw (some, good, is) refl
+
+-- a text whose outputs are in it
+pub read_text : (before : LinesBefore) (t line : List ℕ) → is_passed_over t ≡ false → line ≡ t → IsUtf8 t
+    → line_from None before t ≡ line_words before (line_place None line)
+read_text before t line some same good =
+    read_words None before t (split_on 9 line) some (utf8_passes t good) (ap (split_on 9) same)
 
 module _ {K : Type 0} (takes : Takes K) (file : List ℕ) (value : Result (ParsedLine × List PlacedOutput) LineFault)
     (old : LinesRead) (given : K) where

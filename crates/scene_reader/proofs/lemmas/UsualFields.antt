@@ -1,4 +1,4 @@
--- The fields of a usual line, one after the other (for `cut_outcome`, `cut_total`, `cut_stream`, `cut_fields`).
+-- The fields of a usual line, one after the other (for the functions `cut_*` of `usual`).
 use Rattle.std.proofs.Common.{◌≡◌, ℕ, ◌+◌, List, [], ◌∷◌, ◌++◌, None, Some, refl, ℤ}
 use Rattle.std.specs.Prelude.{codes}
 use Rattle.scene_fields.specs.{Numbers.code_in, Numbers.nanos_in, Numbers.number_in, Results.result_in}
@@ -30,6 +30,10 @@ module _ (t rest : List ℕ) where
   unfolding split_on
   done is = rw is refl
 
+  start : t ≡ codes "start\t-\t" ++ rest → split_on 9 t ≡ codes "start" ∷ codes "-" ∷ split_on 9 rest
+  unfolding split_on
+  start is = rw is refl
+
   split : t ≡ codes "0\tsplit\t" ++ rest → split_on 9 t ≡ codes "0" ∷ codes "split" ∷ split_on 9 rest
   unfolding split_on
   split is = rw is refl
@@ -43,7 +47,7 @@ usual_says : (u : UsualFields) (success failure flaky total outcome nanos : List
     → flaky_in flaky ≡ Some u.values.flaky_result → number_in 32 total ≡ Some u.values.total_attempts
     → result_in outcome ≡ Some (usual_result u.values.exit_code) → nanos_in nanos ≡ Some u.values.time_taken
     → SaysFields
-    (codes "done" ∷ codes "-" ∷ u.binary_id.now ∷ u.test_name.now ∷ success ∷ failure ∷ flaky ∷ u.stats.now ∷ total
+    (codes "done" ∷ codes "-" ∷ u.names.binary_id.now ∷ u.names.test_name.now ∷ success ∷ failure ∷ flaky ∷ u.stats.now ∷ total
     ∷ outcome ∷ nanos ∷ codes "0" ∷ codes "split" ∷ u.stdout.now ∷ u.stderr.now ∷ codes "-" ∷ codes "-" ∷ []) u
 unfolding after_streams all_attempts attempt_fields attempts_from instance_fields output_fields spelled_output_fields
 usual_says u success failure flaky total outcome nanos e1 e2 e3 e4 e5 e6 = (
@@ -58,8 +62,8 @@ usual_says u success failure flaky total outcome nanos e1 e2 e3 e4 e5 e6 = (
 -- the fields of a line that are cut off one after the other
 pub usual_by : (u : UsualFields)
     (line r1 r2 r3 r4 r5 r6 r7 r8 r9 r10 r11 r12 r13 success failure flaky : List ℕ)
-    → line ≡ codes "done\t-\t" ++ r1 → split_on 9 r1 ≡ u.binary_id.now ∷ split_on 9 r2
-    → split_on 9 r2 ≡ u.test_name.now ∷ split_on 9 r3 → split_on 9 r3 ≡ success ∷ split_on 9 r4
+    → line ≡ codes "done\t-\t" ++ r1 → split_on 9 r1 ≡ u.names.binary_id.now ∷ split_on 9 r2
+    → split_on 9 r2 ≡ u.names.test_name.now ∷ split_on 9 r3 → split_on 9 r3 ≡ success ∷ split_on 9 r4
     → split_on 9 r4 ≡ failure ∷ split_on 9 r5 → split_on 9 r5 ≡ flaky ∷ split_on 9 r6
     → split_on 9 r6 ≡ u.stats.now ∷ split_on 9 r7 → BeginsWith (number_in 32) r7 u.values.total_attempts r8
     → BeginsWith result_in r8 (usual_result u.values.exit_code) r9 → BeginsWith nanos_in r9 u.values.time_taken r10
@@ -87,3 +91,9 @@ usual_by u line r1 r2 r3 r4 r5 r6 r7 r8 r9 r10 r11 r12 r13 success failure flaky
     )
     (usual_says u success failure flaky total.0 outcome.0 nanos.0 is_success is_failure is_flaky total.2 outcome.2
     nanos.2)
+
+pub start_by : (line r1 r2 r3 command binary_id test_name stats : List ℕ) → line ≡ codes "start\t-\t" ++ r1
+    → split_on 9 r1 ≡ binary_id ∷ split_on 9 r2 → split_on 9 r2 ≡ test_name ∷ split_on 9 r3
+    → split_on 9 r3 ≡ stats ∷ split_on 9 command → split_on 9 command ≡ command ∷ []
+    → split_on 9 line ≡ codes "start" ∷ codes "-" ∷ binary_id ∷ test_name ∷ stats ∷ command ∷ []
+start_by line r1 r2 r3 command binary_id test_name stats e s1 s2 s3 alone = rw (start line r1 e, s1, s2, s3, alone) refl

@@ -1,7 +1,7 @@
-use Rattle.std.proofs.Common.{◌≡◌, false, refl, sym, ap, ◌∙◌, None}
-use Rattle.{scene_fields.proofs.lemmas.Utf8.utf8_passes, scene_fields.proofs.lemmas.Utf8.utf8_fails}
-use Rattle.scene_reader.specs.Names.{before_next, is_passed_over, split_on, with_stored}
-use Rattle.scene_reader.proofs.lemmas.Passes.{passed_over, read_bad, read_none, read_words, stopped}
+use Rattle.std.proofs.Common.{refl, sym, ap, ◌∙◌, None}
+use Rattle.{scene_fields.proofs.lemmas.Utf8.utf8_fails}
+use Rattle.scene_reader.specs.Names.{before_next, with_stored}
+use Rattle.scene_reader.proofs.lemmas.Passes.{passed_over, read_bad, read_none, read_text, stopped}
 use Rattle.scene_reader.specs.SceneTexts.ParsedLine.{NoEvent}
 use Rattle.scene_reader.proofs.reader.LinesRead.pass_line.Goals as goal
 
@@ -20,16 +20,18 @@ returns-in_default g c =
 
 pub returns-then-starts_with : goal.returns-then-starts_with
 returns-then-starts_with g c =
-    let line = c.args.line.now in
-    let some : is_passed_over line ≡ false = sym c.is_passed_over.ensures ∙ c.if-is_passed_over.false in
-    let good = utf8_passes line c.in-Ok.ensures.cases.1 in
-    rw (read_words None (before_next c.args.self.now) line _ some good (ap (split_on 9) c.in-Ok.ensures.cases.0))
+    let some = sym c.is_passed_over.ensures ∙ c.if-is_passed_over.false in
+    rw (read_text (before_next c.args.self.now) c.args.line.now _ some c.in-Ok.ensures.cases.0 c.in-Ok.ensures.cases.1)
     c.pass_done.ensures
+
+pub returns-then-starts_with-2 : goal.returns-then-starts_with-2
+returns-then-starts_with-2 g c =
+    let some = sym c.is_passed_over.ensures ∙ c.if-is_passed_over.false in
+    rw (read_text (before_next c.args.self.now) c.args.line.now _ some c.in-Ok.ensures.cases.0 c.in-Ok.ensures.cases.1)
+    c.pass_start.ensures
 
 pub returns : goal.returns
 returns g c =
-    let line = c.args.line.now in
-    let some : is_passed_over line ≡ false = sym c.is_passed_over.ensures ∙ c.if-is_passed_over.false in
-    let good = utf8_passes line c.in-Ok.ensures.cases.1 in
-    rw (read_words None (before_next c.args.self.now) line _ some good (ap (split_on 9) c.in-Ok.ensures.cases.0))
+    let some = sym c.is_passed_over.ensures ∙ c.if-is_passed_over.false in
+    rw (read_text (before_next c.args.self.now) c.args.line.now _ some c.in-Ok.ensures.cases.0 c.in-Ok.ensures.cases.1)
     c.pass_split.ensures
