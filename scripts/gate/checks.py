@@ -8,6 +8,7 @@ import shutil
 import signal
 import subprocess
 import sys
+import traceback
 from importlib.machinery import SourceFileLoader
 from importlib.util import module_from_spec, spec_from_loader
 
@@ -130,12 +131,18 @@ class Checks:
 
     def counts_of(self, call):
         own = type(self)(self.name)
-        try:
-            call(own)
-        # It would end those beside it before they have said what failed.
-        except Exception as error:
-            own.expect(False, f"checks ended by {error!r}")
+        own.each([call])
         return own.done, own.failed, own.kinds
+
+    def each(self, calls):
+        """Makes these calls one after another. A fault in one is a failed check: it would end the others before they
+        have said what failed."""
+        for call in calls:
+            try:
+                call(self)
+            except Exception as error:
+                traceback.print_exc()
+                self.expect(False, f"checks ended by {error!r}")
 
     def outputs(self, child, what, seconds):
         """What a process writes until it ends. One that goes on for longer is a failed check, and is killed."""

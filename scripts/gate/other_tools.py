@@ -178,9 +178,10 @@ def check_page(checks):
     for name, version, its, here, unsaid in ROW.findall(documents()):
         found = [it for it in stems if it in re.sub(r"[ ,]", "", name.lower().replace(".net", "dotnet"))]
         checks.expect(found, f"the table of tools: no file of {name}")
-        rows[found[-1]] = version, its, unsaid
-        _, status = ends_of((KEPT / f"{found[-1]}.xml").read_bytes())
-        checks.expect(status == int(here), f"the table of tools: {name} has the status {status} here")
+        for kept in found[-1:]:
+            rows[kept] = version, its, unsaid
+            _, status = ends_of((KEPT / f"{kept}.xml").read_bytes())
+            checks.expect(status == int(here), f"the table of tools: {name} has the status {status} here")
     for tool, found in TOOLS.items():
         version, its, unsaid = rows.get(tool, ("", None, ""))
         others = [f"{a} → {b}" for run, (a, b) in found.runs.items() if run not in ("red", "green")]
