@@ -22,6 +22,7 @@ int main(int count, char **words)
     return 0;
 }
 """
+FAILS = "int main(void) { return 77; }"
 SAYS_WRONG = """#!/bin/sh
 echo wrong
 echo wrong >&2
@@ -48,6 +49,18 @@ SAYS_MORE = """#!/bin/sh
 "$0.real" "$@"
 status=$?
 echo more >&2
+exit $status
+"""
+# It writes files that it should not, and more where calls of it fail.
+WRITES_FILES = """#!/bin/sh
+"$0.real" "$@"
+status=$?
+echo more > more
+[ -z "$FAULT_KIND" ] || echo more >&2
+while [ $# -gt 1 ]; do
+    [ "$1" = --store ] && [ -n "$FAULT_KIND" -o ! -e "$2" ] && echo more >> "$2"
+    shift
+done
 exit $status
 """
 # Three times the memory that a run may take.
@@ -78,6 +91,9 @@ NAMES = (
     ("crates/*/src/laws.rt", r"^pub fn (\w+)", r"pub fn x_\1"),
 )
 TABLES = (
+    ("scripts/check-docs", r"(?<=in DEFINITION.findall\()file.read_text\(\)", '""'),
+    ("scripts/check-docs", r"^( +)is_built = ", r"\1is_built = True or "),
+    ("scripts/vendor", r"for name in order if name", "for name in order[1:] if name"),
     ("examples/whole_run.rs", r"\A", "use console_reporter::write_skip_counts;\n"),
     ("docs/SCENES.md", r"^```report", "```other"),
     ("docs/*.md", r"^\|(?:-+\|)+$", "| not dashes |"),
