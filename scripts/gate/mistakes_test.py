@@ -7,6 +7,7 @@ those that the gate left.
 """
 
 import contextlib
+import functools
 import io
 import os
 import pathlib
@@ -275,19 +276,18 @@ class Failures:
             self.checks.expect(is_said, f"{PROOF}: check-one does not say `{line.strip()}`: {ran.stdout}")
 
 
+def made_alone(part, _checks):
+    part()
+
+
 def main(is_of_record):
     """Tries all, or only what is said of the record, and ends the script."""
     checks, tested = Checks("mistakes --self-test"), module_of(crates.TOP / "scripts/check-mistakes")
     with tempfile.TemporaryDirectory() as made:
         made = pathlib.Path(made)
-        check_forms(checks)
-        reopened = Reopened(checks, tested, made)
-        reopened.check_texts()
-        reopened.check_record()
-        reopened.check_tried_anew()
+        reopened, failures = Reopened(checks, tested, made), Failures(checks, tested, made)
+        parts = [reopened.check_texts, reopened.check_record, reopened.check_tried_anew]
         if not is_of_record:
-            failures = Failures(checks, tested, made)
-            failures.check_failures()
-            failures.check_kept()
-            failures.check_page()
+            parts += [failures.check_failures, failures.check_kept, failures.check_page]
+        checks.each([check_forms, *(functools.partial(made_alone, it) for it in parts)])
     checks.end()
