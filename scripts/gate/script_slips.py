@@ -204,7 +204,7 @@ CALLS_ARE_WRONG = (
     line(FRONT, 'raise Bad(f"cannot write {to}")', "pass"),
     line(FRONT, "os.set_blocking(opened, True)", "os.set_blocking(number, True)"),
     line(FRONT, "if made != ANNOTATIONS else None", "if made == ANNOTATIONS else None"),
-    line(FRONT, 'os.environ.get("GITHUB_ACTIONS") and any(', 'os.environ.get("GITHUB_ACTIONS") or any('),
+    line(FRONT, "and any(it(os.fstat(OUTPUT).st_mode) for it in kinds)", "and kinds"),
     line(KEPT, "os.fchmod(opened, 0o700)", "os.fchmod(opened, 0o755)"),
     line(KEPT, "if os.path.isabs(cache):", "if cache:"),
     line(UNPROVED, "if (found := find(name, sources, made)) is not None:", "if found := None:"),
@@ -236,6 +236,7 @@ CALLS_ARE_WRONG = (
     line("README.md", "-o run.html", "-o other.html"),
     line("docs/ERRORS.md", "| 100 | the run ended", "| 100 | a run ended"),
     line("docs/REAL_RUNS.md", "```yaml", "```yml"),
+    line("scripts/gate/run_recipes.py", '"scripts/run-tests": (', '"run-tests": ('),
     line("scripts/gate/run_recipes.py", 'if "[" not in it[0]', 'if "[" in it[0]'),
 )
 # Over programs that do nothing: a report that differs from itself, cases that no scene holds, an example that fails.
