@@ -1,6 +1,6 @@
 -- The line of a fault, and the status that the program ends with.
-use Rattle.std.specs.Prelude.{ℕ, List, ◌++◌, codes, decimal, ⊤}
-use Rattle.{std.specs.declared.io.ErrorKind.ErrorKind, command_line.specs.Pieces.IsUnread}
+use Rattle.std.specs.Prelude.{ℕ, List, ◌++◌, Option, None, Some, codes, decimal, ⊤}
+use Rattle.{std.specs.Borrow.Bor, std.specs.declared.io.ErrorKind.ErrorKind, command_line.specs.Pieces.IsUnread}
 use Rattle.{scene_fields.specs.Faults.line_fault_text, scene_fields.specs.declared.fault.ReadFault.ReadFault}
 use Rattle.command_line.specs.declared.fault.{Fault.Fault, FaultLine.FaultLine, ReportProgram.ReportProgram}
 use Rattle.std.specs.declared.io.ErrorKind.TheVariants as kind
@@ -57,3 +57,8 @@ fault_of_read read.OutOfMemory = fault.OutOfMemory
 abbrev pub fault_by_kind : ErrorKind → Fault → Fault
 fault_by_kind kind.OutOfMemory given = fault.OutOfMemory
 fault_by_kind _ given = given
+
+-- the fault of a file in which a read had an error of this kind; none if it was interrupted
+abbrev pub fault_of_error : Bor (List ℕ) → ErrorKind → Option Fault
+fault_of_error file kind.Interrupted = None
+fault_of_error file other = Some (fault_by_kind other (fault.CannotRead file))

@@ -3,6 +3,7 @@
 ghost use Rattle.std.specs.Prelude.{◌≡◌, ℕ, List, Some, IfOk, IfErr, true, false};
 ghost use Rattle.std.specs.Io.Buffered.{reader_buffer, reader_remaining};
 ghost use Rattle.memchr.specs.Find.{IsFirstByte, IsLastByte, is_byte};
+ghost use Rattle.command_line.specs.Faults.{fault_of_error};
 ghost use Rattle.command_line.specs.Pieces.{IsBehind, IsFeed, IsNextPiece, IsUnread};
 
 use crate::fault::Fault;
@@ -31,8 +32,10 @@ pub fn next_piece<'a, R: Read>(
     for _turn in 0..u64::MAX {
         match reader.fill_buf() {
             Ok(_) => {}
-            Err(error) if error.kind() == ErrorKind::Interrupted => continue,
-            Err(error) => return Err(Fault::CannotRead { file }.by_kind(error.kind())),
+            Err(error) => match fault_of_error(file, error.kind()) {
+                None => continue,
+                Some(fault) => return Err(fault),
+            },
         }
         match take_buffered(reader, piece)? {
             Chunk::Lines => return Ok(true),
@@ -42,6 +45,16 @@ pub fn next_piece<'a, R: Read>(
         }
     }
     Err(Fault::CannotRead { file })
+}
+
+// The fault of a file in which a read had this error; None if the read was interrupted, and is made again.
+fn fault_of_error<'a>(file: &'a str, kind: ErrorKind) -> Option<Fault<'a>>
+    ensures { result ≡ fault_of_error file.entry kind }
+{
+    match kind {
+        ErrorKind::Interrupted => None,
+        _ => Some(Fault::CannotRead { file }.by_kind(kind)),
+    }
 }
 
 // What was taken from a reader's buffer.

@@ -1,6 +1,7 @@
 -- What a replay loads of the outputs of a line.
 use Rattle.std.specs.Prelude.{◌≡◌, ◌⊎◌, ℕ, ◌+◌, List, Option, Some, Result, Ok, Err}
-use Rattle.std.specs.{Prelude.OnOk, Result.IsErrAnd}
+use Rattle.std.specs.{Prelude.OnOk, Result.IsErrAnd, Borrow.Bor}
+use Rattle.command_line.specs.Faults.{fault_by_kind}
 use Rattle.scene_follower.specs.Names.{decider_for, IsUnread, Options, Fault}
 use Rattle.recorded.specs.{declared.outputs.LoadFault.LoadFault, Outputs.counted}
 use Rattle.recorded.specs.Events.{event_replayed, needed_of}
@@ -37,8 +38,7 @@ pub record LoadsCall {O K : Type 0} (recorded : O → Option (List ℕ)) (count 
       (count outputs_after))
 
 -- the fault of the line of this number whose output in this field was not loaded
-abbrev pub IsFaultOfLoad : List ℕ → ℕ → ℕ → LoadFault → Fault → Type 0
-IsFaultOfLoad file n field load.PastEnd fault = fault ≡ program.Line n (line.BadField field)
-IsFaultOfLoad file n field load.WrongSum fault = fault ≡ program.Line n (line.BadField field)
-IsFaultOfLoad file n field (load.CannotRead kind) fault = IsUnread file fault
-IsFaultOfLoad file n field load.OutOfMemory fault = fault ≡ program.OutOfMemory
+abbrev pub fault_of_load : Bor (List ℕ) → ℕ → ℕ → LoadFault → Fault
+fault_of_load file n field (load.CannotRead kind) = fault_by_kind kind (program.CannotRead file)
+fault_of_load file n field load.OutOfMemory = program.OutOfMemory
+fault_of_load file n field _ = program.Line n (line.BadField field)

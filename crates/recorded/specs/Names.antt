@@ -6,7 +6,7 @@ pub use Rattle.recorded.specs.Events.{first_field_not, is_there, is_undamaged, i
 pub use Rattle.recorded.specs.Events.{only_place_of, output_inline, output_len, outputs_len, stream_field_not}
 pub use Rattle.recorded.specs.Events.{stream_inline, unless_bad, wanted, wanted_of}
 unfoldable pub use Rattle.recorded.specs.Events.{event_replayed}
-pub use Rattle.recorded.specs.Loads.{CountsMore, IsFaultOfLoad, IsUnloaded, LoadsCall}
+pub use Rattle.recorded.specs.Loads.{CountsMore, IsUnloaded, LoadsCall, fault_of_load}
 pub use Rattle.recorded.specs.Outputs.{HasSum, IsCounted, IsLoaded, bytes_at, counted}
 unfoldable pub use Rattle.recorded.specs.Outputs.{stream_at}
 pub use Rattle.recorded.specs.ReadAt.{HasRead}

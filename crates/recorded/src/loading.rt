@@ -2,7 +2,7 @@
 
 ghost use Rattle.std.specs.Prelude.{◌≡◌, ℕ, List, Some, IfErr, Ok, OnOk};
 ghost use Rattle.scene_follower.specs.Names.{decider_for};
-ghost use Rattle.recorded.specs.Names.{CountsMore, IsFaultOfLoad, IsUnloaded, LoadsCall, event_replayed, needed_of};
+ghost use Rattle.recorded.specs.Names.{CountsMore, IsUnloaded, LoadsCall, event_replayed, fault_of_load, needed_of};
 ghost use Rattle.{scene_reader.specs.Names.call_by_names};
 
 use super::events::{LoadEventFault, load_outputs};
@@ -89,7 +89,7 @@ impl<'r, 's, 'o, O: ReadAt + Drop, K: CallSink> CallSink for Loading<'r, 's, 'o,
 
 // The fault of the line of this number, if an output of its event was not loaded.
 fn fault_of_load<'a>(file: &'a str, line: u64, fault: LoadEventFault) -> Fault<'a>
-    ensures { IsFaultOfLoad file.now line fault.field fault.fault result }
+    ensures { result ≡ fault_of_load file.entry line fault.field fault.fault }
 {
     match fault.fault {
         LoadFault::PastEnd | LoadFault::WrongSum => Fault::Line {

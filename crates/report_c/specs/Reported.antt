@@ -5,7 +5,7 @@ use Rattle.run_names.specs.declared.level.StatusLevel.{StatusLevel}
 use Rattle.run_names.specs.declared.level.StatusLevel.TheVariants as level
 use Rattle.{scene_fields.specs.declared.fault.LineFault.LineFault}
 use Rattle.{scene_fields.specs.declared.fault.ReadFault.ReadFault}
-use Rattle.{report_c.specs.declared.NorigullyOptions.NorigullyOptions}
+use Rattle.report_c.specs.declared.{NorigullyOptions.NorigullyOptions, NorigullyOutcome.NorigullyOutcome}
 use Rattle.scene_fields.specs.declared.fault.ReadFault.TheVariants as read
 use Rattle.scenes.specs.Names.{IsFaultOfText}
 use Rattle.scene_follower.specs.Names.{OfText, Prints, device, Fault, Options}
@@ -70,3 +70,8 @@ read_fault_of _ = read.OutOfMemory
 abbrev pub IsUnreported : Options → List ℕ → ReadFault → Type 0
 IsUnreported options text (read.Line n f) = IsFaultOfText options text (fault.Line n f)
 IsUnreported options text read.OutOfMemory = ⊤
+
+-- the outcome of a scene with this fault
+abbrev pub outcome_of_fault : ReadFault → NorigullyOutcome
+outcome_of_fault (read.Line n f) = record { length = 0; line = n; status = 2 }
+outcome_of_fault read.OutOfMemory = record { length = 0; line = 0; status = 3 }

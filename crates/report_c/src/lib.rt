@@ -4,7 +4,7 @@
 #![tactic(auto)]
 
 ghost use Rattle.std.specs.Prelude.{◌≡◌, ◌≢◌, ◌↔◌, ◌≤◌, None};
-ghost use Rattle.report_c.specs.Reported.{IsTooLong, IsWritten, IsFaultOfLine, level_numbered};
+ghost use Rattle.report_c.specs.Reported.{IsTooLong, IsWritten, IsFaultOfLine, level_numbered, outcome_of_fault};
 
 mod report;
 
@@ -86,8 +86,7 @@ pub extern "C" fn norigully_report(
     };
     let report = match report_of(alloc, &options, scene) {
         Ok(report) => report,
-        Err(ReadFault::Line { line, .. }) => return failed(WRONG_LINE, line),
-        Err(ReadFault::OutOfMemory) => return failed(OUT_OF_MEMORY, 0),
+        Err(fault) => return outcome_of_fault(fault),
     };
     let length = report.len();
     let status = if length <= out.len() {
@@ -100,6 +99,16 @@ pub extern "C" fn norigully_report(
         length,
         line: 0,
         status,
+    }
+}
+
+// The outcome of a scene with this fault.
+fn outcome_of_fault(fault: ReadFault) -> NorigullyOutcome
+    ensures { result ≡ outcome_of_fault fault }
+{
+    match fault {
+        ReadFault::Line { line, .. } => failed(WRONG_LINE, line),
+        ReadFault::OutOfMemory => failed(OUT_OF_MEMORY, 0),
     }
 }
 

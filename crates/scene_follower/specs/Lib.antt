@@ -3,6 +3,7 @@ pub mod Follow
 pub mod Outcomes
 pub mod ParsedScenes
 pub mod Prints
+pub mod Process
 pub mod Read
 pub mod Reading
 pub mod Reports

@@ -13,5 +13,6 @@ unfoldable pub use Rattle.scene_follower.specs.Outcomes.{run_outcome}
 pub use Rattle.scene_follower.specs.ParsedScenes.{IsFaultOf, IsOfText, lines_of, OfLines, OfText}
 pub use Rattle.scene_follower.specs.Prints.{AreBegun, AreWhole, Begins, IsStop, Prints, PrintsFollowed, Reported}
 pub use Rattle.scene_follower.specs.Prints.{StandAtOneCall, device, HasReport}
+pub use Rattle.scene_follower.specs.Process.{store_refusal}
 pub use Rattle.scene_follower.specs.Read.{AllTaken, AreLeftBehind, AreLeftOf, HasNext, PassesNext}
 pub use Rattle.scene_follower.specs.SceneReporter.{Follows, IsSetFor, ReportsCall, StopsAtEvent, writers}

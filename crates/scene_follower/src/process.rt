@@ -2,13 +2,14 @@
 //! the line and the exit status of a fault.
 
 ghost use Rattle.std.specs.Fd.{file_raw_fd};
-ghost use Rattle.scene_follower.specs.Names.{status_of, Fault};
-ghost use Rattle.std.specs.Prelude.{◌≡◌, ◌⊎◌, ◌↔◌, ◌≤ℤ◌, ◌<ℤ◌, pos, IfErr, IfOk, IsTrue};
+ghost use Rattle.{std.specs.Io.KnownBytes.Appends, command_line.specs.Faults.fault_line};
+ghost use Rattle.scene_follower.specs.Names.{status_of, store_refusal, Fault};
+ghost use Rattle.std.specs.Prelude.{◌≡◌, ◌⊎◌, ◌↔◌, ◌≤ℤ◌, ◌<ℤ◌, ◌++◌, ◌∷◌, [], pos, IfErr, IfOk, OnOk, IsTrue};
 
 use command_line::fault::{Fault, FaultLine, ReportProgram};
 use std::fmt::Display;
 use std::fs::{File, Metadata};
-use std::io::{ErrorKind, Write};
+use std::io::{self, ErrorKind, Write};
 use std::os::fd::AsRawFd;
 use std::os::unix::fs::MetadataExt;
 use std::{env, fs, mem};
@@ -73,17 +74,28 @@ pub fn create_store<'a>(
     ensures err { IfErr result (λ fault. (fault ≡ Fault.CannotWrite path.entry) ⊎ (fault ≡ Fault.OutOfMemory)) }
 {
     let fault = Fault::CannotWrite { file: path };
-    match fs::metadata(rt, path) {
-        Ok(there) if inputs.iter().any(|input| is_same_file(&there, input)) => return Err(fault),
-        Ok(_) => {}
-        Err(error) if error.kind() == ErrorKind::NotFound => {}
-        // A file whose metadata cannot be read is not emptied.
-        Err(error) => return Err(fault.by_kind(error.kind())),
+    let is_input = match fs::metadata(rt, path) {
+        Ok(there) => Ok(inputs.iter().any(|input| is_same_file(&there, input))),
+        Err(error) => Err(error.kind()),
+    };
+    if let Some(refusal) = store_refusal(fault, is_input) {
+        return Err(refusal);
     }
     match File::create(rt, path) {
         Ok(file) if is_standard(&file) => Err(fault),
         Ok(file) => Ok(file),
         Err(error) => Err(fault.by_kind(error.kind())),
+    }
+}
+
+// Why a file is not created or emptied: it is one that is read, or its metadata cannot be read.
+fn store_refusal<'a>(fault: Fault<'a>, is_input: Result<bool, ErrorKind>) -> Option<Fault<'a>>
+    ensures { result ≡ store_refusal fault.entry is_input }
+{
+    match is_input {
+        Ok(true) => Some(fault),
+        Ok(false) | Err(ErrorKind::NotFound) => None,
+        Err(kind) => Some(fault.by_kind(kind)),
     }
 }
 
@@ -96,13 +108,21 @@ fn is_same_file(one: &Metadata, other: &Metadata) -> bool {
 pub fn report_fault(rt: &HostRuntime, program: ReportProgram, fault: Fault<'_>) -> u8
     ensures { result ≡ status_of fault.entry }
 {
-    print_error(rt, FaultLine { program, fault });
-    fault.status()
+    let line = FaultLine { program, fault };
+    write_fault(&mut RetryInterrupted::new(rt.stderr()), line).1
+}
+
+// Writes the line of a fault to a device, and returns the exit status, which shows the fault if the device fails.
+fn write_fault<W: Write>(writer: &mut W, line: FaultLine<'_>) -> (io::Result<()>, u8)
+    ensures line { OnOk result.0
+        (Appends (W.contents writer.old) (W.contents writer.new) (fault_line line.entry ++ 10 ∷ [])) }
+    ensures status { result.1 ≡ status_of line.entry.fault }
+{
+    (writeln!(writer, "{line}"), line.fault.status())
 }
 
 /// Prints a line on standard error. It does not allocate, since there may be no memory left, and repeats a write that
 /// is interrupted.
 pub fn print_error<D: Display + Drop>(rt: &HostRuntime, line: D) {
-    // If it cannot be printed, the exit status still shows the fault.
     let _ = writeln!(RetryInterrupted::new(rt.stderr()), "{line}");
 }

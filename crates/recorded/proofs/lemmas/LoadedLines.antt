@@ -1,12 +1,16 @@
 -- A call whose stored outputs a replay loads (for `Loading::load`, `Loading::take`).
 use Rattle.scene_reader.specs.Names.{SceneEvent, PlacedOutput}
-use Rattle.std.proofs.Common.{◌≡◌, ℕ, Bool, true, List, [], Option, Some, Ok, Err, length, sym, subst, arith, ◌==◌}
-use Rattle.std.proofs.Common.{inl, inr, IfSome}
+use Rattle.std.proofs.Common.{◌≡◌, ℕ, Bool, true, List, [], Option, Some, Ok, Err, length, arith, ◌==◌}
+use Rattle.std.proofs.Common.{inl, inr, refl, IfSome}
 use Rattle.{reporter_state.specs.declared.decider.OutputLoadDecider.OutputLoadDecider}
 use Rattle.{std.proofs.lemmas.List.nil_from_length}
 use Rattle.scene_follower.specs.Names.{IsUnread, Fault}
-use Rattle.recorded.specs.Names.{IfDamaged, IsReplayed, IsUnloaded, event_replayed, IsFaultOfLoad, LoadEventFault}
+use Rattle.recorded.specs.Names.{IfDamaged, IsReplayed, IsUnloaded, event_replayed, fault_of_load, LoadEventFault}
 use Rattle.recorded.specs.Names.{LoadFault}
+use Rattle.{std.specs.Borrow.Bor, std.specs.declared.io.ErrorKind.ErrorKind}
+use Rattle.{command_line.specs.Faults.fault_by_kind}
+use Rattle.std.specs.declared.io.ErrorKind.TheVariants as error
+use Rattle.command_line.specs.declared.fault.Fault.TheVariants as program
 use Rattle.recorded.specs.declared.outputs.LoadFault.TheVariants as load
 use Rattle.scene_fields.specs.declared.fault.LineFault.TheVariants as wrong
 
@@ -20,20 +24,24 @@ pub none_replayed : (all : List ℕ) (d : OutputLoadDecider) (stored : List Plac
 unfolding event_replayed
 none_replayed all d stored e none = rw none (grind arith)
 
+-- a file that cannot be read, by any error
+unread : (file : Bor (List ℕ)) (kind : ErrorKind) → IsUnread file.now (fault_by_kind kind (program.CannotRead file))
+unread file error.OutOfMemory = tt
+unread file kind = refl
+
 -- an event whose outputs were not loaded
-left_by : (all : List ℕ) (d : OutputLoadDecider) (stored : List PlacedOutput) (event : SceneEvent) (file : List ℕ)
-    (n field : ℕ) (f : LoadFault) (told : Fault)
-    → IsFaultOfLoad file n field f told →
-    IfDamaged f (event_replayed all d stored event ≡ Err (wrong.BadField field))
-    → IsUnloaded file n (event_replayed all d stored event) told
-left_by all d stored event file n field load.PastEnd told is loaded = inr (wrong.BadField field, loaded, is)
-left_by all d stored event file n field load.WrongSum told is loaded = inr (wrong.BadField field, loaded, is)
-left_by all d stored event file n field (load.CannotRead kind) told is loaded = inl is
-left_by all d stored event file n field load.OutOfMemory told is loaded = inl (subst (IsUnread file) (sym is) tt)
+left_by : (all : List ℕ) (d : OutputLoadDecider) (stored : List PlacedOutput) (event : SceneEvent)
+    (file : Bor (List ℕ)) (n field : ℕ) (f : LoadFault)
+    → IfDamaged f (event_replayed all d stored event ≡ Err (wrong.BadField field))
+    → IsUnloaded file.now n (event_replayed all d stored event) (fault_of_load file n field f)
+left_by all d stored event file n field load.PastEnd loaded = inr (wrong.BadField field, loaded, refl)
+left_by all d stored event file n field load.WrongSum loaded = inr (wrong.BadField field, loaded, refl)
+left_by all d stored event file n field (load.CannotRead kind) loaded = inl (unread file kind)
+left_by all d stored event file n field load.OutOfMemory loaded = inl tt
 
 pub load_left : (all : List ℕ) (d : OutputLoadDecider) (stored : List PlacedOutput) (event : SceneEvent)
-    (file : List ℕ) (n : ℕ) (f : LoadEventFault) (told : Fault) (after : SceneEvent)
-    → IsFaultOfLoad file n f.field f.fault told → (recorded : Option (List ℕ)) → recorded ≡ Some all
+    (file : Bor (List ℕ)) (n : ℕ) (f : LoadEventFault) (told : Fault) (after : SceneEvent)
+    → told ≡ fault_of_load file n f.field f.fault → (recorded : Option (List ℕ)) → recorded ≡ Some all
     → IfSome recorded (λ outputs. IsReplayed outputs d stored event (Err f) after) →
-    IsUnloaded file n (event_replayed all d stored event) told
+    IsUnloaded file.now n (event_replayed all d stored event) told
 load_left all d stored event file n f told after is recorded known loaded = grind arith
