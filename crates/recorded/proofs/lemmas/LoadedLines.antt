@@ -1,6 +1,6 @@
 -- A call whose stored outputs a replay loads (for `Loading::load`, `Loading::take`).
 use Rattle.scene_reader.specs.Names.{SceneEvent, PlacedOutput}
-use Rattle.std.proofs.Common.{◌≡◌, ℕ, Bool, true, List, [], Option, Some, Ok, Err, length, arith, ◌==◌}
+use Rattle.std.proofs.Common.{◌≡◌, ℕ, Bool, true, List, [], Option, Some, Ok, Err, length, sym, subst, arith, ◌==◌}
 use Rattle.std.proofs.Common.{inl, inr, refl, IfSome}
 use Rattle.{reporter_state.specs.declared.decider.OutputLoadDecider.OutputLoadDecider}
 use Rattle.{std.proofs.lemmas.List.nil_from_length}
@@ -44,4 +44,6 @@ pub load_left : (all : List ℕ) (d : OutputLoadDecider) (stored : List PlacedOu
     → told ≡ fault_of_load file n f.field f.fault → (recorded : Option (List ℕ)) → recorded ≡ Some all
     → IfSome recorded (λ outputs. IsReplayed outputs d stored event (Err f) after) →
     IsUnloaded file.now n (event_replayed all d stored event) told
-load_left all d stored event file n f told after is recorded known loaded = grind arith
+load_left all d stored event file n f told after is recorded known loaded =
+    subst (IsUnloaded file.now n (event_replayed all d stored event)) (sym is)
+    (left_by all d stored event file n f.field f.fault (rw known at loaded))
