@@ -12,7 +12,6 @@ use Rattle.scene_follower.specs.Prints.{Begins, device}
 use Rattle.std.specs.Option.{option_or}
 use Rattle.scene_reader.specs.Names.{event_lines, lines_read, no_lines, text_lines, IsCallOf, ParsedLines, PlacedOutput}
 use Rattle.scene_reader.specs.Names.{RunLine, LineFault, ReportCall}
-use Rattle.command_line.specs.declared.fault.Fault.TheVariants.{Line}
 use Rattle.command_line.specs.declared.fault.Fault.TheVariants as fault
 
 -- no call of the run is refused
@@ -30,22 +29,6 @@ pub record IsRefusedLine (options : Options) (run : ParsedLines) (lines : List �
   pub accepted : first_refused (decider_for options run.config) front ≡ None
   pub refused : Refuses options run.config call f
   pub number : n ≡ get_or lines (length front) 0
-
--- The first refused call of these lines, which make up this run. The fault names its line.
-pub record IsFirstRefused (options : Options) (lines : List RunLine) (run : ParsedLines) (fault : Fault) : Type 0 where
-  pub front : List ReportCall
-  pub call : ReportCall
-  pub rest : List ReportCall
-  pub of_run : AllZip IsCallOf run.events (front ++ call ∷ rest)
-  pub accepted : first_refused (decider_for options run.config) front ≡ None
-  pub number : ℕ
-  pub f : LineFault
-  pub refused : Refuses options run.config call f
-  pub is : fault ≡ Line number f
-  pub earlier : List ℕ
-  pub later : List ℕ
-  pub numbers : event_lines 1 no_lines lines ≡ earlier ++ number ∷ later
-  pub place : length earlier ≡ length front
 
 -- the fault is that of the first refused call of the run, unless memory was refused
 abbrev pub IsRunRefused : Options → ParsedLines → List ℕ → Fault → Type 0

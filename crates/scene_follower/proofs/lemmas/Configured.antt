@@ -2,13 +2,13 @@
 -- `follow_to`).
 use Rattle.std.proofs.Common.{◌≡◌, ℕ, true, false, List, [], ◌∷◌, ◌++◌, Ok, Err, refl, sym, ap, ◌∙◌, subst, inl}
 use Rattle.std.proofs.Common.{inr}
-use Rattle.scene_follower.proofs.Common.{AtLine, Fault, is_begun, IsUnread, lines_before, no_lines}
+use Rattle.scene_follower.proofs.Common.{AtLine, Fault, is_begun, lines_before, no_lines}
 use Rattle.scene_follower.proofs.Common.{ParsedLines, RunLine, with_line}
 use Rattle.scene_reader.specs.Names.{before_next, is_configuration, line_from, ParsedLine, split_on, Takes}
 use Rattle.scene_reader.specs.declared.reader.LinesRead.{LinesRead}
 use Rattle.scene_reader.specs.SceneTexts.{ConfigLine, EventLine, NoEvent}
 use Rattle.scene_follower.specs.Read.{HasConfigured, HasText, IsBegin, IsGiven, PassesNext, StaysConfigured}
-use Rattle.scene_follower.specs.Read.{StopsConfiguring, TakesNone}
+use Rattle.scene_follower.specs.Read.{StopsConfiguring, StopsRead, TakesNone}
 use Rattle.scene_follower.specs.{declared.read.Reading.Reading, Reading.IsNothingRead}
 use Rattle.scene_follower.proofs.lemmas.{Taken.taken_read}
 use Rattle.scene_follower.proofs.lemmas.ReadLines.{at_behind, begun_by, kept_begun, kept_config, says_event}
@@ -36,6 +36,19 @@ not_event file n run NoEvent old new given none = none
 not_event file n run (ConfigLine c) old new given none = none
 not_event file n run (EventLine e) old new given none = absurd given.1.2
 
+-- the next one cannot be read
+pub unread_configured : (file : List ℕ) (all : List RunLine) (Left : ParsedLines → List RunLine → Type 0)
+    (old : LinesRead) (h : HasConfigured all Left old) (fault : Fault) → StopsRead file h.run old.next h.lines fault
+    → StopsConfiguring file all fault
+unread_configured file all Left old h fault stops = record {
+  run = h.run;
+  lines = h.lines;
+  number = old.next;
+  none = h.none;
+  at = h.at;
+  stops = stops;
+}
+
 module _ {K : Type 0} (file : List ℕ) (all : List RunLine) (Left : ParsedLines → List RunLine → Type 0)
     (old : LinesRead) (h : HasConfigured all Left old) (given : K) (new : LinesRead) (after : K) where
   -- one more was read
@@ -60,27 +73,8 @@ module _ {K : Type 0} (file : List ℕ) (all : List RunLine) (Left : ParsedLines
   pub one_unconfigured : (Next : ParsedLines → List RunLine → Type 0) (fault : Fault)
       → PassesNext takes_none file h.run h.lines Next old given (Err fault) new after
       → StopsConfiguring file all fault
-  one_unconfigured Next fault p = record {
-    run = h.run;
-    lines = h.lines;
-    number = old.next;
-    none = h.none;
-    at = h.at;
-    stops = elim p.err [ inl x ↦ x.1 | inr (line, more, e, is, reads, given) ↦ inl given.1.2 ];
-  }
-
--- lines cannot be read any more
-pub unread_configured : (file : List ℕ) (all : List RunLine) (Left : ParsedLines → List RunLine → Type 0)
-    (old : LinesRead) → HasConfigured all Left old → (fault : Fault) → IsUnread file fault
-    → StopsConfiguring file all fault
-unread_configured file all Left old h fault unread = record {
-  run = h.run;
-  lines = h.lines;
-  number = old.next;
-  none = h.none;
-  at = h.at;
-  stops = inl unread;
-}
+  one_unconfigured Next fault p = unread_configured file all Left old h fault
+      (elim p.err [ inl x ↦ x.1 | inr (line, more, e, is, reads, given) ↦ inl given.1.2 ])
 
 -- what is left is known in another way
 pub still_configured : {all : List RunLine} {Left : ParsedLines → List RunLine → Type 0} {read : LinesRead}

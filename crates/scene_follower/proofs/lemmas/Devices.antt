@@ -95,49 +95,6 @@ least_there : {S : Type 0} (n : Meaning S) (c d : Store S) (t : Text) → HasAtL
     → HasAtLeast n c.writer.now t d.writer.now
 least_there {S} n c d t h = grind arith
 
--- two devices are at the same call as their buffers
-pub stand_there : {W S : Type 0} (contents : W → Option (List ℕ)) (stored_in : S → Option (List ℕ)) (a b : TextBuffer W)
-    (c d : TextBuffer S)
-    → a.pending ≡ [] → c.pending ≡ [] → (texts records : List ReportCall → Text) (calls : List ReportCall) →
-    StandAtOneCall (buffer_meaning contents) (buffer_meaning stored_in) texts records calls (a, c) (b, d)
-    → StandAtOneCall device device texts records calls (contents a.writer, stored_in c.writer) (
-      contents b.writer,
-      stored_in d.writer,
-    )
-stand_there contents stored_in a b c d none empty texts records calls h = record {
-  before = h.before;
-  here = h.here;
-  rest = h.rest;
-  is = h.is;
-  one = h.one;
-  printed = least_here contents a b none _ h.printed;
-  no_more_printed = most_here contents a b none _ h.no_more_printed;
-  kept = least_here stored_in c d empty _ h.kept;
-  no_more_kept = most_here stored_in c d empty _ h.no_more_kept;
-  text_first = elim h.text_first [
-    | inl most ↦ inl (most_here stored_in c d empty _ most)
-    | inr least ↦ inr (least_here contents a b none _ least)
-  ];
-}
-
-stand_stored : {W S : Type 0} (m : Meaning W) (n : Meaning S) (a b : W) (c d : Store S) (texts records : List
-    ReportCall
-    → Text) (calls : List ReportCall)
-    → StandAtOneCall m (store_meaning n) texts records calls (a, Some c) (b, Some d) →
-    StandAtOneCall m n texts records calls (a, c.writer.now) (b, d.writer.now)
-stand_stored m n a b c d texts records calls h = record {
-  before = h.before;
-  here = h.here;
-  rest = h.rest;
-  is = h.is;
-  one = h.one;
-  printed = h.printed;
-  no_more_printed = h.no_more_printed;
-  kept = least_there n c d _ h.kept;
-  no_more_kept = most_there n c d _ h.no_more_kept;
-  text_first = grind arith;
-}
-
 -- two devices hold what two buffers have, of which the second is a store's
 module _ {W S : Type 0} (options : Options) (contents : W → Option (List ℕ)) (stored_in : S → Option (List ℕ))
     (a b : TextBuffer W) (c d : Store (TextBuffer S)) (none : a.pending ≡ []) (empty : c.writer.now.pending ≡ []) where
@@ -147,6 +104,31 @@ module _ {W S : Type 0} (options : Options) (contents : W → Option (List ℕ))
       → AreWhole device device options (contents a.writer, stored_in c.writer.now.writer)
       (contents b.writer, stored_in d.writer.now.writer) config calls
   both_whole config calls h = grind (arith, whole_here, report_of, stored_of)
+
+  stand_there : (texts records : List ReportCall → Text) (calls : List ReportCall)
+      → StandAtOneCall (buffer_meaning contents) (store_meaning (buffer_meaning stored_in)) texts records calls
+      (a, Some c) (b, Some d)
+      → StandAtOneCall device device texts records calls (contents a.writer, stored_in c.writer.now.writer)
+      (contents b.writer, stored_in d.writer.now.writer)
+  stand_there texts records calls h =
+      let most = λ (t : Text) (x : HasAtMost (store_meaning (buffer_meaning stored_in)) (Some c) t (Some d)).
+      most_here stored_in c.writer.now d.writer.now empty t (most_there (buffer_meaning stored_in) c d t x) in
+      record {
+        before = h.before;
+        here = h.here;
+        rest = h.rest;
+        is = h.is;
+        one = h.one;
+        printed = least_here contents a b none _ h.printed;
+        no_more_printed = most_here contents a b none _ h.no_more_printed;
+        kept = least_here stored_in c.writer.now d.writer.now empty _
+            (least_there (buffer_meaning stored_in) c d _ h.kept);
+        no_more_kept = most _ h.no_more_kept;
+        text_first = elim h.text_first [
+          | inl x ↦ inl (most _ x)
+          | inr x ↦ inr (least_here contents a b none _ x)
+        ];
+      }
 
   pub both_begun : (run : ParsedLines) (f : Fault)
       → Begins (buffer_meaning contents) (store_meaning (buffer_meaning stored_in)) options (a, Some c) (b, Some d) run
@@ -158,8 +140,7 @@ module _ {W S : Type 0} (options : Options) (contents : W → Option (List ℕ))
     beginning_here contents a b none (report_of options run.config) _ _ calls h.1,
     beginning_here stored_in c.writer.now d.writer.now empty (stored_of options) _ _ calls
         (grind arith),
-    λ there. stand_there contents stored_in a b c.writer.now d.writer.now none empty _ _ calls
-        (stand_stored (buffer_meaning contents) (buffer_meaning stored_in) a b c d _ _ calls (h.3 there)),
+    λ there. stand_there _ _ calls (h.3 there),
   ))
 
 -- a store that was handed on and came back

@@ -1,10 +1,10 @@
 -- Lines that are followed: all were reported, or a fault stopped one (for `follow_to`, `follow_source`).
 use Rattle.std.proofs.Common.{arith}
-use Rattle.scene_follower.proofs.Common.{AreWhole, AtLine, Begins, Fault, Followed, Follows, IsUnread, Line, line_value}
-use Rattle.scene_follower.proofs.Common.{LineFault, lines_before, Meaning, no_lines, Options, OutOfMemory, ParsedLines}
+use Rattle.scene_follower.proofs.Common.{AreWhole, AtLine, Begins, Fault, Followed, Follows, line_value}
+use Rattle.scene_follower.proofs.Common.{lines_before, Meaning, no_lines, Options, OutOfMemory, ParsedLines}
 use Rattle.scene_follower.proofs.Common.{Prints, ReportCall, RunLine, RunOutcome, SceneEvent, SceneReporter}
 use Rattle.scene_follower.proofs.Common.{StopsAtEvent, StopsBy, store-laws, store_meaning, with_line, WriterLaws}
-use Rattle.scene_follower.proofs.Common.{writers, SceneConfig, IsSameReporter, same-after, AllZip, IsCallOf}
+use Rattle.scene_follower.proofs.Common.{writers, SceneConfig, IsSameReporter, same-after}
 use Rattle.scene_follower.proofs.Common.{StaysConfigured}
 use Rattle.std.proofs.Common.{Option, ◌≡◌, ◌⊎◌, ℕ, ◌+◌, List, [], ◌∷◌, Result, Ok, Err, length, refl, ap}
 use Rattle.std.proofs.Common.{subst, inl, inr}
@@ -18,7 +18,7 @@ use Rattle.scene_follower.specs.Read.{StopsTaking, IsGiven}
 use Rattle.scene_reader.specs.declared.reader.LinesRead.{LinesRead}
 use Rattle.scene_follower.specs.SceneReporter.{IsSetFor}
 use Rattle.scene_follower.specs.{SceneReporter.ReportsCall}
-use Rattle.scene_follower.proofs.lemmas.Prints.{begins_no_more, none_begun, prints_only}
+use Rattle.scene_follower.proofs.lemmas.Prints.{begins_no_more, text_laws, TextLaws, prints_only}
 use Rattle.scene_follower.proofs.lemmas.Configured.{stays_behind, stays_front}
 use Rattle.scene_follower.proofs.lemmas.ReadLines.{at_behind}
 use Rattle.{console_reporter.specs.declared.imp.reporter.DisplayReporter.DisplayReporter}
@@ -35,54 +35,41 @@ pub stopped : {options : Options} {all : List RunLine} {P : ParsedLines → Type
     → StopsBy options all P Q f
 stopped {run = run} {lines = lines} {number = number} at holds = search
 
--- memory was refused before anything was written
-pub nothing_stops : {W T : Type 0} (m : Meaning W) (k : Meaning T) (options : Options) (all : List RunLine)
-    (held : W × T)
-    → m.accepts held.0 [] held.0 → k.accepts held.1 [] held.1 → m.is_delivered held.0 → k.is_delivered held.1
-    → (P : ParsedLines → Type 0) (f : Fault) → f ≡ OutOfMemory →
-    StopsBy options all P (Begins m k options held held) f
-nothing_stops m k options all held nothing also delivered stored P f is = rw is
-    (stopped {run = no_lines} {lines = all} {number = 1} (grind arith) (inr (record {
-      calls = [];
-      of_run = tt;
-      accepted = refl;
-      holds = none_begun m k options _ [] held nothing also delivered stored;
-    })))
+-- the next line was not read, after calls that were printed
+read_stopped : {W T : Type 0} {m : Meaning W} {k : Meaning T} → TextLaws m → TextLaws k → (options : Options)
+    {all : List RunLine} {old new : W × T} {run : ParsedLines} {lines : List RunLine} {number : ℕ}
+    → AtLine all run lines number → Prints m k options old new run
+    → (f : Fault) → StopsRead options.file.now run number lines f
+    → StopsBy options all (Prints m k options old new) (Begins m k options old new) f
+read_stopped laws others options at prints (CannotRead name) (inl h) = stopped at (inl (prints, inr (name, refl, h)))
+read_stopped laws others options at prints OutOfMemory (inl h) =
+    stopped at (inr (begins_no_more laws others options _ _ _ prints))
+read_stopped laws others options at prints other (inl h) = absurd h
+read_stopped laws others options at prints f (inr (line, more, wrong, is, says, told)) = grind (arith, stopped)
 
--- a fault stopped the lines that configure the report: nothing was written
-pub unconfigured_stops : {W T : Type 0} (m : Meaning W) (k : Meaning T) (options : Options) (all : List RunLine)
-    (held : W × T)
-    → m.accepts held.0 [] held.0 → k.accepts held.1 [] held.1 → m.is_delivered held.0 → k.is_delivered held.1
-    → (fault : Fault) → StopsConfiguring options.file.now all fault
-    → StopsBy options all (Prints m k options held held) (Begins m k options held held) fault
-unconfigured_stops {W} {T} m k options all held nothing also delivered stored fault s = by fault s.stops
-  where
-    of_run : AllZip IsCallOf s.run.events []
-    of_run = rw s.none tt
+-- a fault before the first call: nothing was written
+module _ {W T : Type 0} {m : Meaning W} {k : Meaning T} (laws : TextLaws m) (others : TextLaws k) (options : Options)
+    (all : List RunLine) (held : W × T) (delivered : m.is_delivered held.0) (stored : k.is_delivered held.1) where
+  none_printed : (run : ParsedLines) → run.events ≡ [] → Prints m k options held held run
+  none_printed run none = record {
+    calls = [];
+    of_run = rw none tt;
+    accepted = refl;
+    holds = record {
+      printed = laws.nothing held.0;
+      kept = others.nothing held.1;
+      delivered = (delivered, stored);
+    };
+  }
 
-    prints : Prints m k options held held s.run
-    prints = record {
-      calls = [];
-      of_run = of_run;
-      accepted = refl;
-      holds = record { printed = nothing; kept = also; delivered = (delivered, stored) };
-    }
+  pub nothing_stops : (f : Fault) → f ≡ OutOfMemory
+      → StopsBy options all (Prints m k options held held) (Begins m k options held held) f
+  nothing_stops f is = rw is (read_stopped laws others options {run = no_lines} {lines = all} {number = 1} (grind arith)
+      (none_printed no_lines refl) OutOfMemory (inl tt))
 
-    unread : (f : Fault) → IsUnread options.file.now f
-        → StopsBy options all (Prints m k options held held) (Begins m k options held held) f
-    unread (CannotRead name) h = stopped s.at (inl (prints, inr (name, refl, h)))
-    unread OutOfMemory h = stopped s.at (inr (record {
-      calls = [];
-      of_run = of_run;
-      accepted = refl;
-      holds = none_begun m k options _ [] held nothing also delivered stored;
-    }))
-    unread other h = absurd h
-
-    by : (f : Fault) → StopsRead options.file.now s.run s.number s.lines f
-        → StopsBy options all (Prints m k options held held) (Begins m k options held held) f
-    by f (inl h) = unread f h
-    by f (inr (line, more, wrong, is, says, told)) = grind arith
+  pub unconfigured_stops : (fault : Fault) → StopsConfiguring options.file.now all fault
+      → StopsBy options all (Prints m k options held held) (Begins m k options held held) fault
+  unconfigured_stops fault s = read_stopped laws others options s.at (none_printed s.run s.none) fault s.stops
 
 -- how a reporter takes calls
 abbrev pub takes : {W S : Type 0} → Meaning W → Meaning S → Takes (SceneReporter W S)
@@ -175,16 +162,6 @@ module _ {W S : Type 0} {m : Meaning W} {n : Meaning S} (laws : WriterLaws m) (o
       prints : Prints m (store_meaning n) options start (writers stops.mid) stops.mid_run
       prints = prints_only so_far.1.reported
 
-      unread : (f : Fault) → IsUnread options.file.now f → StopsRun stops.mid f
-      unread (CannotRead name) h = grind (arith, stopped, here, prints)
-      unread OutOfMemory h = grind (arith, stopped, here, begins_no_more, store-laws, writers, prints)
-      unread other h = absurd h
-
-      wrong : ((line : RunLine) × (more : List RunLine) × (f : LineFault) × (stops.rest ≡ line ∷ more)
-          × (line_value (lines_before stops.mid_run) line ≡ Err f) × (fault ≡ Line place f))
-          → StopsRun stops.mid fault
-      wrong (line, more, f, is, says, told) = grind (arith, stopped, here, prints)
-
       event_stopped : (line : RunLine) (more : List RunLine) (e : SceneEvent) → stops.rest ≡ line ∷ more
           → line_value (lines_before stops.mid_run) line ≡ Ok (EventLine e)
           → StopsAtEvent m n options start next stops.mid_run place e fault → StopsRun next fault
@@ -200,7 +177,8 @@ module _ {W S : Type 0} {m : Meaning W} {n : Meaning S} (laws : WriterLaws m) (o
 
       pub follow_stopped : StopsRun next fault
       follow_stopped = elim stops.stops [
-        | inl before ↦ rw before.0 (elim before.1 [ inl h ↦ unread fault h | inr h ↦ wrong h ])
+        | inl before ↦ rw before.0
+            (read_stopped (text_laws laws) (text_laws (store-laws others)) options here prints fault before.1)
         | inr (line, more, e, is, says, given) ↦
             event_stopped line more e is says
             (subst (λ x. StopsAtEvent m n options start next stops.mid_run place x fault) given.1.1

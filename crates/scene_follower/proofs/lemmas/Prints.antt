@@ -2,16 +2,17 @@
 -- `follow_to`).
 use Rattle.std.proofs.Common.{◌≡◌, ℕ, true, List, [], ◌∷◌, ◌++◌, reverse, refl, sym, ap, ◌∙◌, subst, append-nil}
 use Rattle.std.proofs.Common.{append_assoc, arith, length, ◌≤◌, ◌⊎◌, None, inl, inr}
-use Rattle.scene_follower.proofs.Common.{Begins, Failed, fault_at_call, HasAtLeast, HasAtMost, HasBeginning}
+use Rattle.scene_follower.proofs.Common.{Appends-nil, Begins, device, Failed, fault_at_call, HasAtLeast, HasAtMost}
+use Rattle.scene_follower.proofs.Common.{HasBeginning}
 use Rattle.scene_follower.proofs.Common.{HasFirstCalls, Io, is_some, Meaning, OfCalls, Options, OutOfMemory}
 use Rattle.scene_follower.proofs.Common.{OutputNotLoaded, ParsedLines, Prints, PrintsFollowed, Records}
-use Rattle.scene_follower.proofs.Common.{ReportCall, RetriedSuccess, reverse-append, RunOutcome, SceneConfig}
-use Rattle.scene_follower.proofs.Common.{StandAtOneCall, Stops, store_for, stored, StoreFailed, StoreIo, Text, text}
+use Rattle.scene_follower.proofs.Common.{ReportCall, RetriedSuccess, reverse-append, RunOutcome}
+use Rattle.scene_follower.proofs.Common.{StandAtOneCall, Stops, store_for, StoreFailed, StoreIo, Text, text}
 use Rattle.scene_follower.proofs.Common.{WriteEventError, WriteFailed, WriterLaws}
 use Rattle.writers.specs.declared.write_str.WriteFault.TheVariants.{Device, Memory as RefusedMemory}
 use Rattle.console_reporter.specs.Names.{HasFront, Side, error_for, Report}
 use Rattle.reporter_state.specs.{Refusals.refusal_in, declared.faults.WriteEventError.TheVariants.Memory}
-use Rattle.scene_follower.{specs.Prints.AreBegun, specs.Prints.IsStop}
+use Rattle.{std.proofs.KnownBytes.Appends-trans, styled_text.specs.Names.WriteFault, scene_follower.specs.Prints.IsStop}
 
 -- a prefix of a text was accepted, in the form of `HasBeginning`
 abbrev pub Begun : {S : Type 0} → Meaning S → Type 0 → S → Text → S → Type 0
@@ -27,6 +28,35 @@ memory_no_device is = cc
 
 pub write_no_store : WriteFailed ≡ StoreFailed → ⊥
 write_no_store is = cc
+
+-- the laws of a writer that a report rests on
+pub record TextLaws {S : Type 0} (m : Meaning S) : Type 0 where
+  pub nothing : (a : S) → m.accepts a [] a
+  pub joins : (a b c : S) (t u : Text) → m.accepts a t b → m.accepts b u c → m.accepts a (t ++ u) c
+  pub goes_on : (a b c : S) (t u : Text) (e : WriteFault) → m.accepts a t b → m.stops b u e c → m.stops a (t ++ u) e c
+  pub stops_within : (a b : S) (t u : Text) (e : WriteFault) → m.stops a t e b → m.stops a (t ++ u) e b
+
+pub text_laws : {S : Type 0} {m : Meaning S} → WriterLaws m → TextLaws m
+text_laws laws = search
+
+-- a device has them, too
+pub device_laws : TextLaws device
+device_laws = record {
+  nothing = Appends-nil;
+  joins = Appends-trans;
+  goes_on = λ a b c t u e h k. record {
+    front = t ++ k.front;
+    rest = k.rest;
+    whole = ap (λ x. t ++ x) k.whole ∙ sym (append_assoc t k.front k.rest);
+    grown = Appends-trans a b c t k.front h k.grown;
+  };
+  stops_within = λ a b t u e h. record {
+    front = h.front;
+    rest = h.rest ++ u;
+    whole = ap (λ x. x ++ u) h.whole ∙ append_assoc h.front h.rest u;
+    grown = h.grown;
+  };
+}
 
 -- what holds of two pairs of writers holds of the same ones
 pub moved : {W T : Type 0} (P : W × T → W × T → Type 0) {a a' c c' : W} {b b' d d' : T} → a ≡ a' → b ≡ b' → c ≡ c'
@@ -66,8 +96,18 @@ pub last_next : (texts : List ReportCall → Text) (calls : List ReportCall) (ca
     → texts calls ++ more ≡ texts (calls ++ call ∷ []) → IsNext texts (calls ++ call ∷ []) (texts calls) more
 last_next texts calls call more is = grind (arith, append-nil)
 
+-- after what was accepted, a prefix of a text is one of both together
+front_after : {S : Type 0} {m : Meaning S} → TextLaws m → (a b c : S) (had more : Text) → m.accepts a had b
+    → HasFront m b more c → HasFront m a (had ++ more) c
+front_after laws a b c had more before f = record {
+  front = had ++ f.front;
+  rest = f.rest;
+  whole = ap (λ t. had ++ t) f.whole ∙ sym (append_assoc had f.front f.rest);
+  accepted = grind arith;
+}
+
 -- of one writer
-module _ {S : Type 0} {m : Meaning S} (laws : WriterLaws m) (texts : List ReportCall → Text) (OfOwn OfOther : Type 0)
+module _ {S : Type 0} {m : Meaning S} (laws : TextLaws m) (texts : List ReportCall → Text) (OfOwn OfOther : Type 0)
   where
     -- of all calls it has the texts whole
     whole_texts : (calls : List ReportCall) (a b : S) → m.accepts a (texts calls) b → (OfOwn → ⊥)
@@ -75,7 +115,7 @@ module _ {S : Type 0} {m : Meaning S} (laws : WriterLaws m) (texts : List Report
     whole_texts calls a b accepted another delivered = grind (arith, append-nil)
 
     -- a prefix of the texts of some calls is a prefix of the texts of more
-    begun_longer : (a b : S) (t u : Text) → Begun m OfOwn a t b → Begun m OfOwn a (t ++ u) b
+    pub begun_longer : (a b : S) (t u : Text) → Begun m OfOwn a t b → Begun m OfOwn a (t ++ u) b
     begun_longer a b t u (inl h) = grind arith
     begun_longer a b t u (inr (inl h)) = grind arith
     begun_longer a b t u (inr (inr f)) = inr (inr (record {
@@ -100,12 +140,7 @@ module _ {S : Type 0} {m : Meaning S} (laws : WriterLaws m) (texts : List Report
       refused_call : (OfOwn → ⊥) → (OfOther → ⊥) → (m.stops b more RefusedMemory c ⊎ HasFront m b more c)
           → HasBeginning m texts OfOwn OfOther calls a c
       refused_call another other (inl stops) = grind arith
-      refused_call another other (inr f) = begins_next (inr (inr (record {
-        front = had ++ f.front;
-        rest = f.rest;
-        whole = ap (λ t. had ++ t) f.whole ∙ sym (append_assoc had f.front f.rest);
-        accepted = grind arith;
-      })))
+      refused_call another other (inr f) = begins_next (inr (inr (front_after laws a b c had more before f)))
           (λ failed. absurd (another failed)) (λ is. absurd (other is))
 
 -- the side of the other writer
@@ -115,7 +150,7 @@ other Records = Report
 
 -- What one side holds when an error that is no refusal stopped the next call. An error of the other side's device
 -- leaves this side unchanged.
-pub call_stopped : {S : Type 0} {m : Meaning S} (laws : WriterLaws m) (side : Side) {texts : List ReportCall → Text}
+pub call_stopped : {S : Type 0} {m : Meaning S} (laws : TextLaws m) (side : Side) {texts : List ReportCall → Text}
     {calls : List ReportCall} {had more : Text}
     → IsNext texts calls had more → (a b c : S) → m.accepts a had b →
     (n : ℕ) (e : WriteEventError) → refusal_in e ≡ None → (e ≡ error_for (other side) Device
@@ -143,64 +178,49 @@ call_stopped {m = m} laws Records {had =
     (grind arith) write_no_store (λ is. told refl)
 
 -- a writer that was given a text whole
-module _ {S : Type 0} {m : Meaning S} (laws : WriterLaws m) where
+module _ {S : Type 0} {m : Meaning S} (laws : TextLaws m) where
   least_whole : (a b : S) (t : Text) → m.accepts a t b → m.is_delivered b → HasAtLeast m a t b
   least_whole a b t accepted delivered = grind arith
 
   most_whole : (a b : S) (t : Text) → m.accepts a t b → HasAtMost m a t b
   most_whole a b t accepted = grind (arith, append-nil)
 
-  -- and that an error stopped in the next one
-  module _ (a b c : S) (had more : Text) (before : m.accepts a had b) (held : m.is_delivered b) where
-    least_stopped : (side : Side) (e : WriteEventError) → refusal_in e ≡ None → Stops side m b more e c
-        → HasAtLeast m a had c
-    least_stopped side RetriedSuccess none stops = absurd (cc)
-    least_stopped side OutputNotLoaded none stops = absurd (cc)
-    least_stopped side Failed none stops = absurd stops
-    least_stopped side Memory none (inl stops) = record {
-      mid = b;
-      accepted = before;
-      delivered = held;
-      more = more;
-      goes_on = inr (RefusedMemory, stops);
-    }
-    least_stopped side Memory none (inr f) = grind arith
-    least_stopped Report Io none stops = record {
-      mid = b;
-      accepted = before;
-      delivered = held;
-      more = more;
-      goes_on = inr (Device, stops);
-    }
-    least_stopped Records StoreIo none stops = record {
-      mid = b;
-      accepted = before;
-      delivered = held;
-      more = more;
-      goes_on = inr (Device, stops);
-    }
-    least_stopped Report StoreIo none stops = grind arith
-    least_stopped Records Io none stops = grind arith
+-- and that an error stopped in the next one
+stopped_most : {S : Type 0} {m : Meaning S} → TextLaws m → (b c : S) (more : Text) (side : Side) (e : WriteEventError)
+    → refusal_in e ≡ None → Stops side m b more e c → HasAtMost m b more c
+stopped_most laws b c more side RetriedSuccess none stops = absurd (cc)
+stopped_most laws b c more side OutputNotLoaded none stops = absurd (cc)
+stopped_most laws b c more side Failed none stops = absurd stops
+stopped_most laws b c more side Memory none (inl stops) = inr (RefusedMemory, stops)
+stopped_most laws b c more side Memory none (inr f) = inl f
+stopped_most laws b c more Report Io none stops = inr (Device, stops)
+stopped_most laws b c more Records StoreIo none stops = inr (Device, stops)
+stopped_most laws b c more Report StoreIo none stops = most_whole laws b c more stops
+stopped_most {m = m} laws b c more Records Io none stops = inl (record {
+  front = [];
+  rest = more;
+  whole = refl;
+  accepted = subst (m.accepts b []) (sym stops) (laws.nothing b);
+})
 
-    most_stopped : (side : Side) (e : WriteEventError) → refusal_in e ≡ None → Stops side m b more e c
-        → HasAtMost m a (had ++ more) c
-    most_stopped side RetriedSuccess none stops = absurd (cc)
-    most_stopped side OutputNotLoaded none stops = absurd (cc)
-    most_stopped side Failed none stops = absurd stops
-    most_stopped side Memory none (inl stops) = grind arith
-    most_stopped side Memory none (inr f) = inl (record {
-      front = had ++ f.front;
-      rest = f.rest;
-      whole = ap (λ t. had ++ t) f.whole ∙ sym (append_assoc had f.front f.rest);
-      accepted = grind arith;
-    })
-    most_stopped Report Io none stops = grind arith
-    most_stopped Records StoreIo none stops = grind arith
-    most_stopped Report StoreIo none stops = grind (arith, most_whole)
-    most_stopped Records Io none stops = grind arith
+module _ {S : Type 0} {m : Meaning S} (laws : TextLaws m) (a b c : S) (had more : Text) (before : m.accepts a had b)
+  where
+    least_next : m.is_delivered b → HasAtMost m b more c → HasAtLeast m a had c
+    least_next held (inl f) = grind arith
+    least_next held (inr stops) = record {
+      mid = b;
+      accepted = before;
+      delivered = held;
+      more = more;
+      goes_on = inr stops;
+    }
+
+    most_next : HasAtMost m b more c → HasAtMost m a (had ++ more) c
+    most_next (inl f) = inl (front_after laws a b c had more before f)
+    most_next (inr stops) = grind arith
 
 -- the call at which two writers are
-module _ {W T : Type 0} {m : Meaning W} {k : Meaning T} (laws : WriterLaws m) (others : WriterLaws k)
+module _ {W T : Type 0} {m : Meaning W} {k : Meaning T} (laws : TextLaws m) (others : TextLaws k)
     {texts records : List ReportCall → Text} where
   -- an error stopped the call here
   pub stand_here : (calls before here rest : List ReportCall) → calls ≡ before ++ (here ++ rest) → length here ≤ 1
@@ -218,12 +238,14 @@ module _ {W T : Type 0} {m : Meaning W} {k : Meaning T} (laws : WriterLaws m) (o
         rest = rest;
         is = is;
         one = one;
-        printed = least_stopped laws a b c _ text printed delivered Report e none stops;
+        printed = least_next laws a b c _ text printed delivered (stopped_most laws b c text Report e none stops);
         no_more_printed = subst (λ t. HasAtMost m a t c) (sym text_is)
-            (most_stopped laws a b c _ text printed delivered Report e none stops);
-        kept = least_stopped others x y z _ record_text kept held Records e none store_stops;
+            (most_next laws a b c _ text printed (stopped_most laws b c text Report e none stops));
+        kept = least_next others x y z _ record_text kept held
+            (stopped_most others y z record_text Records e none store_stops);
         no_more_kept = subst (λ t. HasAtMost k x t z) (sym record_is)
-            (most_stopped others x y z _ record_text kept held Records e none store_stops);
+            (most_next others x y z _ record_text kept
+            (stopped_most others y z record_text Records e none store_stops));
         text_first = elim order [
           | inl same ↦ inl (most_whole others x z _ same)
           | inr told ↦ grind arith
@@ -246,27 +268,7 @@ module _ {W T : Type 0} {m : Meaning W} {k : Meaning T} (laws : WriterLaws m) (o
     text_first = inl (most_whole others x y _ kept);
   }
 
--- nothing was written
-pub stand_first : {W T : Type 0} (m : Meaning W) (k : Meaning T) (texts records : List ReportCall → Text)
-    → texts [] ≡ [] → records [] ≡ [] → (calls : List ReportCall) (old : W × T) → m.accepts old.0 [] old.0
-    → k.accepts old.1 [] old.1 →
-    m.is_delivered old.0 → k.is_delivered old.1 → StandAtOneCall m k texts records calls old old
-stand_first m k texts records none also calls old nothing kept delivered held = grind arith
-
--- so memory was refused before anything was written
-pub none_begun : {W T : Type 0} (m : Meaning W) (k : Meaning T) (options : Options) (config : SceneConfig)
-    (calls : List ReportCall) (held : W × T)
-    → m.accepts held.0 [] held.0 → k.accepts held.1 [] held.1 → m.is_delivered held.0 → k.is_delivered held.1 →
-    AreBegun m k options held held config OutOfMemory calls
-none_begun m k options config calls held nothing also delivered stored = grind (
-  arith,
-  memory_no_device,
-  memory_no_store,
-  stand_first,
-  stored,
-)
-
--- and such an error stops a report
+-- such an error stops a report
 pub is_stop : (options : Options) (n : ℕ) (e : WriteEventError) → refusal_in e ≡ None
     → (e ≡ StoreIo → is_some (store_for options) ≡ true) → IsStop options (fault_at_call n e)
 is_stop options n Memory none there = inr (inl refl)
@@ -291,7 +293,7 @@ module _ (whole : List ReportCall → Text) (part : List ReportCall → ReportCa
   pub front_of_more : (calls more : List ReportCall) → IsFront (whole (reverse calls)) (whole (reverse (calls ++ more)))
   front_of_more calls more = grind (arith, reverse, reverse-append, front_of_later)
 
-module _ {W T : Type 0} {m : Meaning W} {k : Meaning T} (laws : WriterLaws m) (others : WriterLaws k)
+module _ {W T : Type 0} {m : Meaning W} {k : Meaning T} (laws : TextLaws m) (others : TextLaws k)
     (options : Options) (old new : W × T) where
   -- memory was refused before anything more was written
   pub begins_no_more : (run : ParsedLines) → Prints m k options old new run → Begins m k options old new run OutOfMemory

@@ -14,7 +14,8 @@ use Rattle.scene_reader.specs.Names.{line_words, value_of, with_made, with_store
 use Rattle.scene_reader.specs.Names.{goes_on, noted_outputs, says, PlacedOutput, split_on}
 use Rattle.scene_reader.specs.SceneTexts.{ConfigLine, EventLine, NoEvent}
 use Rattle.std.proofs.lemmas.{List.Splits.length-slice_split, Bool.cond_both, Bool.or_parts}
-use Rattle.std.proofs.lemmas.{List.Splits.join_with_byte-slice_split, List.drop_at, List.take-append-drop}
+use Rattle.std.proofs.lemmas.{List.Splits.join_with_byte-slice_split, List.drop_at, List.nil_from_length}
+use Rattle.std.proofs.lemmas.{List.take-append-drop}
 use Rattle.std.proofs.lemmas.{Slice.Eq.bytes_eq-Decides}
 use Rattle.std.specs.List.{join_with_byte}
 use Rattle.scene_follower.specs.Read.{line_text, AreLeftBehind, HasNext}
@@ -49,10 +50,6 @@ cut left rest piece remaining (inl lines) (more, remains, feed) = search (arith,
 cut left rest piece remaining (inr none) (more, remains, feed) = absurd
     (omega (arith, ap length (sym none.1 ∙ feed), length-append piece (10 ∷ more)))
 
-no_elements : (t : List ℕ) → length t ≡ 0 → t ≡ []
-no_elements [] none = refl
-no_elements (c ∷ t) none = absurd (omega (arith, none))
-
 -- what the next piece of a text has
 module _ (remaining after : Option (List ℕ)) (piece : List ℕ) (lines : List RunLine)
     (h : AreLeftBehind [] remaining lines) where
@@ -68,7 +65,7 @@ module _ (remaining after : Option (List ℕ)) (piece : List ℕ) (lines : List 
   -- the last piece, which is a line unless it is empty
   pub last_read : (no_byte : Bool) → no_byte ≡ (length piece == 0)
       → ((text : List ℕ) → remaining ≡ Some text → IsNextPiece text false piece after) → Has (not no_byte)
-  last_read true size next = search (arith, no_elements, left_here)
+  last_read true size next = search (arith, nil_from_length, left_here)
   last_read false size next = search (arith, left_here, text_lines, append-nil)
 
 -- all of a text is left of its reader
@@ -143,17 +140,19 @@ made_none : (r : Result SceneEvent LineFault) → SaysNone (event_line r)
 made_none (Ok x) = tt
 made_none (Err f) = tt
 
-with_none_made : (make : List PlacedOutput → SceneEvent → Result SceneEvent LineFault) (r : Result (ParsedLine × Place)
-    LineFault)
-    → ReadsNone r → SaysNone (with_made make (with_stored r))
-with_none_made make (Ok (NoEvent, p)) none = tt
-with_none_made make (Ok (ConfigLine c, p)) none = none
-with_none_made make (Ok (EventLine e, p)) none = made_none (make (noted_outputs p.noted) e)
-with_none_made make (Err f) none = tt
+-- so does what a recorded line makes of it
+made_so : (P : Result ParsedLine LineFault → Type 0) → ((r : Result SceneEvent LineFault) → P (event_line r))
+    → (make : List PlacedOutput → SceneEvent → Result SceneEvent LineFault) (r : Result (ParsedLine × Place) LineFault)
+    → P (value_of r) → P (with_made make (with_stored r))
+made_so P made make (Ok (NoEvent, p)) h = h
+made_so P made make (Ok (ConfigLine c, p)) h = h
+made_so P made make (Ok (EventLine e, p)) h = made (make (noted_outputs p.noted) e)
+made_so P made make (Err f) h = h
 
 says_none : (config : SceneConfig) (t : RunLine) → SaysNone (line_value (behind config) t)
 says_none config (PlainLine t) = reads_none_behind config None t
-says_none config (RecordedLine t make) = search (with_none_made, reads_none_behind)
+says_none config (RecordedLine t make) = made_so SaysNone made_none (make (behind config)) _
+    (reads_none_behind config _ t)
 
 pub begun_by : (es : List SceneEvent) (e : SceneEvent) → is_begun (es ++ e ∷ []) ≡ true
 begun_by [] e = refl
@@ -217,14 +216,6 @@ made_event : (r : Result SceneEvent LineFault) → SaysEvent (event_line r)
 made_event (Ok x) = tt
 made_event (Err f) = tt
 
-with_event_made : (make : List PlacedOutput → SceneEvent → Result SceneEvent LineFault) (r : Result (ParsedLine × Place)
-    LineFault)
-    → SaysEvent (value_of r) → SaysEvent (with_made make (with_stored r))
-with_event_made make (Ok (NoEvent, p)) h = absurd h
-with_event_made make (Ok (ConfigLine c, p)) h = absurd h
-with_event_made make (Ok (EventLine e, p)) h = made_event (make (noted_outputs p.noted) e)
-with_event_made make (Err f) h = tt
-
 event_of : (r : Result ParsedLine LineFault) (value : ParsedLine) → SaysEvent r → r ≡ Ok value
     → (e : SceneEvent) × (value ≡ EventLine e)
 event_of (Ok (EventLine e)) value h is = (e, cc)
@@ -236,10 +227,5 @@ pub says_event : (before : LinesBefore) (line : RunLine) (value : ParsedLine)
     → is_configuration (line_text line) ≡ false → line_value before line ≡ Ok value
     → (e : SceneEvent) × (value ≡ EventLine e)
 says_event before (PlainLine t) value other is = search (arith, event_of, line_value, reads_event)
-says_event before (RecordedLine t make) value other is = search (
-  arith,
-  event_of,
-  line_value,
-  with_event_made,
-  reads_event,
-)
+says_event before (RecordedLine t make) value other is =
+    event_of _ value (made_so SaysEvent made_event (make before) _ (reads_event before _ t other)) is

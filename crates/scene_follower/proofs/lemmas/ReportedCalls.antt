@@ -16,7 +16,7 @@ use Rattle.scene_follower.specs.declared.outcome.RunOutcome.TheVariants as outco
 use Rattle.scene_follower.proofs.lemmas.ReadyCalls.{more_if, none_ready, outcome_if, refusal_if, report_ready}
 use Rattle.scene_follower.proofs.lemmas.ReadyCalls.{stored_ready}
 use Rattle.scene_follower.proofs.lemmas.Refusals.{none_more}
-use Rattle.scene_follower.proofs.lemmas.Prints.{call_stopped, is_stop, last_next, prints_only, stand_here}
+use Rattle.scene_follower.proofs.lemmas.Prints.{call_stopped, is_stop, text_laws, last_next, prints_only, stand_here}
 
 -- a store is there where its device failed
 store_there : {S : Type 0} (n : Meaning S) (options : Options) (old new : Option (Store S)) (text : Text)
@@ -163,14 +163,14 @@ module _ {W S : Type 0} {m : Meaning W} {n : Meaning S} (laws : WriterLaws m) (o
             is_stop options number error none
                 (λ is. store_there n options now.reporter.store next.reporter.store _ follows.stands.store
                 (store_stops StoreIo is)),
-            call_stopped laws Report (last_next (report_of options run.config) before r.made _ text_is) _ _ _
-                whole.printed number error none promises.err.delivered
+            call_stopped (text_laws laws) Report (last_next (report_of options run.config) before r.made _ text_is) _ _
+                _ whole.printed number error none promises.err.delivered
                 (promises.err.stopped config past follows.stands),
-            call_stopped (store-laws others) Records (last_next (stored_of options) before r.made _ record_is) _ _ _
-                whole.kept number error none
+            call_stopped (text_laws (store-laws others)) Records
+                (last_next (stored_of options) before r.made _ record_is) _ _ _ whole.kept number error none
                 (λ is. subst (store_meaning n).is_delivered (sym (store_stops Io is)) whole.delivered.1) stops,
-            λ there. stand_here laws (store-laws others) calls before (r.made ∷ []) [] refl (omega arith)
-                (text config past call) (stored_text config.store call) (sym text_is) (sym record_is)
+            λ there. stand_here (text_laws laws) (text_laws (store-laws others)) calls before (r.made ∷ []) [] refl
+                (omega arith) (text config past call) (stored_text config.store call) (sym text_is) (sym record_is)
                 _ _ _ _ _ _ whole.printed whole.delivered.0 whole.kept whole.delivered.1 error none
                 (promises.err.stopped config past follows.stands) stops
                 (elim (promises.err.order config past follows.stands) [

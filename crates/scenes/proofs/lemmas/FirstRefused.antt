@@ -1,15 +1,16 @@
 -- The first refused call, where the sink of the lines takes no call after it (for `judge_text`, `report_to_string`).
-use Rattle.std.proofs.Common.{◌≡◌, ◌⊎◌, ℕ, ◌+◌, false, List, [], ◌∷◌, ◌++◌, Option, None, Some, Ok, Err, Result}
+use Rattle.std.proofs.Common.{◌≡◌, ◌⊎◌, ℕ, ◌+◌, ◌<◌, false, List, [], ◌∷◌, ◌++◌, Option, None, Some, Ok, Err, Result}
 use Rattle.std.proofs.Common.{length, refl, sym, ap, ◌∙◌, subst, append_assoc, append-nil, arith, inl, inr}
 use Rattle.{std.proofs.Math.Seq.get_or-append_seam, std.proofs.lemmas.Slice.Zip.AllZip-long}
+use Rattle.{std.proofs.lemmas.List.get_or_append_left}
 use Rattle.scene_follower.proofs.Common.{AllRead, AllZip, all_append, Fault, IsCallOf, length-append, Line, LineFault}
 use Rattle.scene_follower.proofs.Common.{line_value, lines_before, lines_with, nat_lt, nat_tests, no_lines, Options}
 use Rattle.scene_follower.proofs.Common.{OutOfMemory, ParsedLines, ReportCall, RunLine, SceneEvent, with_line}
 use Rattle.scene_follower.proofs.Common.{StaysConfigured}
-use Rattle.scene_reader.proofs.lemmas.Tellings.{all_told, noted_append}
+use Rattle.{scene_reader.proofs.lemmas.Tellings.noted_append}
 use Rattle.scene_reader.specs.Names.{call_by_names, event_lines, line_here, line_read, ParsedLine, PlacedOutput, Takes}
 use Rattle.scene_reader.specs.SceneTexts.{ConfigLine, EventLine, NoEvent}
-use Rattle.scenes.specs.Judged.{AreRefusedLines, IsRunAccepted, IsRunRefused, IsFirstRefused}
+use Rattle.scenes.specs.Judged.{IsRefusedLine, IsRunAccepted}
 use Rattle.scene_follower.specs.Reports.{Refuses, RefusesEvent}
 use Rattle.scene_follower.specs.Read.{AllTaken, IsGiven}
 use Rattle.scene_follower.proofs.lemmas.Refusals.{zip_both}
@@ -44,24 +45,6 @@ read_noted n before after [] h = rw h (omega arith)
 read_noted n before after (line ∷ lines) h = let one = with_noted n before h.0 (line_value (lines_before before) line)
     h.1 in grind (arith, read_noted (n + 1) h.0 after lines h.2)
 
--- if these are all the lines, its fault is the text's
-pub refused_lines : (options : Options) (all : List RunLine) (run : ParsedLines) (fault : Fault)
-    → AllRead no_lines all run → IsFirstRefused options all run fault → AreRefusedLines options all fault
-refused_lines options all run fault read h = record {
-  run = run;
-  spelled = all_told 1 no_lines all run read;
-  refused = subst (IsRunRefused options run (event_lines 1 no_lines all)) (sym h.is) (record {
-    front = h.front;
-    call = h.call;
-    rest = h.rest;
-    of_run = h.of_run;
-    accepted = h.accepted;
-    refused = h.refused;
-    number = sym
-        (rw (h.numbers, ← h.place) (get_or-append_seam h.earlier h.number h.later 0));
-  });
-}
-
 module _ (options : Options) (done : List RunLine) (run : ParsedLines) (read : AllRead no_lines done run)
     (line : RunLine) where
   -- what is noted for one more line
@@ -71,69 +54,49 @@ module _ (options : Options) (done : List RunLine) (run : ParsedLines) (read : A
   noted : event_lines 1 no_lines (done ++ line ∷ []) ≡ event_lines 1 no_lines done ++ event_lines next run (line ∷ [])
   noted = grind (arith, nat_tests, noted_append, no_lines)
 
-  -- one more line that has no event
-  later_none : (fault : Fault) → IsFirstRefused options done run fault
-      → IsFirstRefused options (done ++ line ∷ []) run fault
-  later_none fault h = record {
+  -- one more line, which may have an event
+  later : (n : ℕ) (f : LineFault) (h : IsRefusedLine options run (event_lines 1 no_lines done) n f)
+      (events : List SceneEvent) (rest : List ReportCall) → AllZip IsCallOf events (h.front ++ h.call ∷ rest)
+      → IsRefusedLine options (record run { events = events }) (event_lines 1 no_lines (done ++ line ∷ [])) n f
+  later n f h events rest of_run = record {
     front = h.front;
     call = h.call;
-    rest = h.rest;
-    of_run = h.of_run;
+    rest = rest;
+    of_run = of_run;
     accepted = h.accepted;
-    number = h.number;
-    f = h.f;
     refused = h.refused;
-    is = h.is;
-    earlier = h.earlier;
-    later = h.later ++ event_lines next run (line ∷ []);
-    numbers = noted ∙ ap (λ ns. ns ++ event_lines next run (line ∷ [])) h.numbers
-        ∙ append_assoc h.earlier (h.number ∷ h.later) (event_lines next run (line ∷ []));
-    place = h.place;
+    number =
+        let size = AllZip-long IsCallOf run.events (h.front ++ h.call ∷ h.rest) h.of_run in
+        let many = read_noted 1 no_lines run done read in
+        let inside : length h.front < length (event_lines 1 no_lines done) = omega
+        (arith, size, many, length-append h.front (h.call ∷ h.rest)) in
+        h.number ∙ sym (rw noted (get_or_append_left (event_lines 1 no_lines done) _ 0 (length h.front) inside));
   }
 
   module _ (e : SceneEvent) (call : ReportCall) (of_event : IsCallOf e call) where
-    -- or one that has an event
-    later_one : (fault : Fault) → IsFirstRefused options done run fault
-        → IsFirstRefused options (done ++ line ∷ []) (with_line run (EventLine e)) fault
-    later_one fault h = record {
-      front = h.front;
-      call = h.call;
-      rest = h.rest ++ call ∷ [];
-      of_run = subst (AllZip IsCallOf (run.events ++ e ∷ [])) (append_assoc h.front (h.call ∷ h.rest) (call ∷ []))
-          (zip_both run.events (e ∷ []) (h.front ++ h.call ∷ h.rest) (call ∷ []) h.of_run (of_event, tt));
-      accepted = h.accepted;
-      number = h.number;
-      f = h.f;
-      refused = h.refused;
-      is = h.is;
-      earlier = h.earlier;
-      later = h.later ++ event_lines next run (line ∷ []);
-      numbers = noted ∙ ap (λ ns. ns ++ event_lines next run (line ∷ [])) h.numbers
-          ∙ append_assoc h.earlier (h.number ∷ h.later) (event_lines next run (line ∷ []));
-      place = h.place;
-    }
+    later_one : (n : ℕ) (f : LineFault) → IsRefusedLine options run (event_lines 1 no_lines done) n f
+        → IsRefusedLine options (with_line run (EventLine e)) (event_lines 1 no_lines (done ++ line ∷ [])) n f
+    later_one n f h = later n f h _ (h.rest ++ call ∷ [])
+        (subst (AllZip IsCallOf (run.events ++ e ∷ [])) (append_assoc h.front (h.call ∷ h.rest) (call ∷ []))
+        (zip_both run.events (e ∷ []) (h.front ++ h.call ∷ h.rest) (call ∷ []) h.of_run (of_event, tt)))
 
     -- whose call is the first that is refused
     first_here : line_value (lines_before run) line ≡ Ok (EventLine e) → IsRunAccepted options run → (f : LineFault)
         → Refuses options run.config call f
-        → IsFirstRefused options (done ++ line ∷ []) (with_line run (EventLine e)) (Line next f)
+        → IsRefusedLine options (with_line run (EventLine e)) (event_lines 1 no_lines (done ++ line ∷ [])) next f
     first_here says accepted f refused = record {
       front = accepted.calls;
       call = call;
       rest = [];
       of_run = zip_both run.events (e ∷ []) accepted.calls (call ∷ []) accepted.of_run (of_event, tt);
       accepted = accepted.accepted;
-      number = next;
-      f = f;
       refused = refused;
-      is = refl;
-      earlier = event_lines 1 no_lines done;
-      later = [];
-      numbers = noted ∙ ap (λ ns. event_lines 1 no_lines done ++ ns) (event_noted next run line e says);
-      place =
-          let many = AllZip-long IsCallOf run.events accepted.calls accepted.of_run in
-          let noted = read_noted 1 no_lines run done read in
-          omega (arith, noted);
+      number =
+          let size = AllZip-long IsCallOf run.events accepted.calls accepted.of_run in
+          let many = read_noted 1 no_lines run done read in
+          let place : length accepted.calls ≡ length (event_lines 1 no_lines done) = omega (arith, size, many) in
+          sym (rw (noted, event_noted next run line e says, place)
+          (get_or-append_seam (event_lines 1 no_lines done) next [] 0));
     }
 
 -- A sink that takes calls until one is refused, and then holds the fault of that call's line.
@@ -155,12 +118,14 @@ module _ {K : Type 0} {takes : Takes K} {file : List ℕ} {refused : K → Optio
   -- what it holds after these lines, which make up this run
   abbrev pub Judged : List RunLine → ParsedLines → K → Type 0
   Judged lines run k = ((refused k ≡ None) × Good run k)
-      ⊎ ((fault : Fault) × (refused k ≡ Some fault) × IsFirstRefused options lines run fault)
+      ⊎ ((n : ℕ) × (f : LineFault) × (refused k ≡ Some (Line n f))
+      × IsRefusedLine options run (event_lines 1 no_lines lines) n f)
 
   judged_none : (done : List RunLine) (run : ParsedLines) → AllRead no_lines done run → (line : RunLine) (k next : K)
       → next ≡ k → Judged done run k → Judged (done ++ line ∷ []) run next
   judged_none done run read line k next same (inl good) = rw same (inl good)
-  judged_none done run read line k next same (inr (fault, is, first)) = search (arith, later_none)
+  judged_none done run read line k next same (inr (n, f, is, h)) =
+      inr (n, f, ap refused same ∙ is, later options done run read line n f h run.events h.rest h.of_run)
 
   judged_event : (done : List RunLine) (run : ParsedLines) → AllRead no_lines done run → (line : RunLine)
       (e : SceneEvent) → line_value (lines_before run) line ≡ Ok (EventLine e) → (k next : K)
@@ -171,16 +136,18 @@ module _ {K : Type 0} {takes : Takes K} {file : List ℕ} {refused : K → Optio
         | inl (still, goes_on) ↦ grind arith
         | inr (f, holds, refuses) ↦
             inr (
-              Line (1 + length done) f,
+              1 + length done,
+              f,
               holds,
               first_here options done run read line e refuses.call (refuses.of_event ∙ is) says
                   (judge.accepts run k good) f refuses.refused,
             )
       ]
-  judged_event done run read line e says k next (stored, (call, is, taken)) (inr (fault, holds, first)) = inr (
-    fault,
-    grind arith,
-    later_one options done run read line e call is fault first,
+  judged_event done run read line e says k next (stored, (call, is, taken)) (inr (n, f, holds, h)) = inr (
+    n,
+    f,
+    judge.stays (1 + length done) k next stored call (Line n f) holds taken,
+    later_one options done run read line e call is n f h,
   )
 
   judged_one : (done : List RunLine) (run : ParsedLines) → AllRead no_lines done run → (line : RunLine)

@@ -2,58 +2,44 @@
 use Rattle.std.proofs.Common.{◌≡◌, ◌⊎◌, ℕ, ◌+◌, List, [], ◌∷◌, ◌++◌, Option, None, Some, Result, Ok, Err, length, refl}
 use Rattle.std.proofs.Common.{sym, ap, ◌∙◌, subst, arith, inl, inr, IfErr, OnOk, String, string_bytes}
 use Rattle.{std.specs.declared.alloc.Global.Global}
-use Rattle.scene_follower.proofs.Common.{AllRead, all_append, AtLine, Begins, Fault, is_some}
-use Rattle.scene_follower.proofs.Common.{IsUnread, Line, LineFault, line_value, lines_before, Meaning, no_lines}
+use Rattle.scene_follower.proofs.Common.{all_append, AtLine, Begins, Fault, is_some}
+use Rattle.scene_follower.proofs.Common.{Line, LineFault, Meaning, no_lines}
 use Rattle.scene_follower.proofs.Common.{Options, OutOfMemory, ParsedLines, ReportCall, RunLine, SceneEvent}
 use Rattle.scene_follower.proofs.Common.{StopsAtEvent, store_for, store_meaning, string_meaning, Text}
 use Rattle.scene_follower.specs.declared.scene_reporter.SceneReporter.{SceneReporter}
 use Rattle.scene_follower.proofs.Common.{Prints, TextBuffer, WriteFailed, writers, decider_for, refusal_by}
 use Rattle.scene_follower.proofs.Common.{SceneConfig, StaysConfigured, device}
-use Rattle.{command_line.specs.declared.fault.Fault.TheVariants.CannotRead}
-use Rattle.scene_reader.proofs.lemmas.Tellings.{all_told, wrong_told}
-use Rattle.scene_reader.specs.Names.{call_by_names, line_read, lines_read, PlacedOutput, Takes}
-use Rattle.scenes.specs.Judged.{IsRefusal, IsRunAccepted, JudgesCall, IsFirstRefused}
+use Rattle.scene_reader.proofs.lemmas.Tellings.{all_told}
+use Rattle.scene_reader.specs.Names.{call_by_names, event_lines, lines_read, PlacedOutput, Takes}
+use Rattle.scenes.specs.Judged.{IsRefusal, IsRefusedLine, IsRunAccepted, JudgesCall}
 use Rattle.scene_follower.specs.Reports.{RefusesEvent}
 use Rattle.scenes.specs.declared.judge.{Judge.Judge}
 use Rattle.scene_follower.proofs.lemmas.Refusals.{none_more, refused_or, zip_both}
 use Rattle.scene_follower.specs.ParsedScenes.{OfLines}
 use Rattle.scene_follower.specs.Prints.{IsStop}
-use Rattle.scene_follower.specs.Read.{AllTaken, HasConfigured, IsBegin, StopsConfiguring, StopsRead, StopsTaking}
+use Rattle.scene_follower.specs.Read.{AllTaken, HasConfigured, IsBegin, StopsTaking}
 use Rattle.scene_follower.specs.Read.{PassesAll}
 use Rattle.scene_reader.specs.declared.reader.LinesRead.{LinesRead}
 use Rattle.scenes.specs.Gathered.{GathersCall, HoldsFault, IsNoLine, HasFollowed, Texts}
 use Rattle.scene_follower.specs.SceneReporter.{ReportsCall}
 use Rattle.scenes.specs.declared.gathering.Gathering.{Gathering}
 use Rattle.scene_follower.proofs.lemmas.Configured.{stays_behind, stays_front}
-use Rattle.scenes.proofs.lemmas.FirstRefused.{IsJudge, Judged, judged, refused_lines}
+use Rattle.scenes.proofs.lemmas.FirstRefused.{IsJudge, Judged, judged}
+use Rattle.scenes.proofs.lemmas.SceneCalls.{IsReadStop, taking_stops}
 use Rattle.scene_follower.proofs.lemmas.Devices.{alone_begun, alone_whole, begun_here}
 use Rattle.scene_follower.proofs.lemmas.Prints.{calls_so}
-use Rattle.scene_follower.proofs.lemmas.ReadLines.{at_behind}
 use Rattle.scene_follower.proofs.lemmas.Taken.{taken_read}
 use Rattle.styled_text.specs.Names.{Appends, AppendsFront, BufferStops, WriteFault}
 
--- a fault that stopped the reading of lines is theirs
-pub unread_judged : (options : Options) (all : List RunLine) (fault : Fault) → IsUnread options.file.now fault
+-- what stops the reading of lines is theirs
+pub read_refusal : (options : Options) (all : List RunLine) (fault : Fault) → IsReadStop options.file.now all fault
     → IsRefusal options all fault
-unread_judged options all (CannotRead name) h = (inl tt, h)
-unread_judged options all OutOfMemory h = (inl tt, tt)
-unread_judged options all other h = absurd h
+read_refusal options all fault h = (inl h.0, h.1)
 
-module _ (options : Options) (all : List RunLine) (run : ParsedLines) where
-  wrong_judged : (line : RunLine) (more : List RunLine) (number : ℕ) → AtLine all run (line ∷ more) number
-      → (f : LineFault) → line_value (lines_before run) line ≡ Err f → IsRefusal options all (Line number f)
-  unfolding line_read
-  wrong_judged line more number at f bad = grind (arith, no_lines, wrong_told)
-
-  pub read_judged : (lines : List RunLine) (number : ℕ) → AtLine all run lines number → (fault : Fault)
-      → StopsRead options.file.now run number lines fault → IsRefusal options all fault
-  read_judged lines number at fault (inl unread) = unread_judged options all fault unread
-  read_judged lines number at fault (inr (line, more, f, is, says, told)) = rw told
-      (wrong_judged line more number (grind arith) f says)
-
-pub unconfigured_judged : (options : Options) (all : List RunLine) (fault : Fault)
-    → StopsConfiguring options.file.now all fault → IsRefusal options all fault
-unconfigured_judged options all fault s = search read_judged
+-- a judge accepts the run of these lines, or holds the fault of the first refused call
+abbrev pub IsJudged : Options → List RunLine → (ParsedLines → Type 0) → Option Fault → Type 0
+IsJudged options all Good refused = ((refused ≡ None) × OfLines all Good)
+    ⊎ ((fault : Fault) × (refused ≡ Some fault) × IsRefusal options all fault)
 
 -- lines after others that a judge took
 module _ {K : Type 0} {takes : Takes K} {refused : K → Option Fault} {options : Options}
@@ -63,24 +49,26 @@ module _ {K : Type 0} {takes : Takes K} {refused : K → Option Fault} {options 
   place : number ≡ 1 + length at.front
   place = omega (arith, at.place)
 
-  -- it took them all: it accepts their run, or holds the fault of the first refused call
+  -- it took them all
   pub all_judged : (last : ParsedLines) (after : K) → AllTaken takes options.file.now number run k lines last after
-      → ((refused after ≡ None) × OfLines all (λ r. Good r after))
-      ⊎ ((fault : Fault) × (refused after ≡ Some fault) × IsRefusal options all fault)
+      → IsJudged options all (λ r. Good r after) (refused after)
   all_judged last after taken = let read = all_append no_lines at.front run lines last at.tells
       (taken_read takes options.file.now number run last k after lines taken) in
       let spelled = ap (lines_read 1 no_lines) at.whole ∙ all_told 1 no_lines (at.front ++ lines) last read in
       elim (judged judge at.front lines run last number k after place at.tells stays taken start) [
         | inl (accepted, goes_on) ↦ grind arith
-        | inr (fault, is, first) ↦
+        | inr (n, f, is, first) ↦
             inr (
-              fault,
+              Line n f,
               is,
               (
-                inr (refused_lines options all last fault
-                    (subst (λ ls. AllRead no_lines ls last) (sym at.whole) read)
-                    (subst (λ ls. IsFirstRefused options ls last fault) (sym at.whole) first)),
-                rw first.is tt,
+                inr (record {
+                  run = last;
+                  spelled = spelled;
+                  refused = subst (λ ls. IsRefusedLine options last (event_lines 1 no_lines ls) n f) (sym at.whole)
+                      first;
+                }),
+                tt,
               ),
             )
       ]
@@ -88,19 +76,12 @@ module _ {K : Type 0} {takes : Takes K} {refused : K → Option Fault} {options 
   -- or a fault stopped them
   pub stop_judged : (fault : Fault) (after : K) → StopsTaking takes options.file.now number run lines k fault after
       → IsRefusal options all fault
-  stop_judged fault after s = let read = taken_read takes options.file.now number run s.mid_run k s.mid s.front s.taken
-      in
-      let here = at_behind all run s.front s.rest number s.mid_run
-      (subst (λ ls. AtLine all run ls number) s.whole at) read in
+  stop_judged fault after s =
       let so_far = judged judge at.front s.front run s.mid_run number k s.mid place at.tells
       (stays_front run s.front s.rest (subst (StaysConfigured run) s.whole stays)) s.taken start in
-      elim s.stops [
-        | inl (same, stops) ↦
-            read_judged options all s.mid_run s.rest (number + length s.front) here fault stops
-        | inr (line, more, e, is, says, (stored, (call, told, taken))) ↦
-            rw (judge.stops (number + length s.front) s.mid_run s.mid after stored call fault (grind arith) taken)
-            (inl tt, tt)
-      ]
+      read_refusal options all fault (taking_stops options.file.now all run lines number at s
+      (λ stored call taken.
+      judge.stops (number + length s.front) s.mid_run s.mid after stored call fault (grind arith) taken))
 
 no_stop : (options : Options) (number : ℕ) (f : LineFault) → IsStop options (Line number f) → ⊥
 no_stop options number f (inl is) = cc
@@ -181,14 +162,9 @@ lost_here contents a b empty t e lost = begun_here contents a b empty (Unit {0})
 module _ (options : Options) (off : store_for options ≡ None) (all : List RunLine) (text : Text)
     (h : OfLines all (Prints device device options (Some [], None) (Some text, None)))
     (before after held : Option (List ℕ)) where
-  whole_printed : Appends before after text
+  pub whole_printed : Appends before after text
       → OfLines all (Prints device device options (before, held) (after, held))
   whole_printed appends = grind (arith, calls_so, alone_whole)
-
-  pub delivered_printed : (r : Result (Unit {0}) Fault) → OnOk r (Appends before after text)
-      → OnOk r (OfLines all (Prints device device options (before, held) (after, held)))
-  delivered_printed (Ok done) appends = whole_printed appends
-  delivered_printed (Err fault) h = tt
 
   pub front_printed : (fault : Fault) → ((fault ≡ WriteFailed) ⊎ (fault ≡ OutOfMemory)) × AppendsFront before after text
       → OfLines all (λ run. Begins device device options (before, held) (after, held) run fault)
@@ -209,9 +185,7 @@ pub passed_judged : {K : Type 0} {takes : Takes K} {refused : K → Option Fault
     → refused given ≡ None → Good h.run given → (Done : ParsedLines → List RunLine → Type 0)
     (result : Result (Unit {0}) Fault)
     → PassesAll takes options.file.now Done read.next h.run h.lines given result after
-    → OnOk result (((refused after ≡ None) × OfLines all (λ r. Good r after))
-    ⊎ ((fault : Fault) × (refused after ≡ Some fault) × IsRefusal options all fault))
-    × IfErr result (IsRefusal options all)
+    → OnOk result (IsJudged options all (λ r. Good r after) (refused after)) × IfErr result (IsRefusal options all)
 passed_judged judge all Left read h given after none good Done (Ok done) p = (
   all_judged judge all h.run h.lines read.next h.at (stays_behind h.run h.lines h.left.1) given (inl (none, good))
       p.ok.0 after p.ok.1,
@@ -274,13 +248,13 @@ held_so m n old mid new number stored call result none (Line k f) reports held =
 held_so m n old mid new number stored call result none other reports held = rw (held.0, held.1)
     (inl (reports, none, tt))
 
--- a report that was gathered whole has no refused call; otherwise the fault is held
-pub whole_so : {A : Type 0} {B : Fault → Type 0} (refused : Option Fault) → refused ≡ None
-    → ((refused ≡ None) × A) ⊎ ((fault : Fault) × (refused ≡ Some fault) × B fault) → A
-whole_so refused is (inl h) = h.1
-whole_so refused is (inr (fault, some, b)) = cc
+-- lines that were accepted have no refused call; otherwise its fault is held
+module _ {options : Options} {all : List RunLine} {Good : ParsedLines → Type 0} (refused : Option Fault) where
+  pub whole_so : refused ≡ None → IsJudged options all Good refused → OfLines all Good
+  whole_so is (inl h) = h.1
+  whole_so is (inr (fault, some, b)) = cc
 
-pub refused_held : {A : Type 0} {B : Fault → Type 0} (refused : Option Fault) (fault : Fault) → refused ≡ Some fault
-    → ((refused ≡ None) × A) ⊎ ((fault : Fault) × (refused ≡ Some fault) × B fault) → B fault
-refused_held refused fault is (inl h) = cc
-refused_held {A} {B} refused fault is (inr (other, some, b)) = grind arith
+  pub refused_held : (fault : Fault) → refused ≡ Some fault → IsJudged options all Good refused
+      → IsRefusal options all fault
+  refused_held fault is (inl h) = cc
+  refused_held fault is (inr (other, some, b)) = grind arith

@@ -2,31 +2,25 @@
 -- stored if nothing was printed.
 use Rattle.std.proofs.Common.{arith}
 use Rattle.std.proofs.Common.{◌≡◌, ◌⊎◌, inl, inr, ℕ, List, Option, None, Some, Result, subst, sym, []}
-use Rattle.std.proofs.Common.{◌∷◌, ◌++◌}
+use Rattle.std.proofs.Common.{◌++◌}
 use Rattle.styled_text.specs.Names.{Bor, Meaning}
 use Rattle.scene_reader.specs.Names.{ParsedLines, RunLine}
 use Rattle.scene_follower.specs.Names.{Begins, Fault, IsJudgeFault, IsStop, IsUnread, OfText, Options, Prints}
 use Rattle.scene_follower.specs.Names.{StopsBy}
 use Rattle.scene_follower.specs.Prints.{device}
 use Rattle.scenes.specs.Names.{IsFaultOfText, IsNotCreated, IsRunAccepted, SceneFails}
-use Rattle.scenes.proofs.lemmas.Accepted.{none_refused}
+use Rattle.scenes.proofs.lemmas.Accepted.{none_left, none_refused}
 use Rattle.scene_follower.specs.Follow.{IsWrongLine}
 use Rattle.scene_follower.specs.Read.{AtLine}
-use Rattle.command_line.specs.declared.fault.Fault.TheVariants.{CannotRead, CannotWrite, Line, OutOfMemory}
-use Rattle.command_line.specs.declared.fault.Fault.TheVariants.{StoreFailed, Usage, WriteFailed}
+use Rattle.command_line.specs.declared.fault.Fault.TheVariants.{Line}
 use Rattle.scene_follower.proofs.Common.{device, HasAtLeast, HasAtMost, ReportCall, StandAtOneCall, Text}
 
 module _ (options : Options) (text : List ℕ) (accepted : OfText text (IsRunAccepted options)) where
   judged_stop : (fault : Fault) → IsJudgeFault options.file.now fault → IsFaultOfText options text fault
       → IsUnread options.file.now fault ⊎ IsStop options fault
-  judged_stop Usage of_judge judged = inl of_judge
-  judged_stop (CannotRead file) of_judge judged = inl of_judge
-  judged_stop (CannotWrite file) of_judge judged = inl of_judge
   judged_stop (Line n f) of_judge (inl h) = cc
   judged_stop (Line n f) of_judge (inr h) = search none_refused
-  judged_stop WriteFailed of_judge judged = inl of_judge
-  judged_stop StoreFailed of_judge judged = inl of_judge
-  judged_stop OutOfMemory of_judge judged = inl of_judge
+  judged_stop other of_judge judged = inl of_judge
 
 pub scene_stop : {W S : Type 0} (contents : W → Option (List ℕ)) (stored : S → Option (List ℕ))
     (created : Bor (List ℕ) → Result S Fault → Type 0) (options : Options) (text : List ℕ) (old : W)
@@ -38,34 +32,19 @@ scene_stop contents stored created options text old new fault (inl rejected) acc
 scene_stop contents stored created options text old new fault (inr (inl failed)) accepted = inr (inr failed)
 scene_stop contents stored created options text old new fault (inr (inr begun)) accepted = grind arith
 
-module _ {X Y : Type 0} (m : Meaning X) (k : Meaning Y) (options : Options) (start end : X × Y) where
-  abbrev Reaches : ParsedLines → List RunLine → ℕ → Fault → Type 0
-  Reaches run lines number fault = (Prints m k options start end run
-      × (IsWrongLine options run lines number fault
-      ⊎ ((file : Bor (List ℕ)) × (fault ≡ CannotRead file) × (file.now ≡ options.file.now))))
-      ⊎ Begins m k options start end run fault
-
-  reached_stop : (run : ParsedLines) (lines : List RunLine) (number : ℕ) (fault : Fault)
-      → (IsWrongLine options run lines number fault → ⊥) → Reaches run lines number fault
-      → IsUnread options.file.now fault ⊎ IsStop options fault
-  reached_stop run lines number fault none (inl (printed, inl wrong)) = absurd (none wrong)
-  reached_stop run lines number fault none (inl (printed, inr (file, is, names))) =
-      inl (subst (IsUnread options.file.now) (sym is) names)
-  reached_stop run lines number fault none (inr begun) = inr begun.holds.0
-
-  pub lines_stop : (all : List RunLine) (fault : Fault)
-      → StopsBy options all (Prints m k options start end) (Begins m k options start end) fault
-      → ((run : ParsedLines) (lines : List RunLine) (number : ℕ) (wrong : Fault) → AtLine all run lines number
-      → IsWrongLine options run lines number wrong → ⊥)
-      → IsUnread options.file.now fault ⊎ IsStop options fault
-  lines_stop all fault stops none = reached_stop stops.run stops.lines stops.number fault (search)
-      stops.holds
+pub lines_stop : {X Y : Type 0} (m : Meaning X) (k : Meaning Y) (options : Options) (start end : X × Y)
+    (all : List RunLine) (fault : Fault)
+    → StopsBy options all (Prints m k options start end) (Begins m k options start end) fault
+    → ((run : ParsedLines) (lines : List RunLine) (number : ℕ) (wrong : Fault) → AtLine all run lines number
+    → IsWrongLine options run lines number wrong → ⊥)
+    → IsUnread options.file.now fault ⊎ IsStop options fault
+lines_stop m k options start end all fault stops none = elim stops.holds [
+  | inl (printed, inl wrong) ↦ absurd (none stops.run stops.lines stops.number fault stops.at wrong)
+  | inl (printed, inr (file, is, names)) ↦ inl (subst (IsUnread options.file.now) (sym is) names)
+  | inr begun ↦ inr begun.holds.0
+]
 
 -- If nothing was printed, and calls without a text have no record, nothing was stored.
-none_left : (xs ys : List ℕ) → [] ≡ xs ++ ys → xs ≡ []
-none_left [] ys is = cc
-none_left (x ∷ xs) ys is = absurd (cc)
-
 -- a device that holds nothing received no text
 least_none : (t : Text) → HasAtLeast device (Some []) t (Some []) → t ≡ []
 least_none t h = grind (arith, none_left)

@@ -11,7 +11,8 @@ use Rattle.scene_fields.specs.declared.fault.LineError.TheVariants as error
 use Rattle.scene_reader.proofs.lemmas.Tellings.{all_tell, all_told, noted_append, wrong_told}
 use Rattle.scene_reader.specs.declared.reader.LinesRead.{LinesRead}
 use Rattle.scene_reader.specs.Names.{call_by_names, event_lines, IsReadAgain, line_here, line_read, LinesBefore}
-use Rattle.scene_reader.specs.Names.{parsed_line, ParsedLine, plain_line, Takes}
+use Rattle.scene_reader.specs.Names.{parsed_line, ParsedLine, plain_line, PlacedOutput, Takes}
+use Rattle.{std.proofs.lemmas.List.nil_from_length}
 use Rattle.scene_reader.specs.SceneTexts.{ConfigLine, EventLine, NoEvent}
 use Rattle.scenes.specs.declared.scene.Events.{Events}
 use Rattle.scenes.specs.Judged.{IsFaultOfLines}
@@ -48,13 +49,9 @@ all_noted file n run last given after (line ∷ lines) h = rw h.2
     (event_lines (n + 1) (with_line run h.0) lines))
 
 -- lines without an event note none
-none_of_length : (ns : List ℕ) → length ns ≡ 0 → ns ≡ []
-none_of_length [] h = refl
-none_of_length (n ∷ ns) h = absurd (omega (arith, h))
-
 none_noted : (run : ParsedLines) (front : List RunLine) → AllRead no_lines front run → run.events ≡ []
     → event_lines 1 no_lines front ≡ []
-none_noted run front tells none = none_of_length (event_lines 1 no_lines front)
+none_noted run front tells none = nil_from_length (event_lines 1 no_lines front)
     (omega (arith, read_noted 1 no_lines run front tells, ap length none))
 
 -- lines that leave the configuration unchanged
@@ -70,7 +67,7 @@ abbrev pub IsReadStop : List ℕ → List RunLine → Fault → Type 0
 IsReadStop file all fault = IsFaultOfLines all fault × IsJudgeFault file fault
 
 module _ (file : List ℕ) (all : List RunLine) where
-  unread_stops : (fault : Fault) → IsUnread file fault → IsReadStop file all fault
+  pub unread_stops : (fault : Fault) → IsUnread file fault → IsReadStop file all fault
   unread_stops (CannotRead name) h = (tt, h)
   unread_stops OutOfMemory h = (tt, tt)
   unread_stops other h = absurd h
@@ -81,8 +78,8 @@ module _ (file : List ℕ) (all : List RunLine) where
   unfolding line_read
   wrong_stops run line more number at f bad = search (arith, no_lines, wrong_told)
 
-  read_stops : (run : ParsedLines) (lines : List RunLine) (number : ℕ) → AtLine all run lines number → (fault : Fault)
-      → StopsRead file run number lines fault → IsReadStop file all fault
+  pub read_stops : (run : ParsedLines) (lines : List RunLine) (number : ℕ) → AtLine all run lines number
+      → (fault : Fault) → StopsRead file run number lines fault → IsReadStop file all fault
   read_stops run lines number at fault (inl unread) = unread_stops fault unread
   read_stops run lines number at fault (inr (line, more, f, is, says, told)) = rw told
       (wrong_stops run line more number (grind arith) f says)
@@ -90,19 +87,21 @@ module _ (file : List ℕ) (all : List RunLine) where
   pub unconfigured_stops : (fault : Fault) → StopsConfiguring file all fault → IsReadStop file all fault
   unconfigured_stops fault s = read_stops s.run s.lines s.number s.at fault s.stops
 
-  module _ (read : LinesRead) {Left : ParsedLines → List RunLine → Type 0} (h : HasConfigured all Left read)
-      (given after : Events) where
-    pub unnoted_stops : (fault : Fault) → StopsTaking notes file read.next h.run h.lines given fault after
-        → IsReadStop file all fault
-    unnoted_stops fault s = elim s.stops [
-      | inl (same, stops) ↦
-          read_stops s.mid_run s.rest (read.next + length s.front)
-          (at_behind all h.run s.front s.rest read.next s.mid_run
-          (grind arith)
-          (taken_read notes file read.next h.run s.mid_run given s.mid s.front s.taken))
-          fault stops
-      | inr (line, more, e, is, says, (stored, (call, told, taken))) ↦ rw taken.err (tt, tt)
-    ]
+  -- or they were read, and refused memory stopped a sink
+  pub taking_stops : {K : Type 0} {takes : Takes K} (run : ParsedLines) (lines : List RunLine) (number : ℕ)
+      → AtLine all run lines number → {given after : K} {fault : Fault}
+      (s : StopsTaking takes file number run lines given fault after)
+      → ((stored : List PlacedOutput) (call : ReportCall)
+      → takes s.mid file (number + length s.front) stored call (Err fault) after → fault ≡ OutOfMemory)
+      → IsReadStop file all fault
+  taking_stops {takes = takes} run lines number at {given = given} {fault = fault} s memory = elim s.stops [
+    | inl (same, stops) ↦
+        read_stops s.mid_run s.rest (number + length s.front)
+        (at_behind all run s.front s.rest number s.mid_run (grind arith)
+        (taken_read takes file number run s.mid_run given s.mid s.front s.taken))
+        fault stops
+    | inr (line, more, e, is, says, (stored, (call, told, taken))) ↦ rw (memory stored call taken) (tt, tt)
+  ]
 
 -- the text of lines that were all read, and those of its events noted
 pub of_text : (file text : List ℕ) (read : LinesRead) {Left : ParsedLines → List RunLine → Type 0}
@@ -123,12 +122,12 @@ of_text file text read h given after last none taken = search (
 )
 
 -- lines after others are read as they are alone
-read_behind : (before mid after : ParsedLines) (front lines : List RunLine) → AllRead before (front ++ lines) after
+pub read_behind : (before mid after : ParsedLines) (front lines : List RunLine) → AllRead before (front ++ lines) after
     → AllRead before front mid → AllRead mid lines after
 unfolding line_read
 read_behind before mid after [] lines h k = grind arith
-read_behind before mid after (line ∷ front) lines h k = let both : Ok h.0 ≡ Ok k.0 = sym h.1 ∙ k.1 in
-    let same : h.0 ≡ k.0 = cc in
+read_behind before mid after (line ∷ front) lines h k =
+    let same : h.0 ≡ k.0 = cc (h.1, k.1) in
     read_behind k.0 mid after front lines (grind arith) k.2
 
 -- the calls of the events of lines that were read again; these are left

@@ -1,5 +1,5 @@
 -- The report of a scene that was read is the report of its text (for `write_report`).
-use Rattle.std.proofs.Common.{◌≡◌, ℕ, List, Option, Result, Ok, Err, sym, ◌∙◌, inl, inr, OnOk}
+use Rattle.std.proofs.Common.{◌≡◌, ℕ, List, Option, Ok, Err, sym, ◌∙◌, inl, inr}
 use Rattle.command_line.specs.declared.fault.Fault.TheVariants.{CannotRead, CannotWrite, Line, OutOfMemory}
 use Rattle.scene_reader.specs.Names.{ParsedLines}
 use Rattle.scene_follower.specs.Names.{Fault, OfText, Options}
@@ -24,8 +24,3 @@ module _ {W S : Type 0} (held : W → Option (List ℕ)) (stored : S → Option 
   pub at_last : OfText text (P (held new.0) (stored new.1))
       → OfText text (λ run. (last : W) × (store_last : S) × P (held last) (stored store_last) run)
   at_last h = record { run = h.run; spelled = h.spelled; holds = (new.0, new.1, h.holds) }
-
-  pub whole_at_last : (r : Result (Unit {0}) Fault) → OnOk r (OfText text (P (held new.0) (stored new.1)))
-      → OnOk r (OfText text (λ run. (last : W) × (store_last : S) × P (held last) (stored store_last) run))
-  whole_at_last (Ok done) h = at_last h
-  whole_at_last (Err fault) h = tt

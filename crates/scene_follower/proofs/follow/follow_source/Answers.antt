@@ -1,10 +1,10 @@
 use Rattle.std.proofs.Common.{◌∙◌, ℕ, List, [], Some, ap, refl, rules, subst}
-use Rattle.scene_follower.proofs.Common.{Appends-nil, buffer_meaning, device, Followed, no_lines, OutOfMemory, RunLine}
+use Rattle.scene_follower.proofs.Common.{buffer_meaning, device, Followed, no_lines, OutOfMemory, RunLine}
 use Rattle.scene_follower.proofs.Common.{IsSameStore, store_meaning}
 use Rattle.scene_follower.proofs.lemmas.Devices.{alone_begun, alone_whole, begun_here, both_begun, both_whole}
 use Rattle.scene_follower.proofs.lemmas.Devices.{same_there, whole_here}
 use Rattle.scene_follower.proofs.lemmas.FollowedRuns.{followed_so, nothing_stops}
-use Rattle.scene_follower.proofs.lemmas.Prints.{calls_so, moved}
+use Rattle.scene_follower.proofs.lemmas.Prints.{calls_so, device_laws, moved}
 use Rattle.scene_follower.proofs.follow.follow_source.Goals.{After-into_inner-writer, After-into_inner-store_writer}
 use Rattle.scene_follower.proofs.follow.follow_source.Goals.{in-Some, in_default}
 use Rattle.scene_follower.proofs.follow.follow_source.Given as given
@@ -83,7 +83,7 @@ both g c total all known =
 pub returns-in-Err-clause-err : goal.returns-in-Err-clause-err
 returns-in-Err-clause-err g c = λ total all known.
     rw (ap (λ x. x.0) c.in-Err.ensures.err, ap (λ x. x.1) c.in-Err.ensures.err)
-    (nothing_stops device device c.args.options.now all _ (Appends-nil _) (Appends-nil _) tt tt _ OutOfMemory refl)
+    (nothing_stops device_laws device_laws c.args.options.now all _ tt tt OutOfMemory refl)
 
 pub returns-in-Unused : goal.returns-in-Unused
 returns-in-Unused g c =

@@ -1,5 +1,6 @@
 use Rattle.std.proofs.Common.{[], ◌∙◌, ap, subst, sym}
-use Rattle.scene_follower.proofs.Common.{IsSameStore, store-laws, store_meaning}
+use Rattle.scene_follower.proofs.Common.{IsSameStore, store-laws}
+use Rattle.scene_follower.{proofs.lemmas.Prints.text_laws}
 use Rattle.scene_follower.proofs.lemmas.FollowedRuns.{nothing_stops, passed_followed, passed_same, unconfigured_stops}
 use Rattle.scene_follower.proofs.follow.follow_to.Goals as goal
 
@@ -7,9 +8,8 @@ pub returns-in-Err-clause-ends : goal.returns-in-Err-clause-ends
 returns-in-Err-clause-ends g c = λ total all known. (
   tt,
   tt,
-  unconfigured_stops g.W.WriteStr.meaning (store_meaning g.S.WriteStr.meaning) c.args.options.now all
-      (c.args.writer.now, c.args.store) (g.met.W.WriteStr.laws.nothing _)
-      ((store-laws g.met.S.WriteStr.laws).nothing _) c.requires.delivered c.requires.store_delivered c.in-Err.fault
+  unconfigured_stops (text_laws g.met.W.WriteStr.laws) (text_laws (store-laws g.met.S.WriteStr.laws)) c.args.options.now
+      all (c.args.writer.now, c.args.store) c.requires.delivered c.requires.store_delivered c.in-Err.fault
       (c.in-Err.ensures total all known),
 )
 
@@ -17,9 +17,8 @@ pub returns-in-Err-builder_of-clause-ends : goal.returns-in-Err-builder_of-claus
 returns-in-Err-builder_of-clause-ends g c = λ total all known. (
   tt,
   tt,
-  nothing_stops g.W.WriteStr.meaning (store_meaning g.S.WriteStr.meaning) c.args.options.now all
-      (c.args.writer.now, c.args.store) (g.met.W.WriteStr.laws.nothing _)
-      ((store-laws g.met.S.WriteStr.laws).nothing _) c.requires.delivered c.requires.store_delivered _
+  nothing_stops (text_laws g.met.W.WriteStr.laws) (text_laws (store-laws g.met.S.WriteStr.laws)) c.args.options.now all
+      (c.args.writer.now, c.args.store) c.requires.delivered c.requires.store_delivered
       c.in-Err-builder_of.fault c.in-Err-builder_of.ensures.err,
 )
 

@@ -1,4 +1,4 @@
-use Rattle.std.proofs.Common.{[], ◌≡◌, ◌∷◌, ◌∙◌, ℕ, List, ap, arith, drop, false, refl, rules, subst, sym, true}
+use Rattle.std.proofs.Common.{[], ◌≡◌, ◌∷◌, ◌∙◌, ℕ, List, ap, arith, drop, false, inl, refl, rules, subst, sym, true}
 use Rattle.scene_follower.proofs.Common.{false≢true}
 use Rattle.scene_fields.proofs.lemmas.Cuts.{rest_is}
 use Rattle.scene_reader.specs.Names.{pieces_left, RunLine, split_on}
@@ -93,5 +93,5 @@ pub returns-clause-left : goal.returns-clause-left
 returns-clause-left g c = λ total all known. record {
   ok = tt;
   err = unread_configured c.args.file.now all _ c.loop-turn.read (c.loop-turn.invariant.configured total all known) _
-      refl;
+      (inl refl);
 }

@@ -1,20 +1,17 @@
-use Rattle.std.proofs.Common.{◌≡◌, ◌⊎◌, ◌∙◌, ap, IfErr, None, OnOk, Some}
-use Rattle.scene_follower.proofs.Common.{decider_for, Fault, text_lines}
-use Rattle.scene_follower.specs.Names.{OfText}
+use Rattle.std.proofs.Common.{◌≡◌, ◌∙◌, ap, IfErr, OnOk}
+use Rattle.scene_follower.proofs.Common.{decider_for, text_lines}
 use Rattle.{scene_follower.proofs.lemmas.ReadLines.whole_left}
 use Rattle.scenes.specs.Names.{IsRefusal, IsRunAccepted}
-use Rattle.scenes.proofs.lemmas.Gathered.{judge_begins, judges, passed_judged, refused_held, unconfigured_judged}
-use Rattle.scenes.proofs.lemmas.Gathered.{whole_so}
+use Rattle.scenes.proofs.lemmas.Gathered.{IsJudged, judge_begins, judges, passed_judged, read_refusal, refused_held}
+use Rattle.scenes.proofs.lemmas.{Gathered.whole_so, SceneCalls.unconfigured_stops}
 use Rattle.scenes.proofs.report.judge_text.Goals.{After-pass_to}
 use Rattle.scenes.proofs.report.judge_text.Goals as goal
 
 -- all lines were judged, or a fault stopped them
 ended : (c : After-pass_to)
-    → OnOk c.pass_to.result (((c.pass_to.new.sink.refused ≡ None)
-    × OfText c.args.text.now (λ r. (c.pass_to.new.sink.decider ≡ decider_for c.args.options.now r.config)
-    × IsRunAccepted c.args.options.now r))
-    ⊎ ((fault : Fault) × (c.pass_to.new.sink.refused ≡ Some fault)
-    × IsRefusal c.args.options.now (text_lines c.args.text.now) fault))
+    → OnOk c.pass_to.result (IsJudged c.args.options.now (text_lines c.args.text.now)
+    (λ r. (c.pass_to.new.sink.decider ≡ decider_for c.args.options.now r.config) × IsRunAccepted c.args.options.now r)
+    c.pass_to.new.sink.refused)
     × IfErr c.pass_to.result (IsRefusal c.args.options.now (text_lines c.args.text.now))
 ended c =
     let options = c.args.options.now in
@@ -27,9 +24,9 @@ ended c =
     (c.pass_to.ensures 0 h.run h.lines h.before h.left.0)
 
 pub returns-in-Err-clause-fault : goal.returns-in-Err-clause-fault
-returns-in-Err-clause-fault c = unconfigured_judged c.args.options.now (text_lines c.args.text.now) c.in-Err.fault
-    (c.in-Err.ensures 0 (text_lines c.args.text.now)
-    (whole_left _ _ c.in-Ok.ensures.1 c.args.text.now c.in-Ok.ensures.0))
+returns-in-Err-clause-fault c = read_refusal c.args.options.now (text_lines c.args.text.now) c.in-Err.fault
+    (unconfigured_stops c.args.options.now.file.now _ _ (c.in-Err.ensures 0 (text_lines c.args.text.now)
+    (whole_left _ _ c.in-Ok.ensures.1 c.args.text.now c.in-Ok.ensures.0)))
 
 pub returns-in-Err-pass_to-clause-fault : goal.returns-in-Err-pass_to-clause-fault
 returns-in-Err-pass_to-clause-fault c =

@@ -1,21 +1,21 @@
-use Rattle.std.proofs.Common.{[], ◌≡◌, ◌⊎◌, ◌∙◌, ℕ, List, None, Some, IfErr, OnOk, ap, subst, sym}
-use Rattle.scene_follower.proofs.Common.{Fault, Follows, SceneConfig, string_meaning, text_lines}
-use Rattle.scene_follower.specs.Names.{IsSetFor, OfText}
+use Rattle.std.proofs.Common.{[], ◌≡◌, ◌∙◌, ℕ, List, None, Some, IfErr, OnOk, ap, subst, sym}
+use Rattle.scene_follower.proofs.Common.{Follows, SceneConfig, string_meaning, text_lines}
+use Rattle.scene_follower.specs.Names.{IsSetFor}
 use Rattle.{scene_follower.proofs.lemmas.ReadLines.whole_left}
 use Rattle.scenes.specs.Gathered.{HasFollowed}
 use Rattle.scenes.specs.Names.{IsRefusal}
-use Rattle.scenes.proofs.lemmas.Gathered.{gathered_printed, gathers_judges, passed_judged, refused_held, run_is}
-use Rattle.scenes.proofs.lemmas.Gathered.{unconfigured_judged, whole_so}
+use Rattle.scenes.proofs.lemmas.Gathered.{gathered_printed, gathers_judges, IsJudged, passed_judged, read_refusal}
+use Rattle.scenes.proofs.lemmas.Gathered.{refused_held, run_is}
+use Rattle.scenes.proofs.lemmas.{Gathered.whole_so, SceneCalls.unconfigured_stops}
 use Rattle.scenes.proofs.report.report_to_string.Given as given
 use Rattle.scenes.proofs.report.report_to_string.Goals.{After-pass_to}
 use Rattle.scenes.proofs.report.report_to_string.Goals as goal
 
 -- all lines were gathered, or a fault stopped them
 ended : (g : given.Over) (c : After-pass_to g) (text : List ℕ) → g.R.Read.remaining c.args.reader ≡ Some text
-    → OnOk c.pass_to.result (((c.pass_to.new.sink.refused ≡ None)
-    × OfText text (λ run. HasFollowed c.args.options.now (c.new-text.result, None) run c.pass_to.new.sink.reporter))
-    ⊎ ((fault : Fault) × (c.pass_to.new.sink.refused ≡ Some fault)
-    × IsRefusal c.args.options.now (text_lines text) fault))
+    → OnOk c.pass_to.result (IsJudged c.args.options.now (text_lines text)
+    (λ run. HasFollowed c.args.options.now (c.new-text.result, None) run c.pass_to.new.sink.reporter)
+    c.pass_to.new.sink.refused)
     × IfErr c.pass_to.result (IsRefusal c.args.options.now (text_lines text))
 ended g c text known =
     let options = c.args.options.now in
@@ -38,9 +38,9 @@ ended g c text known =
     ) _ c.pass_to.result (c.pass_to.ensures 0 h.run h.lines h.before h.left.0)
 
 pub returns-in-Err-clause-fault : goal.returns-in-Err-clause-fault
-returns-in-Err-clause-fault g c = λ text known. unconfigured_judged c.args.options.now (text_lines text) c.in-Err.fault
-    (c.in-Err.ensures 0 (text_lines text)
-    (whole_left _ _ c.in-Ok.ensures.1 text (c.in-Ok.ensures.0 ∙ known)))
+returns-in-Err-clause-fault g c = λ text known. read_refusal c.args.options.now (text_lines text) c.in-Err.fault
+    (unconfigured_stops c.args.options.now.file.now _ _ (c.in-Err.ensures 0 (text_lines text)
+    (whole_left _ _ c.in-Ok.ensures.1 text (c.in-Ok.ensures.0 ∙ known))))
 
 pub returns-in-Err-pass_to-clause-fault : goal.returns-in-Err-pass_to-clause-fault
 returns-in-Err-pass_to-clause-fault g c = λ text known.

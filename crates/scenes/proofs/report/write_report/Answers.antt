@@ -1,7 +1,7 @@
 use Rattle.std.proofs.Common.{inl, inr}
-use Rattle.std.proofs.lemmas.Result.{IfErr-weaker}
+use Rattle.std.proofs.lemmas.Result.{IfErr-weaker, on_ok_weaker}
 use Rattle.scene_follower.specs.Names.{Begins, device, Prints}
-use Rattle.scenes.proofs.lemmas.WrittenReports.{at_last, refused_scene, whole_at_last}
+use Rattle.scenes.proofs.lemmas.WrittenReports.{at_last, refused_scene}
 use Rattle.scenes.proofs.report.write_report.Goals as goal
 
 pub returns-in-Err-clause-err : goal.returns-in-Err-clause-err
@@ -12,9 +12,10 @@ returns-in-Err-clause-err g c = rw c.in_memory.ensures
 pub returns-clause-ok : goal.returns-clause-ok
 returns-clause-ok g c =
     let made = c.report_judged-writer in
-    whole_at_last g.W.Write.contents g.S.Write.contents c.args.scene.now.text (made.result.1, made.result.2)
+    on_ok_weaker _
+    (at_last g.W.Write.contents g.S.Write.contents c.args.scene.now.text (made.result.1, made.result.2)
     (λ last store_last. Prints device device c.args.options.now
-    (g.W.Write.contents c.args.writer, g.S.Write.contents c.args.store_writer) (last, store_last)) made.result.0
+    (g.W.Write.contents c.args.writer, g.S.Write.contents c.args.store_writer) (last, store_last)))
     (rw c.text-2.ensures.text at made.ensures.ok)
 
 pub returns-clause-err : goal.returns-clause-err
