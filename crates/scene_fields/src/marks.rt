@@ -58,8 +58,8 @@ pub fn find_byte(byte: u8, bytes: &[u8]) -> Option<usize>
     None
 }
 
-/// The first position of the byte, like [`find_byte`], for texts that mostly have it among their first 32 bytes. No more
-/// is inlined: where several such searches follow one another, the compiler would mix them.
+/// The first position of the byte, like [`find_byte`], for texts that mostly have it among their first 32 bytes. No
+/// more is inlined: where several such searches follow one another, the compiler would mix them.
 #[inline(always)]
 pub fn find_near(byte: u8, bytes: &[u8]) -> Option<usize>
     requires { byte ≢ 0 }

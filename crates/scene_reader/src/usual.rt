@@ -1,8 +1,8 @@
 //! The usual lines, and the calls that they say.
 //!
-//! Most lines of most scenes are the `done` and `start` lines of tests in no stress run that passed or ended with an exit
-//! code at their first attempt, and were not slow. Such a line is read in place. Any other line, and any with a fault,
-//! is split into fields, which are read one by one.
+//! Most lines of most scenes are the `done` and `start` lines of tests in no stress run that passed or ended with an
+//! exit code at their first attempt, and were not slow. Such a line is read in place. Any other line, and any with a
+//! fault, is split into fields, which are read one by one.
 
 ghost use Rattle.std.specs.Prelude.{◌≡◌, ◌∷◌, [], IfOk, IfSome, codes};
 ghost use Rattle.scene_fields.specs.{Calls.call_by_names, Numbers.number_in, Results.result_in};
@@ -121,8 +121,8 @@ pub fn read_usual(alloc: Global, line: &str, names: &mut OwnedTestInstanceId) ->
     }))
 }
 
-// Cuts a usual `done` line into its fields, and reads those that allocate nothing. The line is read in place, from left to
-// right: what is the same in all usual lines is compared, and other fields are searched for their tabs.
+// Cuts a usual `done` line into its fields, and reads those that allocate nothing. The line is read in place, from left
+// to right: what is the same in all usual lines is compared, and other fields are searched for their tabs.
 #[inline(always)]
 fn cut_fields(line: &str) -> Option<UsualFields<'_>>
     ensures { IfSome result (SaysFields (split_on 9 line.now)) }
