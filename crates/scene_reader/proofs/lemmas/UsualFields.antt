@@ -48,7 +48,8 @@ usual_says : (u : UsualFields) (success failure flaky total outcome nanos : List
     → result_in outcome ≡ Some (usual_result u.values.exit_code) → nanos_in nanos ≡ Some u.values.time_taken
     → SaysFields
     (codes "done" ∷ codes "-" ∷ u.names.binary_id.now ∷ u.names.test_name.now ∷ success ∷ failure ∷ flaky
-    ∷ u.stats.now ∷ total ∷ outcome ∷ nanos ∷ codes "0" ∷ codes "split" ∷ u.stdout.now ∷ u.stderr.now ∷ codes "-" ∷ codes "-" ∷ []) u
+    ∷ u.stats.now ∷ total ∷ outcome ∷ nanos ∷ codes "0" ∷ codes "split" ∷ u.stdout.now ∷ u.stderr.now
+    ∷ codes "-" ∷ codes "-" ∷ []) u
 unfolding after_streams all_attempts attempt_fields attempts_from instance_fields output_fields spelled_output_fields
 usual_says u success failure flaky total outcome nanos e1 e2 e3 e4 e5 e6 = (
   _,
