@@ -58,17 +58,21 @@ pub fn find_byte(byte: u8, bytes: &[u8]) -> Option<usize>
     None
 }
 
-/// The first position of the byte, like [`find_byte`], for texts that mostly have it among their first 32 bytes. No
+/// The first position of the byte, like [`find_byte`], for texts that mostly have it among their first 64 bytes. No
 /// more is inlined: where several such searches follow one another, the compiler would mix them.
 #[inline(always)]
 pub fn find_near(byte: u8, bytes: &[u8]) -> Option<usize>
     requires { byte ≢ 0 }
     ensures { IsFirstByte (is_byte byte) bytes.now result }
 {
-    if bytes.len() >= 32 {
+    if bytes.len() > 32 {
         let marks = marks_from(byte, bytes, 0);
         if marks != 0 {
             return Some(first_place(marks));
+        }
+        let marks = marks_from(byte, bytes, 32);
+        if marks != 0 {
+            return Some(32 + first_place(marks));
         }
     }
     find_far(byte, bytes)

@@ -4,7 +4,7 @@ use Rattle.run_model.specs.Names.{Attempt}
 use Rattle.run_model.specs.declared.{stats.RunStats.RunStats}
 use Rattle.run_model.specs.declared.status.{ExecutionResultDescription.ExecutionResultDescription}
 use Rattle.scene_fields.specs.{Calls.event_at, Calls.test_named, Calls.SceneEvent, Counts.stats_in, Results.exit_code}
-use Rattle.scene_fields.specs.{Texts.text_in}
+use Rattle.scene_fields.specs.{Numbers.number_in, Results.result_in, Split.split_on, Texts.text_in}
 use Rattle.run_model.specs.Names.{OwnedTestInstanceId}
 use Rattle.scene_fields.specs.Fields.{with_attempts}
 use Rattle.scene_unit_lines.specs.Lines.{done_line_fields, retry_numbered, stream_in}
@@ -49,6 +49,11 @@ start_event names u = event_at 0 (event.TestStarted None (test_named names.binar
 -- the names that the fields spell
 abbrev pub AreNames : NameFields → OwnedTestInstanceId → Type 0
 AreNames f names = (text_in f.binary_id.now ≡ Some names.binary_id) × (text_in f.test_name.now ≡ Some names.test_name)
+
+-- the first two fields of a line are a number of attempts and an outcome, and this text follows their tabs
+abbrev pub BeginsWithOutcome : List ℕ → ℕ → Option ℤ → List ℕ → Type 0
+BeginsWithOutcome t n code rest = (total outcome : List ℕ) × (split_on 9 t ≡ total ∷ outcome ∷ split_on 9 rest)
+    × (number_in 32 total ≡ Some n) × (result_in outcome ≡ Some (usual_result code))
 
 -- the fields say this behind `done`, with the names, the statistics and the streams that their fields spell
 abbrev pub SaysFields : List (List ℕ) → UsualFields → Type 0

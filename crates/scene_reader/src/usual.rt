@@ -5,10 +5,10 @@
 //! fault, is split into fields, which are read one by one.
 
 ghost use Rattle.std.specs.Prelude.{◌≡◌, ◌∷◌, [], IfOk, IfSome, codes};
-ghost use Rattle.scene_fields.specs.{Calls.call_by_names, Numbers.number_in, Results.result_in};
-ghost use Rattle.scene_fields.specs.Split.{BeginsWith, split_on};
+ghost use Rattle.scene_fields.specs.{Calls.call_by_names, Results.result_in, Split.split_on};
 ghost use Rattle.scene_unit_lines.specs.Lines.{stream_in};
-ghost use Rattle.scene_reader.specs.Usual.{AreNames, SaysEvent, SaysFields, start_event, usual_event, usual_result};
+ghost use Rattle.scene_reader.specs.Usual.{AreNames, BeginsWithOutcome, SaysEvent, SaysFields, start_event};
+ghost use Rattle.scene_reader.specs.Usual.{usual_event, usual_result};
 
 use run_model::call::ReportCall;
 use run_model::command::CommandLine;
@@ -133,14 +133,9 @@ fn cut_fields(line: &str) -> Option<UsualFields<'_>>
     let (failure, rest) = cut_field(rest)?;
     let (flaky, rest) = cut_field(rest)?;
     let (stats, rest) = cut_field(rest)?;
-    let (total_attempts, rest) = cut_total(rest)?;
-    let (exit_code, rest) = cut_outcome(rest)?;
+    let (total_attempts, exit_code, rest) = cut_outcome(rest)?;
     let (time_taken, rest) = cut_nanos(rest)?;
-    let (stdout, rest) = cut_stream(rest.strip_prefix("0\tsplit\t")?)?;
-    let (stderr, rest) = cut_stream(rest)?;
-    if !matches!(rest, "-\t-") {
-        return None;
-    }
+    let (stdout, stderr) = cut_streams(rest)?;
     Some(UsualFields {
         values: UsualValues {
             success_output: read_display(success)?,
@@ -160,42 +155,48 @@ fn cut_fields(line: &str) -> Option<UsualFields<'_>>
     })
 }
 
-// Reads how many attempts there can be, which mostly is one, and cuts it off.
+// Reads how many attempts there can be, and the exit code of a failure, and cuts both off. A pass has no code.
 #[inline(always)]
-#[tactic(auto, using(crate::proofs::lemmas::UsualFields::one))]
-fn cut_total(line: &str) -> Option<(u32, &str)>
-    ensures { IfSome result (λ x. BeginsWith (number_in 32) line.now x.0 x.1.now) }
+#[tactic(auto, using(crate::proofs::lemmas::UsualFields::one_passed))]
+fn cut_outcome(line: &str) -> Option<(u32, Option<i32>, &str)>
+    ensures { IfSome result (λ x. BeginsWithOutcome line.now x.0 x.1 x.2.now) }
 {
-    if let Some(rest) = line.strip_prefix("1\t") {
-        return Some((1, rest));
+    if let Some(rest) = line.strip_prefix("1\tpass\t") {
+        return Some((1, None, rest));
     }
-    let (field, rest) = cut_field(line)?;
-    Some((read_small_count(field)?, rest))
+    let (total, rest) = cut_field(line)?;
+    let (outcome, rest) = cut_field(rest)?;
+    Some((read_small_count(total)?, read_outcome(outcome)?, rest))
 }
 
-// Reads the exit code of a failure, and cuts the outcome off. A pass has none.
+// Reads the exit code of a failure. A pass has none.
 #[inline(always)]
 #[tactic(auto, using(crate::proofs::lemmas::UsualFields::passed, crate::proofs::lemmas::UsualFields::failed))]
-fn cut_outcome(line: &str) -> Option<(Option<i32>, &str)>
-    ensures { IfSome result (λ x. BeginsWith result_in line.now (usual_result x.0) x.1.now) }
+fn read_outcome(field: &str) -> Option<Option<i32>>
+    ensures { IfSome result (λ code. result_in field.now ≡ Some (usual_result code)) }
 {
-    if let Some(rest) = line.strip_prefix("pass\t") {
-        return Some((None, rest));
+    match field {
+        "pass" => Some(None),
+        _ => Some(Some(read_code(field.strip_prefix("fail:")?)?)),
     }
-    let (field, rest) = cut_field(line)?;
-    Some((Some(read_code(field.strip_prefix("fail:")?)?), rest))
 }
 
-// Cuts a stream off. Most are empty, and a long one is searched with memchr.
+// Cuts off what follows the time of an attempt that was not slow: mostly two empty streams, and no error.
 #[inline(always)]
-#[tactic(auto, using(crate::proofs::lemmas::UsualFields::empty))]
-fn cut_stream(line: &str) -> Option<(&str, &str)>
-    ensures { IfSome result (λ x. split_on 9 line.now ≡ x.0.now ∷ split_on 9 x.1.now) }
+#[tactic(auto, using(crate::proofs::lemmas::UsualFields::no_streams))]
+fn cut_streams(line: &str) -> Option<(&str, &str)>
+    ensures { IfSome result (λ x. split_on 9 line.now
+        ≡ codes "0" ∷ codes "split" ∷ x.0.now ∷ x.1.now ∷ codes "-" ∷ codes "-" ∷ []) }
 {
-    if let Some(rest) = line.strip_prefix("\t") {
-        return Some(("", rest));
+    if matches!(line, "0\tsplit\t\t\t-\t-") {
+        return Some(("", ""));
     }
-    split_at_byte(line, b'\t')
+    let (stdout, rest) = split_at_byte(line.strip_prefix("0\tsplit\t")?, b'\t')?;
+    let (stderr, rest) = split_at_byte(rest, b'\t')?;
+    if !matches!(rest, "-\t-") {
+        return None;
+    }
+    Some((stdout, stderr))
 }
 
 // Reads a stream's bytes, or `-` where it was not captured. None is a bad field. Most streams are empty.
@@ -237,16 +238,16 @@ pub fn read_usual_start(
 ) -> Field<UsualStart>
     ensures { IfOk result (λ usual. IfSome usual (λ u. SaysEvent line.now (start_event names.new u))) }
 {
-    let Some(usual) = cut_start(line) else {
+    let Some(start) = cut_start(line) else {
         return Ok(None);
     };
-    let Some(current_stats) = read_stats(usual.stats) else {
+    let Some(current_stats) = read_stats(start.stats) else {
         return Ok(None);
     };
-    let Some(command_line) = read_command_line(alloc, usual.command_line)? else {
+    let Some(command_line) = read_command_line(alloc, start.command_line)? else {
         return Ok(None);
     };
-    let Some(()) = usual.names.read(alloc, names)? else {
+    let Some(()) = start.names.read(alloc, names)? else {
         return Ok(None);
     };
     Ok(Some(UsualStart {

@@ -9,10 +9,9 @@ returns c = usual_by
       names = record { binary_id = c.in_ok-binary_id.binary_id; test_name = c.in_ok-test_name.test_name };
       stats = c.in_ok-stats.stats;
       stdout = c.in_ok-stdout.stdout;
-      stderr = c.in_ok-stderr.stderr;
-    }) c.args.line.now c.in_ok-strip_prefix.field-0.now _ _ _ _ _ _ _ _ c.in_ok-time_taken.rest.now
-    c.in_ok-strip_prefix-2.field-0.now _ c.in_ok-stderr.rest.now _ _ _ (search rules) c.in_ok-binary_id.ensures
-    c.in_ok-test_name.ensures c.in_ok-success.ensures c.in_ok-failure.ensures c.in_ok-flaky.ensures
-    c.in_ok-stats.ensures c.in_ok-total_attempts.ensures c.in_ok-exit_code.ensures c.in_ok-time_taken.ensures
-    (search rules) c.in_ok-stdout.ensures c.in_ok-stderr.ensures (search rules) (sym c.in_ok-read_display.ensures)
-    (sym c.in_ok-read_display-2.ensures) (sym c.in_ok-read_flaky_result.ensures)
+      stderr = c.in_ok-stdout.stderr;
+    }) c.args.line.now c.in_ok-strip_prefix.field-0.now _ _ _ _ _ _ _ _ _ _ _ (search rules)
+    c.in_ok-binary_id.ensures c.in_ok-test_name.ensures c.in_ok-success.ensures c.in_ok-failure.ensures
+    c.in_ok-flaky.ensures c.in_ok-stats.ensures c.in_ok-total_attempts.ensures c.in_ok-time_taken.ensures
+    c.in_ok-stdout.ensures (sym c.in_ok-read_display.ensures) (sym c.in_ok-read_display-2.ensures)
+    (sym c.in_ok-read_flaky_result.ensures)
