@@ -61,6 +61,7 @@ LESS = (
     line("scripts/check-follow", '"--passed", 1_000_000, (0, 1_000_005)', '"--passed", 1_000, (0, 1_005)'),
     line("scripts/check-follow", '"--skips", 1_960_000', '"--skips", 1_000'),
     line(GROWTH, "COUNT_OF_A_PAGE, TIMES = 1500, 500, 3", "COUNT_OF_A_PAGE, TIMES = 9, 9, 1"),
+    line(GROWTH, "TRIES = 3", "TRIES = 1"),
     line("scripts/check-real", "CUTS = 200", "CUTS = 9"),
     line("scripts/check-real", "MUTANTS, BATCH = 2000, 100", "MUTANTS, BATCH = 40, 20"),
     line("scripts/check-recorded", "KILLS, TESTS, MUTANTS = 20, 300, 300", "KILLS, TESTS, MUTANTS = 3, 300, 9"),
