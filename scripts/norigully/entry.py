@@ -208,18 +208,24 @@ def is_same_file(path, other):
 @contextlib.contextmanager
 def started(command, **how):
     """A process that ends with all that it started where this is left by a fault or a signal."""
+    child = None
     try:
-        child = subprocess.Popen(command, start_new_session=True, **how)
-    except OSError as error:
-        # The file that is missing, or the folder where it is to run.
-        raise NotBuilt(f"cannot run {os.fsdecode(error.filename or command[0])}: {error.strerror}") from error
-    with child:
-        try:
-            yield child
-        except BaseException:
+        # A signal that comes before it has begun comes behind that.
+        with uncut():
+            child = subprocess.Popen(command, start_new_session=True, **how)
+        yield child
+    except BaseException as error:
+        if child is not None:
             with uncut():
                 end(child)
-            raise
+        elif isinstance(error, OSError):
+            # The file that is missing, or the folder where it is to run.
+            raise NotBuilt(f"cannot run {os.fsdecode(error.filename or command[0])}: {error.strerror}") from error
+        raise
+    finally:
+        if child is not None:
+            # It closes its pipes, and waits for it.
+            child.__exit__(None, None, None)
 
 
 def end(child):
