@@ -166,9 +166,12 @@ PAGE_IS_WRONG = (
     line("docs/cargo.svg", ' xml:space="preserve"', ""),
 )
 RECORDED = "scripts/norigully/recorded.py"
-# Recorded runs are written late, and read as if less were wrong, or more.
+# Recorded runs are written late, and read as if less were wrong, or more; and of lines that come one at a time the
+# report of the next one is wanted.
 RECORDS_OTHERWISE = (
     *FEWER,
+    line("scripts/check-follow", "\nPATIENCE = 20", "\nPATIENCE = 1"),
+    line("scripts/check-replay", "[*io.BytesIO(scene)][:number]", "[*io.BytesIO(scene)][: number + 1]"),
     line(SCENE, "x([0-9a-fA-F]{2})", "x([0-9a-f]{2})"),
     line(RECORDED, 'rb"\\\\@0*([0-9]', 'rb"\\\\@([0-9]'),
     line(RECORDED, "if not found or place not in may_be_one:", "if not found:"),
