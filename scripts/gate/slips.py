@@ -93,6 +93,7 @@ NAMES = (
 TABLES = (
     ("scripts/check-docs", r"(?<=in DEFINITION.findall\()file.read_text\(\)", '""'),
     ("scripts/check-docs", r"^( +)is_built = ", r"\1is_built = True or "),
+    ("scripts/check-docs", r"(?<=for name in )TEXT\.findall\(file\.read_text\(\)\)", "()"),
     ("scripts/vendor", r"for name in order if name", "for name in order[1:] if name"),
     ("examples/whole_run.rs", r"\A", "use console_reporter::write_skip_counts;\n"),
     ("docs/SCENES.md", r"^```report", "```other"),
