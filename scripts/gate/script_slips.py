@@ -122,7 +122,8 @@ SEEN, LISTS, STYLED, COLOURED, PRINTED, WORKER = (
 # A page that works, and of which much is wrong: what it says, shows, lists, leads to, copies and prints.
 PAGE_IS_WRONG = (
     line(PAGE, '{"reports": numbers,', '{"reports": {**numbers, "all": 0},'),
-    line(PAGE, ": known[lines, level] for level in", ': known[lines, level.replace("all", "skip")] for level in'),
+    line(PAGE, ": known[lines, level] for level in", ': known[lines, level.replace("all", "none")] for level in'),
+    end(PAGE, '\nHELD = b"x" * 60_000_000\n'),
     line(PAGE, "few} of {many} reports", "many} of {few} reports"),
     line(PAGE, " or any(is_same_file(asked.to, it) for it in asked.files)", ""),
     line(PAGE, "default-src 'none'", "default-src *"),
