@@ -247,6 +247,7 @@ CALLS_ARE_WRONG = (
     line("README.md", "-o run.html", "-o other.html"),
     line("docs/ERRORS.md", "| 100 | the run ended", "| 100 | a run ended"),
     line("docs/REAL_RUNS.md", "```yaml", "```yml"),
+    line("scripts/gate/run_edges.py", "os.open = swapping", "os.open = opens"),
     line("scripts/gate/run_recipes.py", '"scripts/run-tests": (', '"run-tests": ('),
     line("scripts/gate/run_recipes.py", 'if "[" not in it[0]', 'if "[" in it[0]'),
 )
