@@ -126,6 +126,7 @@ PAGE_IS_WRONG = (
     end(PAGE, '\nHELD = b"x" * 60_000_000\n'),
     line(PAGE, "few} of {many} reports", "many} of {few} reports"),
     line(PAGE, " or any(is_same_file(asked.to, it) for it in asked.files)", ""),
+    line(PAGE, '"TITLE": escaped(run.asked.title)', '"TITLE": escaped(run.asked.title[1:])'),
     line(PAGE, "default-src 'none'", "default-src *"),
     line(PAGE, "; img-src data:", "; img-src *"),
     line(PAGE_SCENE, "{minutes % 60} min", "{minutes} min"),
