@@ -48,12 +48,11 @@ pub struct StoreOptions<'a> {
 /// Without `--level` the status level is `pass`.
 ///
 /// ```
-/// let given = CommandLine::from_words(alloc, &["--level", "fail", "first.scene"])?;
-/// assert_eq!(words(given.words()).map(|options| options.status_level), Some(StatusLevel::Fail));
-/// let given = CommandLine::from_words(alloc, &["--store", "out", "--store-failure", "first.scene"])?;
-/// assert_eq!(words(given.words()).map(|options| options.store.is_some()), Some(true));
-/// let given = CommandLine::from_words(alloc, &["--store-failure", "first.scene"])?;
-/// assert_eq!(words(given.words()), None); // there are no records
+/// let level = String::from_str(alloc, "--level")?;
+/// let given = [level, String::from_str(alloc, "fail")?, String::from_str(alloc, "first.scene")?];
+/// assert_eq!(words(&given).map(|options| options.status_level), Some(StatusLevel::Fail));
+/// let given = [String::from_str(alloc, "--store-failure")?, String::from_str(alloc, "first.scene")?];
+/// assert_eq!(words(&given), None); // there are no records
 /// ```
 pub fn words(words: &[String]) -> Option<Options<'_>>
     ensures { asked result ≡ options_of (texts words.now) }

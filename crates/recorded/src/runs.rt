@@ -27,8 +27,8 @@ const BYTES_AT_ONCE: usize = 16_384;
 /// ```
 /// use command_line::args::words;
 /// use scene_follower::follow::RunOutcome;
-/// let given = CommandLine::from_words(alloc, &["--level", "pass", "DIR"])?;
-/// let options = words(given.words()).ok_or("no options")?;
+/// let given = [String::from_str(alloc, "DIR")?];
+/// let options = words(&given).ok_or("no options")?;
 /// let lines = "done\t-\talpha\tt1\tnever\tnever\tpass\tinitial=1 finished=1 passed=1\t1\t\
 ///     pass\t5000000\t0\tcomb\t\\@0:7:62cd0a585dc2fe91\t-\t-\t-\n";
 /// let outputs = RecordedOutputs::new(Metered::new(b"passed\n".as_slice()))?;

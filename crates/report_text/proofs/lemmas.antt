@@ -1,4 +1,3 @@
-pub mod Commands
 pub mod FreeDetails
 pub mod InstanceColourPairs
 pub mod InstanceWidths

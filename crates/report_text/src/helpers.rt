@@ -22,7 +22,7 @@ pub use instance::{
     write_test_instance, write_test_name,
 };
 pub use interceptor::format_interceptor_too_many_tests;
-pub use quoting::{CommandWord, QuotedDisplay, shell_join};
+pub use quoting::{QuotedDisplay, shell_join};
 pub use report_words::durations::{
     DurationRounding, FormattedDuration, FormattedHhMmSs, FormattedRelativeDuration,
 };

@@ -1,1 +1,2 @@
 pub mod LastColons
+pub mod Parts

@@ -1,5 +1,6 @@
 pub mod Aborts
 pub mod Boxes
+pub mod Commands
 pub mod Displays
 pub mod ErrorChains
 pub mod Filters

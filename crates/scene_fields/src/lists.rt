@@ -2,8 +2,7 @@
 //!
 //! A word is a text. A comma without a backslash is part of a word, and the empty field is one empty word.
 
-ghost use Rattle.std.specs.Prelude.{◌≡◌, map, string_bytes, IfOk};
-ghost use Rattle.std.specs.Option.{option_map};
+ghost use Rattle.std.specs.Prelude.{◌≡◌, ◌∷◌, ◌++◌, [], string_bytes, IfOk, OnOk};
 ghost use Rattle.scene_fields.specs.Lists.{chain_in, instances_in, words_of};
 
 use super::split::split_at_byte;
@@ -15,7 +14,6 @@ use run_model::name::{OwnedTestInstanceId, RustBinaryId, TestCaseName};
 use run_model::not_seen::TestInstanceList;
 use run_model::output::ErrorChain;
 use std::alloc::Global;
-use std::mem;
 
 /// Reads the words of a command. `None` means a bad field.
 ///
@@ -30,10 +28,39 @@ use std::mem;
 pub fn read_command_line(alloc: Global, field: &str) -> Result<Option<CommandLine>, OutOfMemory>
     ensures { IfOk result (λ command. command ≡ words_of field.now) }
 {
-    match read_words(alloc, field)? {
-        Some(words) => Ok(Some(CommandLine::new(alloc, words)?)),
-        None => Ok(None),
+    if field == "-" {
+        return Ok(Some(CommandLine::new(alloc)));
     }
+    let mut words = CommandLine::with_capacity(alloc, field.len())?;
+    let mut word = String::new(alloc);
+    let mut rest = field;
+    while let Some((plain, escape)) = split_at_byte(rest, b'\\') {
+        if let Some(after) = escape.strip_prefix(',') {
+            push_word(&mut words, &mut word, plain)?;
+            rest = after;
+            continue;
+        }
+        let Some(after) = push_stretch(&mut word, plain, escape)? else {
+            return Ok(None);
+        };
+        rest = after;
+    }
+    push_word(&mut words, &mut word, rest)?;
+    Ok(Some(words))
+}
+
+// Adds a word that ends so. Its beginning, which only a word with an escape has, is taken.
+fn push_word(words: &mut CommandLine, beginning: &mut String, end: &str) -> Result<(), OutOfMemory>
+    ensures word { OnOk result (words.new ≡ words.old ++ (string_bytes beginning.old ++ end.now) ∷ []) }
+    ensures taken { OnOk result (string_bytes beginning.new ≡ []) }
+{
+    if beginning.is_empty() {
+        return words.push(end);
+    }
+    beginning.push_str(end)?;
+    words.push(beginning.as_str())?;
+    beginning.clear();
+    Ok(())
 }
 
 /// Reads an error and its causes, which are the words of a list. `None` means a bad field, as a list without words is.
@@ -49,18 +76,17 @@ pub fn read_command_line(alloc: Global, field: &str) -> Result<Option<CommandLin
 pub fn read_chain(alloc: Global, field: &str) -> Result<Option<ErrorChain>, OutOfMemory>
     ensures { IfOk result (λ chain. chain ≡ chain_in field.now) }
 {
-    let Some(words) = read_words(alloc, field)? else {
+    let Some(words) = read_command_line(alloc, field)? else {
         return Ok(None);
     };
-    let mut rest = words.into_iter();
+    let mut rest = words.words();
     let Some(word) = rest.next() else {
         return Ok(None);
     };
-    let message = DescriptionText::new(alloc, word.as_str())?;
+    let message = DescriptionText::new(alloc, word)?;
     let mut causes = Vec::with_capacity(alloc, rest.len())?;
-    // A chain may be long, and the memory of each word is free for the next text.
     while let Some(word) = rest.next() {
-        causes.push(DescriptionText::new(alloc, word.as_str())?)?;
+        causes.push(DescriptionText::new(alloc, word)?)?;
     }
     Ok(Some(ErrorChain::new(alloc, message, causes)?))
 }
@@ -79,46 +105,19 @@ pub fn read_chain(alloc: Global, field: &str) -> Result<Option<ErrorChain>, OutO
 pub fn read_instances(alloc: Global, field: &str) -> Result<Option<TestInstanceList>, OutOfMemory>
     ensures { IfOk result (λ list. list ≡ instances_in field.now) }
 {
-    let Some(words) = read_words(alloc, field)? else {
+    let Some(words) = read_command_line(alloc, field)? else {
         return Ok(None);
     };
     let mut instances = Vec::new(alloc);
-    let mut rest = words.into_iter();
+    let mut rest = words.words();
     while let Some(binary_id) = rest.next() {
         let Some(test_name) = rest.next() else {
             return Ok(None);
         };
         instances.push(OwnedTestInstanceId {
-            binary_id: RustBinaryId::new(alloc, binary_id.as_str())?,
-            test_name: TestCaseName::new(alloc, test_name.as_str())?,
+            binary_id: RustBinaryId::new(alloc, binary_id)?,
+            test_name: TestCaseName::new(alloc, test_name)?,
         })?;
     }
     Ok(Some(TestInstanceList::new(alloc, instances)?))
-}
-
-// Reads the words of a list; `-` is the empty list. None means a bad word.
-fn read_words(alloc: Global, field: &str) -> Result<Option<Vec<String>>, OutOfMemory>
-    ensures { IfOk result (λ words. option_map (λ v. map string_bytes v.items) words ≡ words_of field.now) }
-{
-    let mut words = Vec::new(alloc);
-    if field == "-" {
-        return Ok(Some(words));
-    }
-    let mut word = String::new(alloc);
-    let mut rest = field;
-    while let Some((plain, escape)) = split_at_byte(rest, b'\\') {
-        if let Some(after) = escape.strip_prefix(',') {
-            word.push_str(plain)?;
-            words.push(mem::replace(&mut word, String::new(alloc)))?;
-            rest = after;
-            continue;
-        }
-        let Some(after) = push_stretch(&mut word, plain, escape)? else {
-            return Ok(None);
-        };
-        rest = after;
-    }
-    word.push_str(rest)?;
-    words.push(word)?;
-    Ok(Some(words))
 }

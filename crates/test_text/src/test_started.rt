@@ -98,6 +98,6 @@ fn write_command_line<W: WriteStr>(
         return Ok(());
     }
     (Painted(settings.styles.count, Aligned(20, "command")), ": ").write_to(w)?;
-    write_shell_words(w, command_line.words())?;
+    write_shell_words(w, command_line)?;
     "\n".write_to(w)
 }

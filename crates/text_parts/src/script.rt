@@ -47,7 +47,7 @@ impl WriteText for ShownScript<'_, '_> {
             script.stress_index,
             script.script_id,
             script.program.as_str(),
-            script.args.words(),
+            script.args,
             styles.script_id,
             styles.count,
         )

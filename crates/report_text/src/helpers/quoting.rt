@@ -1,67 +1,43 @@
 //! Words between quotes, as a shell reads them or as a message shows them.
 
-ghost use Rattle.std.specs.Prelude.{◌≡◌, ℕ, List, ◌∷◌, ◌++◌, ◌<◌, IfOk, IfSome, MatchOption, codes, length, map};
+ghost use Rattle.std.specs.Prelude.{◌≡◌, ◌∷◌, ◌++◌, ◌<◌, IfOk, IfSome, MatchOption, codes, length};
 ghost use Rattle.std.specs.Prelude.{string_bytes};
 ghost use Rattle.styled_text.specs.Names.{flat_map, option_map, Puts};
 ghost use Rattle.report_text.specs.Quoting.{in_single_quotes, is_unquoted, is_unquoted_byte, quoted_text, shell_word};
 ghost use Rattle.report_text.specs.Quoting.{shell_words};
 
+use run_names::command::{CommandLine, Words};
 use run_names::memory::OutOfMemory;
 use std::alloc::Global;
 use std::fmt;
 use std::fmt::Formatter;
 use writers::write_str::{WriteFault, WriteStr, write_strs};
 
-/// A word of a command.
-pub trait CommandWord {
-    /// Its text.
-    ghost text: { Self → List ℕ };
-
-    /// Its text.
-    fn as_text(&self) -> &str
-        ensures { result.now ≡ text self.now };
-}
-
-impl CommandWord for String {
-    ghost text = { string_bytes };
-
-    fn as_text(&self) -> &str {
-        self.as_str()
-    }
-}
-
-impl CommandWord for &str {
-    ghost text = { λ word. word.now };
-
-    fn as_text(&self) -> &str {
-        self
-    }
-}
-
 /// The words as a shell reads them, separated by single spaces.
 ///
 /// ```
-/// let joined = shell_join(alloc, &["cargo", "", "it's", "a=b"])?;
+/// let command = CommandLine::from_words(alloc, &["cargo", "", "it's", "a=b"])?;
+/// let joined = shell_join(alloc, &command)?;
 /// assert_eq!(joined.as_str(), r"cargo '' 'it'\''s' a=b");
 /// ```
 ///
 /// # Errors
 ///
 /// Memory was refused. [`write_shell_words`] writes the same without allocating.
-pub fn shell_join<T: CommandWord>(alloc: Global, words: &[T]) -> Result<String, OutOfMemory>
-    ensures { IfOk result (λ joined. string_bytes joined ≡ shell_words (map T.text words.now)) }
+pub fn shell_join(alloc: Global, command: &CommandLine) -> Result<String, OutOfMemory>
+    ensures { IfOk result (λ joined. string_bytes joined ≡ shell_words command.now) }
 {
     let mut joined = String::new(alloc);
-    match write_shell_words(&mut joined, words) {
+    match write_shell_words(&mut joined, command) {
         Ok(()) => Ok(joined),
         Err(_) => Err(OutOfMemory),
     }
 }
 
-/// Writes words as a shell reads them, separated by single spaces.
+/// Writes the words of a command as a shell reads them, separated by single spaces.
 ///
 /// ```
-/// write_shell_words(&mut out, &["echo", "a b"])?;
+/// write_shell_words(&mut out, &CommandLine::from_words(alloc, &["echo", "a b"])?)?;
 /// assert_eq!(out.as_str(), "echo 'a b'");
 /// ```
 ///
@@ -69,49 +45,50 @@ pub fn shell_join<T: CommandWord>(alloc: Global, words: &[T]) -> Result<String, 
 ///
 /// The writer's fault. It has accepted a prefix of the text.
 #[tactic(auto, unfolding(crate::specs::Quoting::shell_words))]
-pub fn write_shell_words<W: WriteStr, T: CommandWord>(
-    w: &mut W,
-    words: &[T],
-) -> Result<(), WriteFault>
-    ensures { Puts W.meaning w.old (shell_words (map T.text words.now)) result w.new }
+pub fn write_shell_words<W: WriteStr>(w: &mut W, command: &CommandLine) -> Result<(), WriteFault>
+    ensures { Puts W.meaning w.old (shell_words command.now) result w.new }
 {
-    match words.split_first() {
+    let mut words = command.words();
+    match words.next() {
         None => Ok(()),
-        Some((command, args)) => write_shell_command(w, command.as_text(), args),
+        Some(word) => {
+            write_shell_word(w, word)?;
+            write_words_after(w, " ", words)
+        }
     }
 }
 
-/// Writes a command and its arguments as a shell reads them, separated by single spaces.
+/// Writes a program and its arguments as a shell reads them, separated by single spaces.
 ///
 /// ```
-/// write_shell_command(&mut out, "echo", &["a b"])?;
+/// write_shell_command(&mut out, "echo", &CommandLine::from_words(alloc, &["a b"])?)?;
 /// assert_eq!(out.as_str(), "echo 'a b'");
 /// ```
 ///
 /// # Errors
 ///
 /// The writer's fault. It has accepted a prefix of the text.
-pub fn write_shell_command<W: WriteStr, T: CommandWord>(
+#[tactic(auto, unfolding(crate::specs::Quoting::shell_words))]
+pub fn write_shell_command<W: WriteStr>(
     w: &mut W,
-    command: &str,
-    args: &[T],
+    program: &str,
+    args: &CommandLine,
 ) -> Result<(), WriteFault>
-    ensures { Puts W.meaning w.old (shell_words (command.now ∷ map T.text args.now)) result w.new }
+    ensures { Puts W.meaning w.old (shell_words (program.now ∷ args.now)) result w.new }
 {
-    write_shell_word(w, command)?;
-    write_words_after(w, " ", args)
+    write_shell_word(w, program)?;
+    write_words_after(w, " ", args.words())
 }
 
-fn write_words_after<W: WriteStr, T: CommandWord>(
+fn write_words_after<W: WriteStr>(
     w: &mut W,
     separator: &str,
-    words: &[T],
+    words: Words<'_>,
 ) -> Result<(), WriteFault>
-    ensures { Puts W.meaning w.old (flat_map (λ word. separator.now ++ shell_word (T.text word)) words.now) result
-        w.new }
+    ensures { Puts W.meaning w.old (flat_map (λ word. separator.now ++ shell_word word) words.entry) result w.new }
 {
     for word in words {
-        write_word_after(w, separator, word.as_text())?;
+        write_word_after(w, separator, word)?;
     }
     Ok(())
 }

@@ -1,11 +1,12 @@
 //! Setup scripts as a report shows them.
 
-ghost use Rattle.std.specs.Prelude.{◌≡◌, ◌∷◌, IfOk, Some, map, string_bytes};
+ghost use Rattle.std.specs.Prelude.{◌≡◌, ◌∷◌, IfOk, Some, string_bytes};
 ghost use Rattle.{report_text.specs.Instance.script_text, report_text.specs.Quoting.shell_words};
 ghost use Rattle.{writers.specs.Writer.Puts};
 
 use crate::helpers::instance::StressPart;
-use crate::helpers::quoting::{CommandWord, write_shell_command};
+use crate::helpers::quoting::write_shell_command;
+use run_names::command::CommandLine;
 use run_names::memory::OutOfMemory;
 use run_names::name::ScriptId;
 use run_names::stress::StressIndex;
@@ -26,7 +27,7 @@ use writers::write_str::{WriteFault, WriteStr};
 /// ```
 /// use run_names::name::ScriptId;
 /// let id = ScriptId::new(alloc, "s1")?;
-/// let args = [String::from_str(alloc, "an argument")?];
+/// let args = CommandLine::from_words(alloc, &["an argument"])?;
 /// let shown = DisplayScriptInstance::new(alloc, None, id, "cmd", &args, styles.script_id, styles.count)?;
 /// assert_eq!(shown.to_string(alloc)?.as_str(), "s1: cmd 'an argument'");
 /// ```
@@ -50,14 +51,14 @@ impl DisplayScriptInstance {
         stress_index: Option<StressIndex>,
         script_id: ScriptId,
         command: &str,
-        args: &[String],
+        args: &CommandLine,
         script_id_style: Style,
         count_style: Style,
     ) -> Result<DisplayScriptInstance, OutOfMemory>
         ensures stress_index { IfOk result (λ shown. shown.stress_index ≡ stress_index) }
         ensures script_id { IfOk result (λ shown. shown.script_id ≡ script_id) }
         ensures command { IfOk result
-            (λ shown. string_bytes shown.full_command ≡ shell_words (command.now ∷ map string_bytes args.now)) }
+            (λ shown. string_bytes shown.full_command ≡ shell_words (command.now ∷ args.now)) }
         ensures script_id_style { IfOk result (λ shown. shown.script_id_style ≡ script_id_style) }
         ensures count_style { IfOk result (λ shown. shown.count_style ≡ count_style) }
     {
@@ -102,18 +103,18 @@ impl fmt::Display for DisplayScriptInstance {
 ///
 /// The writer's fault. It has accepted a prefix of the text.
 #[tactic(auto, unfolding(crate::specs::Instance::script_text))]
-pub fn write_script_instance<W: WriteStr, T: CommandWord>(
+pub fn write_script_instance<W: WriteStr>(
     w: &mut W,
     stress_index: Option<StressIndex>,
     script_id: &ScriptId,
     command: &str,
-    args: &[T],
+    args: &CommandLine,
     script_id_style: Style,
     count_style: Style,
 ) -> Result<(), WriteFault>
     ensures { Puts W.meaning w.old
         (script_text script_id_style count_style stress_index script_id.now
-        (shell_words (command.now ∷ map T.text args.now)))
+        (shell_words (command.now ∷ args.now)))
         result w.new }
 {
     StressPart(&count_style, &stress_index).write_to(w)?;

@@ -1,4 +1,4 @@
--- What a text spells, step by step (for `read_text`, `read_words`, `unescape_in_place`).
+-- What a text spells, step by step (for `read_text`, `read_command_line`, `unescape_in_place`).
 use Rattle.std.proofs.Common.{◌≡◌, ℕ, zero, suc, List, [], ◌∷◌, ◌++◌, drop, refl, ap, sym, ◌∙◌, append_assoc}
 use Rattle.std.proofs.Common.{append-nil, Option, Some, None}
 use Rattle.std.{proofs.lemmas.Iterator.Adapters.option_map_id, specs.Borrow.Bor, specs.Option.option_and_then}

@@ -5,6 +5,7 @@ use report_text::helpers::paths::is_relative;
 use report_text::helpers::plural::*;
 use report_text::helpers::*;
 use run_model::abort::{AbortDescription, DescriptionText};
+use run_model::command::CommandLine;
 use run_model::config::NextestRunMode;
 use run_model::name::{OwnedTestInstanceId, ScriptId, TestCaseName};
 use run_model::stress::StressIndex;
@@ -132,9 +133,10 @@ fn durations(rt: HostRuntime) -> Result<(), Fail> {
 
 #[test]
 fn commands(rt: HostRuntime) -> Result<(), Fail> {
-    let joined = shell_join(rt.alloc(), &["cargo", "", "it's", "a=b"])?;
+    let command = CommandLine::from_words(rt.alloc(), &["cargo", "", "it's", "a=b"])?;
+    let joined = shell_join(rt.alloc(), &command)?;
     expect_text(&rt, joined.as_str(), "cargo '' 'it'\\''s' a=b");
-    let args = [String::from_str(rt.alloc(), "an argument")?];
+    let args = CommandLine::from_words(rt.alloc(), &["an argument"])?;
     let script_id = ScriptId::new(rt.alloc(), "s1")?;
     let first = StressIndex {
         current: 0,

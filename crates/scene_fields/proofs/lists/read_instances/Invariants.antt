@@ -1,16 +1,12 @@
-use Rattle.std.proofs.Common.{◌≡◌, ◌++◌, length, map, string_bytes}
+use Rattle.std.proofs.Common.{◌≡◌, ◌++◌, length}
 use Rattle.std.specs.Option.{option_map}
-use Rattle.std.specs.Vec.Iter.{into_iter_items, into_iter_len}
 use Rattle.scene_fields.specs.Lists.{instances_in, instances_of}
 use Rattle.scene_fields.proofs.lists.read_instances.Given as goal
 
 -- the tests so far, and then those of the words that are left, are all
 abbrev pub invariant-loop-binary_id : goal.invariant-loop-binary_id
-invariant-loop-binary_id l = record {
-  len : into_iter_len l.rest ≡ length (into_iter_items l.rest);
-  all : instances_in l.fn.field
-      ≡ option_map (λ others. l.instances.items ++ others) (instances_of (map string_bytes (into_iter_items l.rest)));
-}
+invariant-loop-binary_id l = instances_in l.fn.field
+    ≡ option_map (λ others. l.instances.items ++ others) (instances_of l.rest)
 
 abbrev pub decreases-loop-binary_id : goal.decreases-loop-binary_id
-decreases-loop-binary_id l = into_iter_len l.rest
+decreases-loop-binary_id l = length l.rest

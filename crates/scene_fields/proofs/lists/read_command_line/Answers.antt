@@ -7,7 +7,7 @@ use Rattle.std.{specs.Option.option_map}
 use Rattle.scene_fields.specs.Lists.{Words, begins_with_comma, in_first_word, list_words}
 use Rattle.scene_fields.specs.{Texts.LacksEscapes, Texts.escape_byte, Texts.AddsStretch}
 use Rattle.scene_fields.proofs.lemmas.Unescaped.{alike, all_read, bad_escape, escape_read}
-use Rattle.scene_fields.proofs.lists.read_words.Goals as goal
+use Rattle.scene_fields.proofs.lists.read_command_line.Goals as goal
 
 -- some words and a part of the next one were read; the rest of the list is still to be read
 module _ (whole : Option Words) (words : Words) (word rest : List ℕ)
@@ -47,24 +47,14 @@ no-comma : (t : List ℕ) → ((rest : List ℕ) → t ≢ 44 ∷ rest) → begi
 no-comma [] h = refl
 no-comma (c ∷ t) h = false_from_ne_true (c == 44) (λ p. h t (ap (λ b. b ∷ t) (grind (arith, nat_tests, p))))
 
--- a word was pushed after others
-pushed : (words more : List (String Global)) (word : String Global) (t : List ℕ) → more ≡ words ++ (word ∷ [])
-    → string_bytes word ≡ t → map string_bytes more ≡ map string_bytes words ++ t ∷ []
-pushed words more word t all is = ap (map string_bytes) all ∙ map-append string_bytes words (word ∷ [])
-    ∙ ap (λ u. map string_bytes words ++ u ∷ []) is
-
 pub loop-plain-preserved-in-Some-strip_prefix : goal.loop-plain-preserved-in-Some-strip_prefix
 loop-plain-preserved-in-Some-strip_prefix c =
     let parts = c.in-Some.ensures.parts in
     let comma : c.in-Some.escape.now ≡ 44 ∷ c.in-Some-strip_prefix.after.now = strip_prefix_char 44
     c.in-Some.escape.now (Some c.in-Some-strip_prefix.after) c.in-Some-strip_prefix.ensures.cases (omega arith) in
-    let nothing : string_bytes c.replace.new.dest ≡ [] = ap string_bytes c.replace.ensures.after
-    ∙ c.new.ensures.bytes in
-    let more = pushed _ _ _ _ c.in_ok-push.ensures.items
-    (ap string_bytes c.replace.ensures.value ∙ c.in_ok-push_str.ensures.bytes) in
     record {
       valid = search rules;
-      read = rw (more, nothing) (word-ends _ _ _ _ c.loop-plain.invariant.read _ _ parts.1 parts.0 _ comma);
+      read = rw (c.in_ok-push_word.ensures.word, c.in_ok-push_word.ensures.taken) (word-ends _ _ _ _ c.loop-plain.invariant.read _ _ parts.1 parts.0 _ comma);
     }
 
 pub returns-in_default-2 : goal.returns-in_default-2
@@ -92,7 +82,6 @@ loop-plain-preserved c =
 pub returns : goal.returns
 returns c =
     let some : bytes_eq c.args.field.now (codes "-") ≡ false = sym c.eq.ensures ∙ c.if-eq.false in
-    let all = pushed _ _ _ _ c.in_ok-push-2.ensures.items c.in_ok-push_str-2.ensures.bytes in
     rw some
-    (ap (λ ws. Some ws) all
+    (ap (λ ws. Some ws) c.in_ok-push_word-2.ensures.word
     ∙ sym (word-ends-list _ _ _ _ c.loop-plain.invariant.read c.in_default.ensures.parts))
