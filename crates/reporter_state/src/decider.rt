@@ -6,9 +6,9 @@ ghost use Rattle.reporter_state.specs.Names.{is_asked_of, lacks_output, load_if,
 ghost use Rattle.reporter_state.specs.Names.{loads_script, needed_answer};
 ghost use Rattle.text_parts.specs.Names.{RecordedOutput, RecordingSpec, OutputEventKind, TestEventKind};
 ghost use Rattle.{run_model.specs.Names.recorded_kind, run_model.specs.Names.summary_of};
-ghost use Rattle.{reporter_state.specs.Names.needed_output, reporter_state.specs.Names.unread_call};
-ghost use Rattle.std.specs.Prelude.{◌≡◌, IfSome, None, Some, false};
-ghost use Rattle.std.specs.{Option.is_some, Option.option_map};
+ghost use Rattle.{reporter_state.specs.Names.unread_call, run_model.specs.Names.has_loaded_output};
+ghost use Rattle.std.specs.Prelude.{◌≡◌, IfSome, None, Some, false, not};
+ghost use Rattle.std.specs.{Option.is_some, Option.option_map_or};
 
 use crate::faults::WriteEventError;
 use run_model::call::ReportCall;
@@ -16,7 +16,7 @@ use run_model::config::TestOutputDisplay;
 use run_model::event::{TestEvent, TestEventKind};
 use run_model::info::InfoResponse;
 use run_model::level::StatusLevel;
-use run_model::output::{ChildExecutionOutputDescription, LiveSpec, OutputSpec, RecordingSpec};
+use run_model::output::{OutputSpec, RecordingSpec};
 use run_model::output_event::{LoadOutput, OutputEventKind};
 use run_model::status::{ExecutionResultDescription, ExecutionStatuses};
 use store_text::config::StoreConfig;
@@ -217,42 +217,30 @@ impl OutputLoadDecider {
         }
     }
 
-    fn needed_output<'e>(
-        &self,
-        kind: &'e TestEventKind<'_>,
-    ) -> Option<&'e ChildExecutionOutputDescription<LiveSpec>>
-        ensures { option_map (λ o. o.now) result ≡ needed_output self.now kind.now }
+    // Whether the event needs output that is not loaded. Almost all output is loaded, so that is asked first.
+    fn lacks_output(&self, kind: &TestEventKind<'_>) -> bool
+        ensures { result ≡ lacks_output self.now kind.now }
     {
         match kind {
             TestEventKind::SetupScriptFinished { run_status, .. } => {
-                loads_script(&run_status.result).then_some(&run_status.output)
+                !run_status.output.has_loaded_output() && loads_script(&run_status.result)
             }
             TestEventKind::TestAttemptFailedWillRetry {
                 run_status,
                 failure_output,
                 ..
-            } => self
-                .loads_attempt(*failure_output)
-                .then_some(&run_status.output),
+            } => !run_status.output.has_loaded_output() && self.loads_attempt(*failure_output),
             TestEventKind::TestFinished {
                 success_output,
                 failure_output,
                 run_statuses,
                 ..
-            } => self
-                .loads_finish(*success_output, *failure_output, run_statuses)
-                .then_some(&run_statuses.last_status().output),
-            TestEventKind::InfoResponse { response, .. } => needed_answer(response),
-            _ => None,
-        }
-    }
-
-    fn lacks_output(&self, kind: &TestEventKind<'_>) -> bool
-        ensures { result ≡ lacks_output self.now kind.now }
-    {
-        match self.needed_output(kind) {
-            Some(output) => !output.has_loaded_output(),
-            None => false,
+            } => {
+                !run_statuses.last_status().output.has_loaded_output()
+                    && self.loads_finish(*success_output, *failure_output, run_statuses)
+            }
+            TestEventKind::InfoResponse { response, .. } => lacks_answer(response),
+            _ => false,
         }
     }
 
@@ -342,16 +330,15 @@ fn loads_script(outcome: &ExecutionResultDescription) -> bool
     !outcome.is_success()
 }
 
-fn needed_answer<'e>(
-    response: &'e InfoResponse<'_>,
-) -> Option<&'e ChildExecutionOutputDescription<LiveSpec>>
-    ensures { option_map (λ o. o.now) result ≡ needed_answer response.now }
+// Whether the response needs output that is not loaded.
+fn lacks_answer(response: &InfoResponse<'_>) -> bool
+    ensures { result ≡ option_map_or (λ o. not (has_loaded_output o)) (needed_answer response.now) false }
 {
     let (state, output) = match response {
         InfoResponse::SetupScript(response) => (response.state.get(), response.output.get()),
         InfoResponse::Test(response) => (response.state.get(), response.output.get()),
     };
-    state.has_valid_output().then_some(output)
+    !output.has_loaded_output() && state.has_valid_output()
 }
 
 // Only a failed attempt is retried: an event that says that a successful one will be retried is an error.

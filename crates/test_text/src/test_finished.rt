@@ -116,6 +116,7 @@ fn write_line_at_once<W: WriteStr>(
 
 // Failed tests show their output even if the status level hides their line.
 #[tactic(auto, unfolding(crate::specs::TestFinished::output_at_once))]
+#[inline(always)]
 fn write_output_at_once<W: WriteStr>(
     w: &mut W,
     settings: &Settings,

@@ -157,6 +157,7 @@ impl Settings {
 
     /// Whether the summary lists a finished test: for its output, or for its level.
     #[tactic(auto, unfolding(crate::specs::Finish::is_final_wanted))]
+    #[inline(always)]
     pub fn is_final_wanted(
         &self,
         display: TestOutputDisplay,
