@@ -86,6 +86,7 @@ pub fn write_test_retry_started<W: WriteStr>(
 }
 
 #[tactic(auto, unfolding(crate::specs::TestStarted::command_text))]
+#[inline(always)]
 fn write_command_line<W: WriteStr>(
     w: &mut W,
     settings: &Settings,
