@@ -60,11 +60,11 @@ pub enum OutputHeader {
         /// The characters of the bars.
         theme_characters: ThemeCharacters,
         /// How many characters the bar on the left has, a space where it is absent.
-        left: Option<usize>,
+        left: Option<u8>,
         /// The name.
         name: OutputName,
         /// How many characters the bar on the right has.
-        right: usize,
+        right: u8,
     },
     /// The name and a colon, as `stdout:`.
     Label {
@@ -79,6 +79,7 @@ impl WriteText for OutputHeader {
     ghost text = { header_text };
 
     #[tactic(auto, unfolding(crate::specs::Header::header_text))]
+    #[inline(always)]
     fn write_to<W: WriteStr>(&self, w: &mut W) -> Result<(), WriteFault> {
         match *self {
             OutputHeader::Bars {
@@ -102,15 +103,16 @@ impl WriteText for OutputHeader {
 
 // A bar of the given number of characters, or a space.
 #[derive(Clone, Copy)]
-struct Bar(ThemeCharacters, Option<usize>);
+struct Bar(ThemeCharacters, Option<u8>);
 
 impl WriteText for Bar {
     ghost text = { λ b. bar_text b.0 b.1 };
 
+    #[inline(always)]
     fn write_to<W: WriteStr>(&self, w: &mut W) -> Result<(), WriteFault> {
-        match self.1 {
-            None => w.write_str(" "),
-            Some(width) => self.0.write_hbar(w, width),
+        match *self {
+            Bar(_, None) => w.write_str(" "),
+            Bar(theme, Some(width)) => theme.write_hbar(w, usize::from(width)),
         }
     }
 }
