@@ -1,7 +1,7 @@
-use Rattle.std.proofs.Common.{◌≡◌, ◌∷◌, ◌∙◌, [], None, Some, ap, arith, bytes_eq, codes, false, map, rules}
-use Rattle.std.proofs.Common.{string_bytes, sym, ◌≢◌, ℕ, List, ◌++◌, ◌==◌, String, Global, refl, append_assoc}
+use Rattle.std.proofs.Common.{◌≡◌, ◌∷◌, ◌∙◌, [], None, Some, ap, arith, bytes_eq, codes, false, rules}
+use Rattle.std.proofs.Common.{sym, ◌≢◌, ℕ, List, ◌++◌, ◌==◌, refl, append_assoc}
 use Rattle.std.proofs.Common.{append-nil, Option}
-use Rattle.std.{proofs.lemmas.Str.Pattern.strip_prefix_char, proofs.lemmas.List.map-append}
+use Rattle.std.{proofs.lemmas.Str.Pattern.strip_prefix_char}
 use Rattle.std.{proofs.lemmas.Bool.false_from_ne_true, proofs.lemmas.Bool.Decides.nat_tests, specs.Borrow.Bor}
 use Rattle.std.{specs.Option.option_map}
 use Rattle.scene_fields.specs.Lists.{Words, begins_with_comma, in_first_word, list_words}
