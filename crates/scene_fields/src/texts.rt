@@ -94,7 +94,7 @@ pub fn read_bytes(alloc: Global, field: &str) -> Result<Option<Vec<u8>>, OutOfMe
 }
 
 /// The byte that an escape gives, and how many bytes the escape has after its backslash; `escape` begins after that. An
-/// `x` escape gives at most `most`. None if the escape is not valid.
+/// `x` escape gives at most `most`. None if the escape is not valid. Those that most outputs have are tested first.
 #[inline(always)]
 pub(crate) fn escape_at(escape: &[u8], most: u8) -> Option<(u8, usize)>
     ensures byte { option_map (λ x. x.0) result ≡ escape_byte most escape.now }
@@ -103,22 +103,22 @@ pub(crate) fn escape_at(escape: &[u8], most: u8) -> Option<(u8, usize)>
         × (slice_index escape.now (x.1 - 1) < 128)) }
 {
     match escape {
-        [b'n', ..] => Some((b'\n', 1)),
-        [b't', ..] => Some((b'\t', 1)),
-        [b'r', ..] => Some((b'\r', 1)),
         [b'e', ..] => Some((b'\x1b', 1)),
-        [b'\\', ..] => Some((b'\\', 1)),
+        [b'n', ..] => Some((b'\n', 1)),
         [b'x', high, low, ..] => {
             let byte = hex_byte(*high, *low)?;
             if byte <= most { Some((byte, 3)) } else { None }
         }
+        [b't', ..] => Some((b'\t', 1)),
+        [b'r', ..] => Some((b'\r', 1)),
+        [b'\\', ..] => Some((b'\\', 1)),
         _ => None,
     }
 }
 
 // The byte that two hexadecimal digits write.
 #[inline(always)]
-pub(crate) fn hex_byte(high: u8, low: u8) -> Option<u8>
+fn hex_byte(high: u8, low: u8) -> Option<u8>
     ensures { SomeIff result ((digit_value high < 16) × (digit_value low < 16))
         (16 * digit_value high + digit_value low) }
 {
@@ -131,19 +131,23 @@ pub(crate) fn hex_byte(high: u8, low: u8) -> Option<u8>
 }
 
 // The value of each byte as a hexadecimal digit, and 16 for any other byte.
-static VALUES: [u8; 256] = [
-    16, 16, 16, 16, 16, 16, 16, 16, 16, 16, 16, 16, 16, 16, 16, 16, 16, 16, 16, 16, 16, 16, 16, 16,
-    16, 16, 16, 16, 16, 16, 16, 16, 16, 16, 16, 16, 16, 16, 16, 16, 16, 16, 16, 16, 16, 16, 16, 16,
-    0, 1, 2, 3, 4, 5, 6, 7, 8, 9, 16, 16, 16, 16, 16, 16, 16, 10, 11, 12, 13, 14, 15, 16, 16, 16,
-    16, 16, 16, 16, 16, 16, 16, 16, 16, 16, 16, 16, 16, 16, 16, 16, 16, 16, 16, 16, 16, 16, 16, 10,
-    11, 12, 13, 14, 15, 16, 16, 16, 16, 16, 16, 16, 16, 16, 16, 16, 16, 16, 16, 16, 16, 16, 16, 16,
-    16, 16, 16, 16, 16, 16, 16, 16, 16, 16, 16, 16, 16, 16, 16, 16, 16, 16, 16, 16, 16, 16, 16, 16,
-    16, 16, 16, 16, 16, 16, 16, 16, 16, 16, 16, 16, 16, 16, 16, 16, 16, 16, 16, 16, 16, 16, 16, 16,
-    16, 16, 16, 16, 16, 16, 16, 16, 16, 16, 16, 16, 16, 16, 16, 16, 16, 16, 16, 16, 16, 16, 16, 16,
-    16, 16, 16, 16, 16, 16, 16, 16, 16, 16, 16, 16, 16, 16, 16, 16, 16, 16, 16, 16, 16, 16, 16, 16,
-    16, 16, 16, 16, 16, 16, 16, 16, 16, 16, 16, 16, 16, 16, 16, 16, 16, 16, 16, 16, 16, 16, 16, 16,
-    16, 16, 16, 16, 16, 16, 16, 16, 16, 16, 16, 16, 16, 16,
-];
+static VALUES: [u8; 256] = *b"\
+    \x10\x10\x10\x10\x10\x10\x10\x10\x10\x10\x10\x10\x10\x10\x10\x10\
+    \x10\x10\x10\x10\x10\x10\x10\x10\x10\x10\x10\x10\x10\x10\x10\x10\
+    \x10\x10\x10\x10\x10\x10\x10\x10\x10\x10\x10\x10\x10\x10\x10\x10\
+    \x00\x01\x02\x03\x04\x05\x06\x07\x08\x09\x10\x10\x10\x10\x10\x10\
+    \x10\x0a\x0b\x0c\x0d\x0e\x0f\x10\x10\x10\x10\x10\x10\x10\x10\x10\
+    \x10\x10\x10\x10\x10\x10\x10\x10\x10\x10\x10\x10\x10\x10\x10\x10\
+    \x10\x0a\x0b\x0c\x0d\x0e\x0f\x10\x10\x10\x10\x10\x10\x10\x10\x10\
+    \x10\x10\x10\x10\x10\x10\x10\x10\x10\x10\x10\x10\x10\x10\x10\x10\
+    \x10\x10\x10\x10\x10\x10\x10\x10\x10\x10\x10\x10\x10\x10\x10\x10\
+    \x10\x10\x10\x10\x10\x10\x10\x10\x10\x10\x10\x10\x10\x10\x10\x10\
+    \x10\x10\x10\x10\x10\x10\x10\x10\x10\x10\x10\x10\x10\x10\x10\x10\
+    \x10\x10\x10\x10\x10\x10\x10\x10\x10\x10\x10\x10\x10\x10\x10\x10\
+    \x10\x10\x10\x10\x10\x10\x10\x10\x10\x10\x10\x10\x10\x10\x10\x10\
+    \x10\x10\x10\x10\x10\x10\x10\x10\x10\x10\x10\x10\x10\x10\x10\x10\
+    \x10\x10\x10\x10\x10\x10\x10\x10\x10\x10\x10\x10\x10\x10\x10\x10\
+    \x10\x10\x10\x10\x10\x10\x10\x10\x10\x10\x10\x10\x10\x10\x10\x10";
 
 // The value of a hexadecimal digit, and 16 for any other byte. Random digits cannot be predicted, so nothing branches.
 #[inline(always)]

@@ -3,13 +3,12 @@
 //! What a text spells is never longer than the text, so a large output is decoded in place, without a second buffer of
 //! its size. It is moved in blocks, since most of an output is between escapes.
 
-ghost use Rattle.std.specs.Prelude.{◌≡◌, ◌≢◌, ◌<◌, ◌≤◌, ◌-◌, IfSome, length, slice_index, take};
+ghost use Rattle.std.specs.Prelude.{◌≡◌, ◌≢◌, ◌<◌, ◌≤◌, ◌-◌, length, slice_index, take};
 ghost use Rattle.std.specs.Option.{option_map};
-ghost use Rattle.scene_fields.specs.Texts.{LacksEscapes, MovesPlain, bytes_in, escape_byte, escape_len, text_in};
-ghost use Rattle.scene_fields.specs.Texts.{unescaped};
+ghost use Rattle.scene_fields.specs.Texts.{LacksEscapes, MovesPlain, bytes_in, text_in, unescaped};
 
 use super::marks::{first_place, load_block, match_mask};
-use super::texts::{ASCII, escape_at, hex_byte};
+use super::texts::{ASCII, escape_at};
 use std::simd::prelude::*;
 
 /// How many bytes a block has.
@@ -39,7 +38,7 @@ fn unescape_up_to(bytes: &mut [u8], most: u8) -> Option<usize>
     let mut to = 0;
     while from < bytes.len() {
         if bytes[from] == b'\\' {
-            let (byte, len) = likely_escape_at(&bytes[from + 1..], most)?;
+            let (byte, len) = escape_at(&bytes[from + 1..], most)?;
             bytes[to] = byte;
             to += 1;
             from += 1 + len;
@@ -55,25 +54,6 @@ fn unescape_up_to(bytes: &mut [u8], most: u8) -> Option<usize>
         }
     }
     Some(to)
-}
-
-// Like `escape_at`. Most escapes of an output begin a colour or end a line, so these two are tested first.
-#[inline(always)]
-fn likely_escape_at(escape: &[u8], most: u8) -> Option<(u8, usize)>
-    ensures byte { option_map (λ x. x.0) result ≡ escape_byte most escape.now }
-    ensures len { IfSome result
-        (λ x. (x.1 ≡ escape_len escape.now) × (1 ≤ x.1) × (x.1 ≤ 3) × (x.1 ≤ length escape.now)
-        × (slice_index escape.now (x.1 - 1) < 128)) }
-{
-    match escape {
-        [b'e', ..] => Some((b'\x1b', 1)),
-        [b'n', ..] => Some((b'\n', 1)),
-        [b'x', high, low, ..] => {
-            let byte = hex_byte(*high, *low)?;
-            if byte <= most { Some((byte, 3)) } else { None }
-        }
-        _ => escape_at(escape, most),
-    }
 }
 
 // Moves the bytes before the next escape down to `to`, at most a block of them, and returns how many it moved.
