@@ -1,13 +1,11 @@
 -- The usual lines, and what they say.
 use Rattle.std.specs.Prelude.{◌≡◌, ℕ, ℤ, List, [], ◌∷◌, false, Option, None, Some, Ok, codes}
-use Rattle.run_model.specs.Names.{Attempt}
-use Rattle.run_model.specs.declared.{stats.RunStats.RunStats}
+use Rattle.{run_model.specs.Names.OwnedTestInstanceId}
 use Rattle.run_model.specs.declared.status.{ExecutionResultDescription.ExecutionResultDescription}
-use Rattle.scene_fields.specs.{Calls.event_at, Calls.test_named, Calls.SceneEvent, Counts.stats_in, Results.exit_code}
-use Rattle.scene_fields.specs.{Numbers.number_in, Results.result_in, Split.split_on, Texts.text_in}
-use Rattle.run_model.specs.Names.{OwnedTestInstanceId}
-use Rattle.scene_fields.specs.Fields.{with_attempts}
-use Rattle.scene_unit_lines.specs.Lines.{done_line_fields, retry_numbered, stream_in}
+use Rattle.scene_fields.specs.{Calls.event_at, Calls.test_named, Calls.SceneEvent, Numbers.nanos_in, Numbers.number_in}
+use Rattle.scene_fields.specs.{Results.exit_code, Results.result_in, Split.split_on, Texts.text_in, Values.display_in}
+use Rattle.scene_fields.specs.Values.{flaky_in}
+use Rattle.scene_unit_lines.specs.Lines.{retry_numbered}
 use Rattle.scene_reader.specs.SceneTexts.{LinesBefore, line_place, line_words, with_stored}
 use Rattle.scene_reader.specs.SceneTexts.ParsedLine.{EventLine}
 use Rattle.scene_reader.specs.declared.usual.{NameFields.NameFields, UsualDone.UsualDone, UsualFields.UsualFields}
@@ -22,22 +20,19 @@ abbrev pub usual_result : Option ℤ → ExecutionResultDescription
 usual_result None = outcome.Pass
 usual_result (Some code) = exit_code false code
 
-abbrev pub usual_attempt : UsualDone → Attempt
-usual_attempt u = record {
-  retry_data = retry_numbered u.values.total_attempts 1;
-  output = wrote.Output (Some (usual_result u.values.exit_code)) (streams.Split u.stdout u.stderr) None None;
-  result = usual_result u.values.exit_code;
-  time_taken = u.values.time_taken;
-  is_slow = false;
-}
-
 -- the event of a usual `done` line with these names
 abbrev pub usual_event : OwnedTestInstanceId → UsualDone → SceneEvent
 usual_event names u = event_at 0
     (event.TestFinished None (test_named names.binary_id names.test_name) u.values.success_output
     u.values.failure_output (record {
       earlier = [];
-      last = usual_attempt u;
+      last = record {
+        retry_data = retry_numbered u.values.total_attempts 1;
+        output = wrote.Output (Some (usual_result u.values.exit_code)) (streams.Split u.stdout u.stderr) None None;
+        result = usual_result u.values.exit_code;
+        time_taken = u.values.time_taken;
+        is_slow = false;
+      };
       flaky_result = u.values.flaky_result;
     }) u.current_stats)
 
@@ -55,26 +50,14 @@ abbrev pub BeginsWithOutcome : List ℕ → ℕ → Option ℤ → List ℕ → 
 BeginsWithOutcome t n code rest = (total outcome : List ℕ) × (split_on 9 t ≡ total ∷ outcome ∷ split_on 9 rest)
     × (number_in 32 total ≡ Some n) × (result_in outcome ≡ Some (usual_result code))
 
--- the fields say this behind `done`, with the names, the statistics and the streams that their fields spell
+-- the fields of a usual `done` line
 abbrev pub SaysFields : List (List ℕ) → UsualFields → Type 0
-SaysFields fields u = (behind : List (List ℕ)) × (fields ≡ codes "done" ∷ behind) × ((n : ℕ)
-    (names : OwnedTestInstanceId) (stats : RunStats) (stdout stderr : Option (List ℕ))
-    → AreNames u.names names → stats_in u.stats.now ≡ Some stats → stream_in u.stdout.now ≡ Some stdout
-    → stream_in u.stderr.now ≡ Some stderr
-    → (end : ℕ) × (with_attempts done_line_fields (record { number = n; left = behind; noted = None })
-    ≡ Ok (
-      usual_event names (record {
-        values = u.values;
-        current_stats = stats;
-        stdout = stdout;
-        stderr = stderr;
-      }),
-      record {
-        number = end;
-        left = [];
-        noted = None;
-      },
-    )))
+SaysFields fields u = (success failure flaky total outcome nanos : List ℕ) × (fields
+    ≡ codes "done" ∷ codes "-" ∷ u.names.binary_id.now ∷ u.names.test_name.now ∷ success ∷ failure ∷ flaky ∷ u.stats.now
+    ∷ total ∷ outcome ∷ nanos ∷ codes "0" ∷ codes "split" ∷ u.stdout.now ∷ u.stderr.now ∷ codes "-" ∷ codes "-" ∷ [])
+    × (display_in success ≡ Some u.values.success_output) × (display_in failure ≡ Some u.values.failure_output)
+    × (flaky_in flaky ≡ Some u.values.flaky_result) × (number_in 32 total ≡ Some u.values.total_attempts)
+    × (result_in outcome ≡ Some (usual_result u.values.exit_code)) × (nanos_in nanos ≡ Some u.values.time_taken)
 
 -- the line says this event, whatever the lines before it
 abbrev pub SaysEvent : List ℕ → SceneEvent → Type 0

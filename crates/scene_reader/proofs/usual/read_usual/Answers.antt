@@ -1,8 +1,25 @@
-use Rattle.std.proofs.Common.{◌∙◌, sym}
-use Rattle.scene_reader.proofs.lemmas.Usual.{usual_value}
+use Rattle.std.proofs.Common.{◌∙◌, refl, sym}
+use Rattle.scene_reader.specs.Names.{after_streams, all_attempts, attempt_fields, attempts_from, event_rows}
+use Rattle.scene_reader.specs.Names.{instance_fields, output_fields, spelled_output_fields}
 use Rattle.scene_reader.proofs.usual.read_usual.Goals as goal
 
 pub returns : goal.returns
-returns c = usual_value _ c.in-Some.usual _ _ _ _ c.in-Some.ensures (rw c.in-Some-4.is at c.in_ok-read.ensures)
-    (sym c.in-Some-read_stats.ensures) (sym c.in_ok-stdout.ensures ∙ c.in-Some-2.is)
-    (sym c.in_ok-stderr.ensures ∙ c.in-Some-3.is)
+unfolding after_streams all_attempts attempt_fields attempts_from event_rows instance_fields output_fields
+    spelled_output_fields
+returns c before =
+    let says = c.in-Some.ensures in
+    let named = rw c.in-Some-4.is at c.in_ok-read.ensures in
+    rw (
+      says.6,
+      named.0,
+      named.1,
+      says.7,
+      says.8,
+      says.9,
+      sym c.in-Some-read_stats.ensures,
+      says.10,
+      says.11,
+      says.12,
+      sym c.in_ok-stdout.ensures ∙ c.in-Some-2.is,
+      sym c.in_ok-stderr.ensures ∙ c.in-Some-3.is,
+    ) refl
