@@ -1,9 +1,8 @@
--- What a text spells, step by step (for `read_text`, `read_command_line`, `unescape_in_place`).
+-- What a text spells, step by step (for `read_text`, `read_command_line`, `unescape_up_to`).
 use Rattle.std.proofs.Common.{◌≡◌, ℕ, zero, suc, List, [], ◌∷◌, ◌++◌, drop, refl, ap, sym, ◌∙◌, append_assoc}
 use Rattle.std.proofs.Common.{append-nil, Option, Some, None}
-use Rattle.std.{proofs.lemmas.Iterator.Adapters.option_map_id, specs.Borrow.Bor, specs.Option.option_and_then}
-use Rattle.std.{specs.Option.option_map}
-use Rattle.scene_fields.specs.Texts.{LacksEscapes, escape_byte, escape_len, unescaped_after, unescaped, AddsStretch}
+use Rattle.std.{proofs.lemmas.Iterator.Adapters.option_map_id, specs.Option.option_and_then, specs.Option.option_map}
+use Rattle.scene_fields.specs.Texts.{LacksEscapes, escape_byte, escape_len, unescaped_after, unescaped}
 
 map_twice : {X Y Z : Type 0} (g : Y → Z) (f : X → Y) (o : Option X)
     → option_map g (option_map f o) ≡ option_map (λ x. g (f x)) o
@@ -89,15 +88,6 @@ module _ (most : ℕ) (whole : Option (List ℕ)) (text rest : List ℕ)
         (ap (option_map (λ b t. b ∷ t)) gives) follows
         ∙ alike _ _ (λ t. sym (append_assoc (text ++ plain) (b ∷ []) t ∙ append_assoc text plain (b ∷ t)))
         (unescaped most after)
-
--- for a stretch of a text
-pub read_stretch : (whole : Option (List ℕ)) (text rest : List ℕ)
-    → whole ≡ option_map (λ t. text ++ t) (unescaped 127 rest) → (plain escape new : List ℕ) (after : Bor (List ℕ))
-    → rest ≡ plain ++ (92 ∷ escape) → LacksEscapes plain → AddsStretch text plain escape new after
-    → whole ≡ option_map (λ t. new ++ t) (unescaped 127 after.now)
-read_stretch whole text rest so_far plain escape new after r h f =
-    read_escape_next 127 whole text rest so_far plain escape r h f.byte after.now f.gives f.follows
-    ∙ ap (λ x. option_map (λ t. x ++ t) (unescaped 127 after.now)) (sym f.grown)
 
 pub plain_alone : (most : ℕ) (p : List ℕ) → LacksEscapes p → unescaped most p ≡ Some p
 plain_alone most p h = read_to_end most (unescaped most p) [] p (sym (option_map_id (unescaped most p))) h

@@ -1,5 +1,5 @@
 -- A usual line, whose call is passed to a sink (for `pass_done`, `pass_start`).
-use Rattle.std.proofs.Common.{◌≡◌, ℕ, ◌+◌, List, [], Result, Ok, Err, refl, inr, None}
+use Rattle.std.proofs.Common.{◌≡◌, ℕ, ◌+◌, List, [], Result, Ok, Err, inr, None}
 use Rattle.{std.specs.Result.IsErrAnd, run_model.specs.declared.call.ReportCall.ReportCall}
 use Rattle.command_line.specs.declared.fault.Fault.{Fault}
 use Rattle.scene_reader.specs.Names.{LinesRead, before_behind, before_next, call_by_names, line_place, line_words}

@@ -1,12 +1,12 @@
-use Rattle.std.proofs.Common.{◌+◌, ◌≤◌, ◌<◌, length, min, Some, subst, arith}
-use Rattle.memchr.specs.Find.{IsFirstByte, Nowhere, Passes, is_byte}
+use Rattle.std.proofs.Common.{◌+◌, Some, subst, arith, rules}
+use Rattle.memchr.specs.Find.{IsFirstByte, is_byte}
 use Rattle.scene_fields.proofs.lemmas.Marks.{all_left, next_left, none_left}
 use Rattle.scene_fields.proofs.marks.find_near.Goals as goal
 
 pub returns-then-marks-ne0 : goal.returns-then-marks-ne0
 returns-then-marks-ne0 c =
     let left = all_left c.args.byte c.args.bytes.now 0 0 _ (omega arith)
-    (λ (k : _) (low : 0 ≤ k) (high : k < min 0 (length c.args.bytes.now)) p. absurd (omega arith))
+    (search rules)
     c.marks_from-marks.ensures in
     subst (λ k. IsFirstByte (is_byte c.args.byte) c.args.bytes.now (Some k))
     {x = 0 + c.first_place.result} {y = c.first_place.result} (omega arith)
@@ -15,10 +15,9 @@ returns-then-marks-ne0 c =
 pub returns-then-marks-ne0-2 : goal.returns-then-marks-ne0-2
 returns-then-marks-ne0-2 c =
     let first = all_left c.args.byte c.args.bytes.now 0 0 _ (omega arith)
-    (λ (k : _) (low : 0 ≤ k) (high : k < min 0 (length c.args.bytes.now)) p. absurd (omega arith))
+    (search rules)
     c.marks_from-marks.ensures in
-    let none : Nowhere (Passes (is_byte c.args.byte) c.args.bytes.now) 0 (min 32 (length c.args.bytes.now)) =
-    none_left _ _ _ _ _ _ first c.if-marks-ne0.false in
+    let none = none_left _ _ _ _ _ _ first c.if-marks-ne0.false in
     let left = all_left c.args.byte c.args.bytes.now 0 32 _ (omega arith) none
     c.marks_from-marks-then-bytes-gt32.ensures in
     next_left _ _ _ _ _ _ left _ c.if-marks-ne0-2.true c.first_place-then-marks-ne0-2.ensures.first (omega arith)
