@@ -1,4 +1,3 @@
 pub mod Passes
 pub mod Tellings
 pub mod Usual
-pub mod UsualFields

@@ -157,7 +157,7 @@ fn cut_fields(line: &str) -> Option<UsualFields<'_>>
 
 // Reads how many attempts there can be, and the exit code of a failure, and cuts both off. A pass has no code.
 #[inline(always)]
-#[tactic(auto, using(crate::proofs::lemmas::UsualFields::one_passed))]
+#[tactic(auto, using(crate::proofs::lemmas::Usual::one_passed))]
 fn cut_outcome(line: &str) -> Option<(u32, Option<i32>, &str)>
     ensures { IfSome result (λ x. BeginsWithOutcome line.now x.0 x.1 x.2.now) }
 {
@@ -171,7 +171,7 @@ fn cut_outcome(line: &str) -> Option<(u32, Option<i32>, &str)>
 
 // Reads the exit code of a failure. A pass has none.
 #[inline(always)]
-#[tactic(auto, using(crate::proofs::lemmas::UsualFields::passed, crate::proofs::lemmas::UsualFields::failed))]
+#[tactic(auto, unfolding(scene_fields::specs::Results::result_in, scene_fields::specs::Split::cut))]
 fn read_outcome(field: &str) -> Option<Option<i32>>
     ensures { IfSome result (λ code. result_in field.now ≡ Some (usual_result code)) }
 {
@@ -183,7 +183,7 @@ fn read_outcome(field: &str) -> Option<Option<i32>>
 
 // Cuts off what follows the time of an attempt that was not slow: mostly two empty streams, and no error.
 #[inline(always)]
-#[tactic(auto, using(crate::proofs::lemmas::UsualFields::no_streams))]
+#[tactic(auto, unfolding(scene_fields::specs::Split::split_on))]
 fn cut_streams(line: &str) -> Option<(&str, &str)>
     ensures { IfSome result (λ x. split_on 9 line.now
         ≡ codes "0" ∷ codes "split" ∷ x.0.now ∷ x.1.now ∷ codes "-" ∷ codes "-" ∷ []) }
@@ -258,6 +258,7 @@ pub fn read_usual_start(
 
 // Cuts a usual `start` line into its fields.
 #[inline(always)]
+#[tactic(auto, unfolding(scene_fields::specs::Split::split_on))]
 fn cut_start(line: &str) -> Option<StartFields<'_>>
     ensures { IfSome result (λ u. split_on 9 line.now
         ≡ codes "start" ∷ codes "-" ∷ u.names.binary_id.now ∷ u.names.test_name.now ∷ u.stats.now ∷ u.command_line.now

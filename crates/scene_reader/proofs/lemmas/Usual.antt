@@ -1,11 +1,13 @@
--- A usual line, whose call is passed to a sink (for `pass_done`, `pass_start`).
-use Rattle.std.proofs.Common.{◌≡◌, ℕ, ◌+◌, List, [], Result, Ok, Err, inr, None}
+-- A usual line, whose call is passed to a sink (for `pass_done`, `pass_start`, `cut_outcome`).
+use Rattle.std.proofs.Common.{◌≡◌, ℕ, ◌+◌, List, [], ◌++◌, Result, Ok, Err, inr, None, refl}
+use Rattle.std.specs.Prelude.{codes}
 use Rattle.{std.specs.Result.IsErrAnd, run_model.specs.declared.call.ReportCall.ReportCall}
 use Rattle.command_line.specs.declared.fault.Fault.{Fault}
 use Rattle.scene_reader.specs.Names.{LinesRead, before_behind, before_next, call_by_names, line_place, line_words}
-use Rattle.scene_reader.specs.Names.{PassesValue, SceneEvent, Takes, with_stored}
+use Rattle.scene_reader.specs.Names.{PassesValue, SceneEvent, Takes, cut, number_in, result_in}
+use Rattle.scene_reader.specs.Names.{split_on, with_stored}
 use Rattle.scene_reader.specs.SceneTexts.ParsedLine.{EventLine}
-use Rattle.scene_reader.specs.Usual.{SaysEvent}
+use Rattle.scene_reader.specs.Usual.{BeginsWithOutcome, SaysEvent}
 
 module _ {K : Type 0} (takes : Takes K) (file line : List ℕ) (e : SceneEvent) (old : LinesRead) (given : K)
     (call : ReportCall) (new : LinesRead) (after : K) (line_says : SaysEvent line e) (says : call_by_names call ≡ e) where
@@ -29,3 +31,7 @@ module _ {K : Type 0} (takes : Takes K) (file line : List ℕ) (e : SceneEvent) 
     ok = tt;
     err = inr (EventLine e, [], line_says (before_next old), (call, says, rw refused taken));
   }
+
+pub one_passed : (t rest : List ℕ) → t ≡ codes "1\tpass\t" ++ rest → BeginsWithOutcome t 1 None rest
+unfolding split_on number_in result_in cut
+one_passed t rest is = (codes "1", codes "pass", rw is refl, refl, refl)
