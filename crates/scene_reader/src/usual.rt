@@ -231,6 +231,7 @@ fn read_written(alloc: Global, field: &str) -> Field<Option<ChildSingleOutput>>
 ///
 /// Memory was refused.
 #[inline(always)]
+#[tactic(auto, unfolding(crate::specs::EventLines::event_rows, scene_unit_lines::specs::Lines::instance_fields))]
 pub fn read_usual_start(
     alloc: Global,
     line: &str,
