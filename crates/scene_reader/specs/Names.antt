@@ -35,7 +35,7 @@ pub use Rattle.scene_reader.specs.SceneTexts.{line_here, line_place, line_value,
 pub use Rattle.scene_reader.specs.SceneTexts.{LinesBefore, no_lines, parsed_line, ParsedLine, ParsedLines, PassesValue}
 pub use Rattle.scene_reader.specs.SceneTexts.{plain_line, PlainLine, recorded_line, RecordedLine, RunLine, Takes}
 pub use Rattle.scene_reader.specs.SceneTexts.{text_lines, value_of, with_line, with_made, with_stored}
-pub use Rattle.scene_reader.specs.SceneTexts.{IsReadAgain}
+pub use Rattle.scene_reader.specs.SceneTexts.{IsReadAgain, words_behind}
 unfoldable pub use Rattle.scene_reader.specs.SceneTexts.{event_lines, line_from, line_read, lines_read}
 pub use Rattle.scene_reader.specs.declared.reader.LinesRead.{LinesRead}
 pub use Rattle.scene_unit_lines.specs.Lines.{attempt_number, by_row, combined_fields, output_fields_of, retry_numbered}

@@ -10,7 +10,8 @@ use Rattle.scene_reader.specs.SceneTexts.ParsedLine.{EventLine}
 use Rattle.scene_reader.specs.Usual.{BeginsWithOutcome, SaysEvent}
 
 module _ {K : Type 0} (takes : Takes K) (file line : List ℕ) (e : SceneEvent) (old : LinesRead) (given : K)
-    (call : ReportCall) (new : LinesRead) (after : K) (line_says : SaysEvent line e) (says : call_by_names call ≡ e) where
+    (call : ReportCall) (new : LinesRead) (after : K) (line_says : SaysEvent line e)
+    (says : call_by_names call ≡ e) where
   abbrev Passes : Result (Unit {0}) Fault → Type 0
   Passes result = PassesValue takes file (with_stored (line_words (before_next old) (line_place None line))) old given
       result new after

@@ -54,7 +54,8 @@ loop-plain-preserved-in-Some-strip_prefix c =
     c.in-Some.escape.now (Some c.in-Some-strip_prefix.after) c.in-Some-strip_prefix.ensures.cases (omega arith) in
     record {
       valid = search rules;
-      read = rw (c.in_ok-push_word.ensures.word, c.in_ok-push_word.ensures.taken) (word-ends _ _ _ _ c.loop-plain.invariant.read _ _ parts.1 parts.0 _ comma);
+      read = rw (c.in_ok-push_word.ensures.word, c.in_ok-push_word.ensures.taken)
+          (word-ends _ _ _ _ c.loop-plain.invariant.read _ _ parts.1 parts.0 _ comma);
     }
 
 pub returns-in_default-2 : goal.returns-in_default-2
