@@ -99,13 +99,11 @@ FORMS = (
 
 
 def check_forms(checks):
-    """What changes a form, and what is said of a list that has others."""
+    """What changes a form, and that one without a twin is wrong."""
     for text, is_one in FORMS:
         checks.expect(twins.changes_form(text) == is_one, f"it is not {is_one} that this changes a form: {text}")
-    listed = [(it, FORMS[1][0].encode()) for it in twins.LISTED.read_text().split()]
-    for edits, count in (listed, 0), (listed[1:], 1), ([*listed, ("more", FORMS[1][0].encode())], 1):
-        found = [*twins.wrong(edits)]
-        checks.expect(len(found) == count, f"{len(edits)} without twins: {found}")
+        found = [*twins.wrong([("one", text.encode())])]
+        checks.expect(len(found) == is_one, f"{found} is wrong with: {text}")
 
 
 def write_planted(folder, names):

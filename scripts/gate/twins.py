@@ -1,13 +1,8 @@
 """Which mistakes change a form: what is new has another number of tokens than what was there. Such a one has a twin, a
-line `right:` below its `new:`, or it is listed in mistakes/without_twins.txt, which only shrinks."""
+line `right:` below its `new:`."""
 
 import re
 
-from norigully import TOP
-
-LISTED = TOP / "mistakes/without_twins.txt"
-# How many are listed: fewer where one gets a twin or is gone, and never more.
-COUNT = 0
 TOKEN = re.compile(r'b?"(?:[^"\\]|\\.)*"|b?\'(?:[^\'\\]|\\.)\'|\w+|[-=<>&|]{2}|::|\.\.=?|[!<>+*/%-]=|\S')
 
 
@@ -24,10 +19,6 @@ def changes_form(text):
 
 def wrong(edits):
     """What is wrong with the twins of these mistakes, each a name and a text."""
-    listed, found = LISTED.read_text().split(), {name for name, text in edits if changes_form(text.decode())}
-    if len(listed) != COUNT:
-        yield f"{LISTED}: it lists {len(listed)}, and {COUNT} are counted (gate/twins.py)"
-    for name in sorted(found - {*listed}):
-        yield f"{name}: it changes a form, and has no line `right:`"
-    for name in sorted({*listed} - found):
-        yield f"{LISTED}: {name} has a twin, changes no form or is gone"
+    for name, text in edits:
+        if changes_form(text.decode()):
+            yield f"{name}: it changes a form, and has no line `right:`"
