@@ -1,15 +1,15 @@
 -- The cut of a text at a byte (for `first_line`, `split_at_byte`, `split_fields`, `read_owned`).
-use Rattle.std.proofs.Common.{◌≡◌, ℕ, zero, suc, ◌+◌, ◌-◌, ◌<◌, ◌≤◌, List, [], ◌∷◌, ◌++◌, true, false, length}
-use Rattle.std.proofs.Common.{length-drop, get_or, take, drop, refl, ap, sym, ◌∙◌, ◌==◌, Option, None, Some, subst}
-use Rattle.std.proofs.Common.{arith, add-one, take-append-drop}
+use Rattle.std.proofs.Common.{◌≡◌, ℕ, zero, suc, ◌+◌, ◌-◌, ◌≤◌, List, [], ◌∷◌, ◌++◌, false, length}
+use Rattle.std.proofs.Common.{get_or, take, drop, refl, ap, sym, ◌∙◌, ◌==◌, Option, None, Some, subst, arith}
+use Rattle.std.proofs.Common.{take-append-drop}
 use Rattle.scene_fields.specs.Split.{Lacks, split_on, cut}
-use Rattle.{std.proofs.Math.Seq.drop-cons, std.proofs.Math.Seq.take-length, std.proofs.lemmas.Bool.false_from_ne_true}
-use Rattle.{std.proofs.lemmas.Bool.Decides.nat_tests, std.specs.Option.is_some}
+use Rattle.std.proofs.lemmas.{Bool.eq-eqb, Bool.false_from_ne_true, Bool.Decides.nat_tests, List.drop_more}
+use Rattle.std.{proofs.lemmas.List.take_rest, proofs.Math.Seq.take-length, specs.Option.is_some}
 use Rattle.memchr.specs.Find.{IsFirstByte, is_byte, Nowhere, NoneBefore, Passes}
 
 -- the part of a list from a place to its end
 pub rest_is : {X : Type 0} (t : List X) (from : ℕ) → take (length t - from) (drop from t) ≡ drop from t
-rest_is t from = ap (λ n. take n (drop from t)) (sym (length-drop from t)) ∙ take-length (drop from t)
+rest_is t from = take_rest t from
 
 -- no index up to n has the byte
 pub Lacks-take : (b : ℕ) (t : List ℕ) (n : ℕ) → n ≤ length t → Nowhere (Passes (is_byte b) t) 0 n → Lacks b (take n t)
@@ -31,10 +31,10 @@ Lacks-from_each b t h = subst (Lacks b) (take-length t) (Lacks-take b t (length 
 -- the parts before and after the first index
 pub cut_at : (b : ℕ) (t : List ℕ) (k : ℕ) → NoneBefore (Passes (is_byte b) t) 0 (length t) k → Passes (is_byte b) t k
     → Lacks b (take k t) × (t ≡ take k t ++ (b ∷ drop (k + 1) t))
-cut_at b t k first here =
-    let within : k < length t = first.high in
-    let back : drop k t ≡ b ∷ drop (k + 1) t = drop-cons t k 0 within ∙ rw (byte_at b t k here, add-one) refl in
-    (Lacks-take b t k (omega arith) first.before, sym (take-append-drop k t) ∙ ap (λ u. take k t ++ u) back)
+cut_at b t k first here = (
+  Lacks-take b t k (omega arith) first.before,
+  rw (← byte_at b t k here, ← drop_more t k 0 first.high) (sym (take-append-drop k t)),
+)
 
 -- a text without the byte is one piece
 pub split_on-lacks : (b : ℕ) (t : List ℕ) → Lacks b t → split_on b t ≡ t ∷ []
@@ -51,13 +51,10 @@ pub split_on-missed : (b : ℕ) (hay t : List ℕ) (found : Option ℕ) → hay 
 split_on-missed b hay t None same none missed = subst (λ u. split_on b u ≡ u ∷ []) same (split_on-none b hay missed)
 split_on-missed b hay t (Some k) same none found = cc
 
-is_itself : (b : ℕ) → (b == b) ≡ true
-is_itself b = grind (arith, nat_tests)
-
 -- and one that has it begins with the text before the first one
 pub split_on-parts : (b : ℕ) (x y : List ℕ) → Lacks b x → split_on b (x ++ (b ∷ y)) ≡ x ∷ split_on b y
 unfolding split_on
-split_on-parts b [] y h = rw (is_itself b) refl
+split_on-parts b [] y h = rw (eq-eqb b b refl) refl
 split_on-parts b (c ∷ x) y h = let e = split_on-parts b x y h.1 in rw (h.0, e) refl
 
 pub split_on-first : (b : ℕ) (t : List ℕ) (k : ℕ) → NoneBefore (Passes (is_byte b) t) 0 (length t) k
@@ -74,5 +71,5 @@ cut-lacks b (c ∷ t) h = let e = sym (cut-lacks b t h.1) in rw (h.0, e) refl
 -- and one that has it is cut at the first one
 pub cut-parts : (b : ℕ) (x y : List ℕ) → Lacks b x → cut b (x ++ (b ∷ y)) ≡ Some (x, y)
 unfolding cut
-cut-parts b [] y h = rw (is_itself b) refl
+cut-parts b [] y h = rw (eq-eqb b b refl) refl
 cut-parts b (c ∷ x) y h = let e = cut-parts b x y h.1 in rw (h.0, e) refl

@@ -2,41 +2,33 @@
 -- `split_fields`).
 use Rattle.std.proofs.Common.{◌≡◌, ◌≢◌, ℕ, zero, suc, ◌+◌, ◌-◌, ◌*◌, ◌/◌, ◌^◌, ◌<◌, ◌≤◌, ◌==◌, ◌++◌, ◌∙◌, List, [], ◌∷◌}
 use Rattle.std.proofs.Common.{Bool, false, not, cond, length, get_or, drop, take, min, map, replicate, refl, ap, sym}
-use Rattle.std.proofs.Common.{arith, inl, inr, w64, div-one, mul_comm, pow-suc, true≢false, drop-drop, length-drop}
+use Rattle.std.proofs.Common.{arith, inl, inr, w64, div-one, true≢false, drop-drop, length-drop}
 use Rattle.memchr.specs.Find.{is_byte, Nowhere, NoneBefore, Passes}
-use Rattle.{std.proofs.Common.length-take, std.proofs.Common.take_all, std.specs.Int.trailing_zeros}
+use Rattle.{std.specs.Int.trailing_zeros}
 use Rattle.{std.specs.List.prefix_len, std.specs.Simd.Lanes.chunk, std.specs.Simd.Lanes.mask_l}
-use native.Mathlib.Nat.{div-div-eq-div-mul, zero-div}
+use native.Mathlib.Nat.{div-div-eq-div-mul, pow-succ', zero-div}
 use Rattle.std.proofs.lemmas.{Bool.cases_Bool, Bool.cases_lt, Bool.not-true, Bool.Decides.nat_tests, List.drop-map}
-use Rattle.std.proofs.lemmas.{List.drop-take, List.drop_all, List.Sums.prefix_len-le-length}
+use Rattle.std.proofs.lemmas.{List.take_min, List.Sums.prefix_len-le-length, Slice.between_is}
 use Rattle.std.proofs.lemmas.{List.Sums.prefix_len_passes}
-use Rattle.std.proofs.lemmas.Simd.{leading_from_mask_l, length-chunk, run_in_chunk_fails, run_in_chunk_stops}
+use Rattle.std.proofs.lemmas.Simd.{length-chunk, none_from_empty_mask, run_in_chunk_fails, run_in_chunk_stops}
 use Rattle.std.proofs.lemmas.Simd.{trailing_mask_l}
 use Rattle.scene_fields.{specs.Marks.marks, specs.Marks.marks_between, specs.Split.Lacks, proofs.lemmas.Cuts.Lacks-take}
-use Rattle.scene_fields.{proofs.lemmas.Cuts.rest_is}
 
 -- zeros after a text have no bit
 pub marks-padded : (b n : ℕ) (t : List ℕ) → b ≢ 0 → marks b (t ++ replicate n 0) ≡ marks b t
 marks-padded b zero [] some = refl
 marks-padded b (suc n) [] some =
     let unset : (0 == b) ≡ false = grind (arith, nat_tests, some) in
-    omega (arith, marks-padded b n [] some, ap (λ x. cond {A = ℕ} x 1 0) unset)
+    rw (unset, marks-padded b n [] some) refl
 marks-padded b n (c ∷ t) some = ap (λ m. cond {A = ℕ} (c == b) 1 0 + 2 * m) (marks-padded b n t some)
 
-module _ (b : ℕ) (t : List ℕ) (from : ℕ) (within : from ≤ length t) where
-  -- a block is cut off where the text ends
-  cut_off : take 32 (drop from t) ≡ take (min (from + 32) (length t) - from) (drop from t)
-  cut_off = elim (cases_lt (from + 32) (length t)) [
-    | inl l ↦ (let n : 32 ≡ min (from + 32) (length t) - from = omega arith in ap (λ k. take k (drop from t)) n)
-    | inr past ↦
-        (let n : length t - from
-        ≡ min (from + 32) (length t) - from = omega arith in take_all 32 (drop from t) (omega
-        (arith, length-drop from t)) ∙ sym (rest_is t from) ∙ ap (λ k. take k (drop from t)) n)
-  ]
-
-  pub marks-block : (n : ℕ) → b ≢ 0
-      → marks b (take 32 (drop from t) ++ replicate n 0) ≡ marks_between b t from (min (from + 32) (length t))
-  marks-block n some = marks-padded b n (take 32 (drop from t)) some ∙ ap (marks b) cut_off
+-- a block is cut off where the text ends
+pub marks-block : (b : ℕ) (t : List ℕ) (from n : ℕ) → b ≢ 0
+    → marks b (take 32 (drop from t) ++ replicate n 0) ≡ marks_between b t from (min (from + 32) (length t))
+marks-block b t from n some =
+    let size : min 32 (length (drop from t)) ≡ min (from + 32) (length t) - from = omega (arith, length-drop from t) in
+    marks-padded b n (take 32 (drop from t)) some
+    ∙ ap (marks b) (sym (take_min 32 (drop from t)) ∙ ap (λ k. take k (drop from t)) size)
 
 half : (m : Bool) (n : ℕ) → (cond m 1 0 + 2 * n) / 2 ≡ n
 half m n = grind arith
@@ -45,28 +37,15 @@ half m n = grind arith
 later : (ms : List Bool) (s : ℕ) → mask_l ms / 2 ^ s ≡ mask_l (drop s ms)
 later ms zero = div-one (mask_l ms)
 later [] (suc s) = zero-div (2 ^ suc s)
-later (m ∷ ms) (suc s) =
-    ap (λ n. mask_l (m ∷ ms) / n) (pow-suc 2 s ∙ mul_comm (2 ^ s) 2)
-    ∙ sym (div-div-eq-div-mul (mask_l (m ∷ ms)) 2 (2 ^ s))
-    ∙ ap (λ n. n / 2 ^ s) (half m (mask_l ms))
-    ∙ later ms s
+later (m ∷ ms) (suc s) = rw (pow-succ' 2 s, ← div-div-eq-div-mul (mask_l (m ∷ ms)) 2 (2 ^ s), half m (mask_l ms))
+    (later ms s)
 
 pub marks-later : (b : ℕ) (t : List ℕ) (at end s : ℕ)
     → marks_between b t at end / 2 ^ s ≡ marks_between b t (at + s) end
 marks-later b t at end s = later (map (is_byte b) (chunk at (end - at) t)) s
-    ∙ ap mask_l (drop-map (is_byte b) s (chunk at (end - at) t)) ∙ ap (marks b) part
-  where
-    part : drop s (chunk at (end - at) t) ≡ chunk (at + s) (end - (at + s)) t
-    part = elim (cases_lt s (end - at)) [
-      | inl l ↦ (
-          let long : end - at ≡ s + (end - (at + s)) = omega arith in
-          ap (λ n. drop s (take n (drop at t))) long ∙ drop-take s (end - (at + s)) (drop at t)
-          ∙ ap (take (end - (at + s))) (drop-drop s at t))
-      | inr past ↦ (
-          let none : 0 ≡ end - (at + s) = omega arith in
-          drop_all s (chunk at (end - at) t) (omega (arith, length-take (end - at) (drop at t)))
-          ∙ ap (λ n. take n (drop (at + s) t)) none)
-    ]
+    ∙ ap mask_l (drop-map (is_byte b) s (chunk at (end - at) t))
+    ∙ ap (marks b)
+    (ap (drop s) (between_is t at end) ∙ drop-drop s at (take end t) ∙ sym (between_is t (at + s) end))
 
 -- the first byte of a text that has it
 stops : (p : ℕ → Bool) (t : List ℕ) → mask_l (map p t) ≢ 0 → prefix_len (λ c. not (p c)) t < length t
@@ -100,36 +79,34 @@ pub all_left : (b : ℕ) (t : List ℕ) (start from mask : ℕ) → from < lengt
     → mask ≡ marks_between b t from (min (from + 32) (length t))
     → AreLeft b t start from (min (from + 32) (length t)) mask
 all_left b t start from mask within none bits = record {
-  low = omega (arith, within);
+  low = omega arith;
   few = omega arith;
   high = omega arith;
-  before = λ k low high p. none k low (omega (arith, within)) p;
+  before = λ k low high. none k low (omega arith);
   bits = bits;
 }
 
-module _ (b : ℕ) (t : List ℕ) (start at end mask : ℕ) (left : AreLeft b t start at end mask) where
+module _ {b : ℕ} {t : List ℕ} {start at end mask : ℕ} (left : AreLeft b t start at end mask) where
   room : at + (end - at) ≤ length t
   room = omega (arith, left.low, left.high)
 
-  none_up_to : (r : ℕ) → r ≡ prefix_len (λ c. not (is_byte b c)) (chunk at (end - at) t)
-      → Nowhere (Passes (is_byte b) t) start (at + r)
-  none_up_to r counted k low high p = elim (cases_lt k at) [
+  none_up_to : (to : ℕ) → ((k : ℕ) → at ≤ k → k < to → is_byte b (get_or t k 0) ≡ false)
+      → Nowhere (Passes (is_byte b) t) start to
+  none_up_to to fails k low high p = elim (cases_lt k at) [
     | inl l ↦ left.before k low l p
-    | inr past ↦ true≢false (sym p ∙ run_in_chunk_fails (is_byte b) t at (end - at) r 0 room counted k past high)
+    | inr past ↦ true≢false (sym p ∙ fails k past high)
   ]
 
   -- no bit is left
   pub none_left : mask ≡ 0 → Nowhere (Passes (is_byte b) t) start end
-  none_left none k low high p =
-      let counted = leading_from_mask_l (is_byte b) (chunk at (end - at) t) (sym left.bits ∙ none)
-      ∙ length-chunk at (end - at) t room in
-      none_up_to (end - at) (sym counted) k low (omega (arith, high, left.low)) p
+  none_left none = none_up_to end
+      (λ k past high. none_from_empty_mask (is_byte b) t at (end - at) 0 room (sym left.bits ∙ none) k past (omega arith))
 
   module _ (place : ℕ) (some : mask ≢ 0) (first : place ≡ trailing_zeros w64 mask) where
     counted : place ≡ prefix_len (λ c. not (is_byte b c)) (chunk at (end - at) t)
     counted = first ∙ ap (trailing_zeros w64) left.bits
         ∙ trailing_mask_l (is_byte b) 64 (chunk at (end - at) t)
-        (omega (arith, length-chunk at (end - at) t room, left.few)) (omega (arith, some, left.bits))
+        (omega (arith, length-chunk at (end - at) t room)) (omega arith)
 
     pub inside : place < end - at
     inside = omega (
@@ -147,7 +124,7 @@ module _ (b : ℕ) (t : List ℕ) (start at end mask : ℕ) (left : AreLeft b t 
       record {
         low = omega arith;
         high = omega (arith, inside, room);
-        before = none_up_to place counted;
+        before = none_up_to (at + place) (run_in_chunk_fails (is_byte b) t at (end - at) place 0 room counted);
       },
       run_in_chunk_stops (is_byte b) t at (end - at) place 0 room counted inside,
     )
@@ -159,9 +136,8 @@ module _ (b : ℕ) (t : List ℕ) (start at end mask : ℕ) (left : AreLeft b t 
         let next : at + (place + count) ≡ at + place + count = omega arith in
         record {
           low = within;
-          few = omega (arith, left.few);
+          few = omega arith;
           high = left.high;
           before = λ k low high p. omega arith;
-          bits = behind ∙ ap (λ m. m / 2 ^ (place + count)) left.bits ∙ marks-later b t at end (place + count)
-              ∙ ap (λ k. marks_between b t k end) next;
+          bits = rw (behind, left.bits, marks-later b t at end (place + count), next) refl;
         }

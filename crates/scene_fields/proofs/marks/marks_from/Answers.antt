@@ -5,7 +5,7 @@ use Rattle.scene_fields.proofs.marks.marks_from.Goals as goal
 
 pub returns-then-left-ge32 : goal.returns-then-left-ge32
 returns-then-left-ge32 c = c.match_mask.ensures ∙ ap (marks c.args.byte) c.load_block.ensures
-    ∙ marks-block c.args.byte c.args.bytes.now c.args.from c.requires.within _ c.requires.byte
+    ∙ marks-block c.args.byte c.args.bytes.now c.args.from _ c.requires.byte
 
 pub returns : goal.returns
 returns c =

@@ -1,15 +1,12 @@
-use Rattle.std.proofs.Common.{◌≡◌, refl, rules}
-use Rattle.{std.proofs.lemmas.Bool.Decides.Decides-eqb, std.proofs.lemmas.Slice.Eq.slice_eq-Decides}
-use Rattle.{scene_fields.proofs.lemmas.UsualStats.behind_key, scene_fields.proofs.lemmas.UsualStats.has_no_key}
+use Rattle.std.proofs.Common.{◌≡◌, ◌∙◌, ap, refl, rules, sym, take, take-append-drop, true≢false}
+use Rattle.std.proofs.lemmas.{Bool.Decides.Decides-eqb, List.take_at, Slice.Eq.slice_eq-Decides}
 use Rattle.scene_fields.proofs.usual_stats.number_after.Goals as goal
 
 pub returns-then-ne : goal.returns-then-ne
-returns-then-ne g c =
-    let at_front = c.in_ok-front.ensures.cases in
+returns-then-ne g c = λ behind is.
     let same = slice_eq-Decides Decides-eqb c.in_ok-front.front.now c.args.key.now _ refl in
-    λ behind is. absurd
-    (has_no_key c.args.key.now c.args.text.now c.in_ok-front.front.now _ _ c.told-key at_front.0 same
-    c.if-ne.ensures behind is)
+    let equal = c.in_ok-front.ensures.cases.0 ∙ ap (take _) is ∙ take_at c.args.key.now behind _ c.told-key in
+    absurd (true≢false (rw (same.1 equal) at c.if-ne.ensures))
 
 pub returns : goal.returns
 returns g c =
@@ -18,7 +15,6 @@ returns g c =
     let equal : c.in_ok-front.front.now ≡ c.args.key.now = same.0 (search rules) in
     record {
       behind = c.in_ok-front.behind.now;
-      front = behind_key c.args.key.now c.args.text.now c.in_ok-front.front.now c.in_ok-front.behind.now _ at_front.0
-          at_front.1 equal;
+      front = rw (← equal, at_front.0, at_front.1) (sym (take-append-drop _ c.args.text.now));
       number = c.in_ok-number.ensures;
     }
