@@ -5,11 +5,11 @@ use Rattle.std.proofs.Common.{Bool, false, not, cond, length, get_or, drop, take
 use Rattle.std.proofs.Common.{arith, inl, inr, w64, div-one, true≢false, drop-drop, length-drop}
 use Rattle.memchr.specs.Find.{is_byte, Nowhere, NoneBefore, Passes}
 use Rattle.{std.specs.Int.trailing_zeros}
-use Rattle.{std.specs.List.prefix_len, std.specs.Simd.Lanes.chunk, std.specs.Simd.Lanes.mask_l}
+use Rattle.{std.specs.List.position_or_len, std.specs.Simd.Lanes.chunk, std.specs.Simd.Lanes.mask_l}
 use native.Mathlib.Nat.{div-div-eq-div-mul, pow-succ', zero-div}
-use Rattle.std.proofs.lemmas.{Bool.cases_Bool, Bool.cases_lt, Bool.not-true, Bool.Decides.nat_tests, List.drop-map}
+use Rattle.std.proofs.lemmas.{Bool.cases_Bool, Bool.cases_lt, Bool.Decides.nat_tests, List.drop-map}
 use Rattle.std.proofs.lemmas.{List.take_min, List.Sums.prefix_len-le-length, Slice.between_is}
-use Rattle.std.proofs.lemmas.{List.Sums.prefix_len_passes}
+use Rattle.std.proofs.lemmas.{List.Sums.fails_before_first}
 use Rattle.std.proofs.lemmas.Simd.{length-chunk, none_from_empty_mask, run_in_chunk_fails, run_in_chunk_stops}
 use Rattle.std.proofs.lemmas.Simd.{trailing_mask_l}
 use Rattle.scene_fields.{specs.Marks.marks, specs.Marks.marks_between, specs.Split.Lacks, proofs.lemmas.Cuts.Lacks-take}
@@ -48,7 +48,7 @@ marks-later b t at end s = later (map (is_byte b) (chunk at (end - at) t)) s
     (ap (drop s) (between_is t at end) ∙ drop-drop s at (take end t) ∙ sym (between_is t (at + s) end))
 
 -- the first byte of a text that has it
-stops : (p : ℕ → Bool) (t : List ℕ) → mask_l (map p t) ≢ 0 → prefix_len (λ c. not (p c)) t < length t
+stops : (p : ℕ → Bool) (t : List ℕ) → mask_l (map p t) ≢ 0 → position_or_len p t < length t
 stops p [] some = absurd (some refl)
 stops p (c ∷ t) some = elim (cases_Bool (p c)) [
   | inl e ↦ rw e (omega arith)
@@ -56,12 +56,12 @@ stops p (c ∷ t) some = elim (cases_Bool (p c)) [
 ]
 
 -- none of these bytes comes before the first one
-pub marks-before : (b n : ℕ) (t : List ℕ) → n ≤ prefix_len (λ c. not (is_byte b c)) t → Lacks b (take n t)
+pub marks-before : (b n : ℕ) (t : List ℕ) → n ≤ position_or_len (is_byte b) t → Lacks b (take n t)
 marks-before b n t few =
-    Lacks-take b t n (omega (arith, few, prefix_len-le-length (λ c. not (is_byte b c)) t))
-    (λ k low high p. true≢false (sym p ∙ not-true _ (prefix_len_passes (λ c. not (is_byte b c)) t k 0 (omega arith))))
+    Lacks-take b t n (omega (arith, prefix_len-le-length (λ c. not (is_byte b c)) t))
+    (λ k low high p. true≢false (sym p ∙ fails_before_first (is_byte b) t k 0 (omega arith)))
 
-pub some_before : (b : ℕ) (t : List ℕ) → 0 < length t → get_or t 0 0 ≢ b → 1 ≤ prefix_len (λ c. not (is_byte b c)) t
+pub some_before : (b : ℕ) (t : List ℕ) → 0 < length t → get_or t 0 0 ≢ b → 1 ≤ position_or_len (is_byte b) t
 some_before b [] some other = absurd (omega arith)
 some_before b (c ∷ t) some other = let e : (c == b) ≡ false = grind (arith, nat_tests, other) in rw e (omega arith)
 
@@ -103,7 +103,7 @@ module _ {b : ℕ} {t : List ℕ} {start at end mask : ℕ} (left : AreLeft b t 
       (λ k past high. none_from_empty_mask (is_byte b) t at (end - at) 0 room (sym left.bits ∙ none) k past (omega arith))
 
   module _ (place : ℕ) (some : mask ≢ 0) (first : place ≡ trailing_zeros w64 mask) where
-    counted : place ≡ prefix_len (λ c. not (is_byte b c)) (chunk at (end - at) t)
+    counted : place ≡ position_or_len (is_byte b) (chunk at (end - at) t)
     counted = first ∙ ap (trailing_zeros w64) left.bits
         ∙ trailing_mask_l (is_byte b) 64 (chunk at (end - at) t)
         (omega (arith, length-chunk at (end - at) t room)) (omega arith)

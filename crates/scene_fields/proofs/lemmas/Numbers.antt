@@ -1,16 +1,16 @@
 -- Numbers as a test reads them (for `read_code`, `read_count`, `read_small_count`, `read_wide_count`).
 use Rattle.std.proofs.Common.{◌≡◌, ℕ, ◌<◌, ◌^◌, List, [], ◌∷◌, Bool, length, drop, cond, refl, ap, sym, if◌then◌else◌}
-use Rattle.std.proofs.Common.{None, Some, Option, ℤ, pos, negsuc, arith, inl, inr, FitsSigned}
+use Rattle.std.proofs.Common.{None, Some, Option, ℤ, pos, negsuc, arith, FitsSigned}
 use Rattle.std.specs.Str.Parse.{IsNumeral, AllDigits, digits_value, starts_with_minus, signed_digits_value}
 use Rattle.std.specs.{Bool.Decides, Option.SomeIff, Char.digit_value, Int.w32}
-use Rattle.std.proofs.lemmas.Bool.{cases_Bool, Decides.Decides-and, Decides.Decides-ltb, Decides.nat_tests}
+use Rattle.std.proofs.lemmas.Bool.{false_from_ne_true, Decides.Decides-and, Decides.Decides-ltb, Decides.nat_tests}
 use Rattle.scene_fields.specs.Numbers.{are_digits, is_numeral, number_in, IsSigned, fits_code, code_in}
 
 -- a value is read if its test passes
 by_test : {V : Type 0} (P : Type 0) (b : Bool) (v : V) → Decides b P → (r : Option V) → SomeIff r P v
     → r ≡ (if b then Some v else None)
 by_test P b v test (Some x) h = let e = test.1 h.0 in rw e (ap (λ y. Some y) h.1)
-by_test P b v test None h = elim (cases_Bool b) [ inl p ↦ absurd (h (test.0 p)) | inr p ↦ rw p refl ]
+by_test P b v test None h = let no = false_from_ne_true b (λ p. h (test.0 p)) in rw no refl
 
 digits : (t : List ℕ) → Decides (are_digits t) (AllDigits 10 t)
 digits [] = ((λ e. tt), (λ h. refl))

@@ -1,5 +1,5 @@
 -- Worked rows: what the definitions say of references that are written out.
-use Rattle.std.proofs.Common.{◌≡◌, ℕ, List, [], ◌∷◌, ◌++◌, codes, refl, None, Some}
+use Rattle.std.proofs.Common.{◌≡◌, ℕ, List, [], ◌∷◌, ◌++◌, codes, map, replicate, refl, None, Some}
 use Rattle.scene_fields.specs.References.{after_mark, reference_in, sum_in}
 use Rattle.{hex.proofs.OnLiterals.hex_on_literals, scene_fields.specs.Numbers.number_in, scene_fields.specs.Split.cut}
 
@@ -15,47 +15,21 @@ unfolding sum_in hex_on_literals
 row_sum = refl
 
 -- bad sums: an upper-case letter, a digit too few, two too many, and a character that is no digit
-row_upper : sum_in (codes "D1fba762150c532c") ≡ None
+row_bad_sums : map sum_in
+    (codes "D1fba762150c532c" ∷ codes "d1fba762150c532" ∷ codes "d1fba762150c532c00" ∷ codes "g1fba762150c532c" ∷ [])
+    ≡ replicate 4 None
 unfolding sum_in hex_on_literals
-row_upper = refl
-
-row_short : sum_in (codes "d1fba762150c532") ≡ None
-unfolding sum_in hex_on_literals
-row_short = refl
-
-row_long : sum_in (codes "d1fba762150c532c00") ≡ None
-unfolding sum_in hex_on_literals
-row_long = refl
-
-row_no_digit : sum_in (codes "g1fba762150c532c") ≡ None
-unfolding sum_in hex_on_literals
-row_no_digit = refl
+row_bad_sums = refl
 
 row_reference : reference_in (codes "\\@70:007:" ++ sum_text) ≡ Some (record { offset = 70; len = 7; sum = sum_bytes })
 unfolding reference_in after_mark sum_in cut number_in hex_on_literals
 row_reference = refl
 
 -- text, a number with a plus, an empty one, one that is too large, no sum, and text after the sum
-row_text : reference_in (codes "passed") ≡ None
+row_bad_references : map reference_in
+    (codes "passed" ∷ (codes "\\@+70:7:" ++ sum_text) ∷ (codes "\\@70::" ++ sum_text)
+    ∷ (codes "\\@18446744073709551616:7:" ++ sum_text) ∷ codes "\\@70:7" ∷ (codes "\\@70:7:" ++ (sum_text ++ codes ":"))
+    ∷ [])
+    ≡ replicate 6 None
 unfolding reference_in after_mark sum_in cut number_in hex_on_literals
-row_text = refl
-
-row_plus : reference_in (codes "\\@+70:7:" ++ sum_text) ≡ None
-unfolding reference_in after_mark sum_in cut number_in hex_on_literals
-row_plus = refl
-
-row_empty : reference_in (codes "\\@70::" ++ sum_text) ≡ None
-unfolding reference_in after_mark sum_in cut number_in hex_on_literals
-row_empty = refl
-
-row_large : reference_in (codes "\\@18446744073709551616:7:" ++ sum_text) ≡ None
-unfolding reference_in after_mark sum_in cut number_in hex_on_literals
-row_large = refl
-
-row_no_sum : reference_in (codes "\\@70:7") ≡ None
-unfolding reference_in after_mark sum_in cut number_in hex_on_literals
-row_no_sum = refl
-
-row_more : reference_in ((codes "\\@70:7:" ++ sum_text) ++ codes ":") ≡ None
-unfolding reference_in after_mark sum_in cut number_in hex_on_literals
-row_more = refl
+row_bad_references = refl

@@ -1,5 +1,5 @@
 use Rattle.std.proofs.Common.{◌≡◌, ◌<◌, true, length-take, drop, get_or-take, arith}
-use Rattle.scene_fields.{specs.Numbers.starts_with_digit, proofs.lemmas.Cuts.rest_is}
+use Rattle.{scene_fields.specs.Numbers.starts_with_digit, std.proofs.lemmas.List.take_rest}
 use Rattle.scene_fields.{proofs.numbers.leading_number.Goals.else-loop-byte-test}
 use Rattle.scene_fields.{proofs.numbers.leading_number.Goals.then-loop-byte-test+then-digit-gt9}
 use Rattle.scene_fields.proofs.lemmas.ShortNumbers.{stays_small, one_digit_more, leading, digit_in}
@@ -7,13 +7,13 @@ use Rattle.scene_fields.proofs.numbers.leading_number.Goals as goal
 
 pub overflow_mul-number : goal.overflow_mul-number
 overflow_mul-number c =
-    let near : c.loop-byte.byte-index < 19 = omega (arith, length-take c.min.result c.args.text.now) in
-    let s = stays_small _ _ _ c.loop-byte.invariant.so_far near in omega arith
+    let size = length-take c.min.result c.args.text.now in
+    let small = stays_small c.loop-byte.invariant.so_far (omega arith) in omega arith
 
 pub overflow_add-number : goal.overflow_add-number
 overflow_add-number c =
-    let near : c.loop-byte.byte-index < 19 = omega (arith, length-take c.min.result c.args.text.now) in
-    let s = stays_small _ _ _ c.loop-byte.invariant.so_far near in omega arith
+    let size = length-take c.min.result c.args.text.now in
+    let small = stays_small c.loop-byte.invariant.so_far (omega arith) in omega arith
 
 pub loop-byte-preserved : goal.loop-byte-preserved
 loop-byte-preserved c =
@@ -21,25 +21,23 @@ loop-byte-preserved c =
     let same = get_or-take c.min.result c.args.text.now c.loop-byte.byte-index 0 (omega arith) in
     let byte = c.type_inv.text c.loop-byte.byte-index in
     record {
-      so_far = one_digit_more _ _ _ c.loop-byte.invariant.so_far _ (omega arith) (omega arith, omega arith)
-          (omega arith);
+      so_far = one_digit_more c.loop-byte.invariant.so_far _ (omega arith) (omega arith, omega arith) (omega arith);
       counted = omega arith;
     }
 
 pub returns : goal.returns
 returns c =
-    let size = length-take c.min.result c.args.text.now in
-    let counted = c.loop-byte.invariant.counted in
-    let longest : starts_with_digit (drop c.loop-byte.byte-index c.args.text.now) ≡ true → c.loop-byte.byte-index ≡ 19 =
-    λ e. let here = digit_in c.args.text.now c.loop-byte.byte-index e in
+    let t = c.args.text.now in
+    let at = c.loop-byte.byte-index in
+    let size = length-take c.min.result t in
+    let longest : starts_with_digit (drop at t) ≡ true → at ≡ 19 = λ e. let here = digit_in t at e in
     elim c.loop-byte-test.branch [
       | else-loop-byte-test w ↦ omega (arith, w.loop-byte-test.false, here.0)
       | then-loop-byte-test+then-digit-gt9 w ↦ (
-          let near : c.loop-byte.byte-index < c.min.result = omega (arith, w.loop-byte-test.true) in
-          let same = get_or-take c.min.result c.args.text.now c.loop-byte.byte-index 0 near in
+          let near : at < c.min.result = omega (arith, w.loop-byte-test.true) in
+          let same = get_or-take c.min.result t at 0 near in
           absurd (omega (arith, w.if-digit-gt9.true, here.1))
           )
     ] in
-    rw counted
-    (leading _ _ _ c.loop-byte.invariant.so_far _ (rest_is c.args.text.now c.loop-byte.byte-index) (omega arith)
-    (omega arith) (omega arith) longest)
+    rw c.loop-byte.invariant.counted
+    (leading c.loop-byte.invariant.so_far _ (take_rest t at) (omega arith) (omega arith) (omega arith) longest)

@@ -1,14 +1,13 @@
-use Rattle.std.proofs.Common.{◌≡◌, ◌<◌, ◌∙◌, length, get_or, take, arith}
-use Rattle.{std.proofs.lemmas.Bool.Decides.nat_tests, std.proofs.lemmas.Str.IsCharBoundary-after_ascii}
-use Rattle.scene_fields.proofs.lemmas.Cuts.{split_on-first}
+use Rattle.std.proofs.Common.{◌≡◌, ◌∙◌, take, arith}
+use Rattle.{std.proofs.lemmas.Str.IsCharBoundary-after_ascii}
+use Rattle.scene_fields.proofs.lemmas.Cuts.{byte_at, split_on-first}
 use Rattle.scene_fields.proofs.split.cut_field.Goals as goal
 
 pub range_from-requires : goal.range_from-requires
 range_from-requires c above =
     let found = rw c.as_bytes.ensures.value at c.in_ok-tab.ensures in
-    let within : c.in_ok-tab.tab < length c.args.line.now = omega (arith, found.0) in
-    let here : get_or c.args.line.now c.in_ok-tab.tab 0 ≡ 9 = grind (arith, nat_tests, found.1) in
-    IsCharBoundary-after_ascii c.args.line.now c.in_ok-tab.tab c.utf8.line within (omega arith)
+    let here = byte_at 9 c.args.line.now c.in_ok-tab.tab found.1 in
+    IsCharBoundary-after_ascii c.args.line.now _ c.utf8.line found.0.high (omega arith)
 
 pub returns : goal.returns
 returns c =

@@ -1,16 +1,14 @@
-use Rattle.std.proofs.Common.{◌≡◌, ◌<◌, ◌==◌, true, subst, sym, arith, get_or-take, length-take}
+use Rattle.std.proofs.Common.{◌<◌, arith, get_or-take, length-take}
 
 pub returns-in-Some : Rattle.scene_fields.proofs.split.first_place.Goals.returns-in-Some
 returns-in-Some c =
     let t = c.args.text.now in
     let found = c.in-Some.ensures in
-    let near : c.in-Some.place < 16 = omega (arith, found.0.high, length-take 16 t) in
-    let is_byte_at = λ (x : _). (x == c.args.byte) ≡ true in (
+    let near : c.in-Some.place < 16 = omega (arith, found.0.high, length-take 16 t) in (
       record {
         low = found.0.low;
-        high = omega (arith, near, c.if-text-lt-NEAR.false);
-        before = λ k low high p. found.0.before k low high
-            (subst is_byte_at (sym (get_or-take 16 t k 0 (omega (arith, near)))) p);
+        high = omega (arith, c.if-text-lt-NEAR.false);
+        before = λ k low high p. found.0.before k low high (rw (get_or-take 16 t k 0 (omega arith)) p);
       },
-      subst is_byte_at (get_or-take 16 t c.in-Some.place 0 near) found.1,
+      rw (get_or-take 16 t c.in-Some.place 0 near) at found.1,
     )

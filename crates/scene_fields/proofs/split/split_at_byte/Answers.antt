@@ -1,16 +1,14 @@
-use Rattle.std.proofs.Common.{◌≡◌, ◌<◌, length, get_or, take, arith, sym, ap, ◌∙◌}
-use Rattle.{std.proofs.lemmas.Bool.Decides.nat_tests, std.proofs.lemmas.Str.IsCharBoundary-after_ascii}
-use Rattle.{scene_fields.specs.Split.cut}
-use Rattle.scene_fields.proofs.lemmas.Cuts.{Lacks-from_each, cut_at, split_on-first, split_on-lacks, cut-lacks}
+use Rattle.std.proofs.Common.{◌≡◌, ◌∙◌, take, arith, sym, ap}
+use Rattle.{std.proofs.lemmas.Str.IsCharBoundary-after_ascii, scene_fields.specs.Split.cut}
+use Rattle.scene_fields.proofs.lemmas.Cuts.{Lacks-from_each, byte_at, cut_at, split_on-first, split_on-lacks, cut-lacks}
 use Rattle.scene_fields.proofs.lemmas.Cuts.{cut-parts}
 use Rattle.scene_fields.proofs.split.split_at_byte.Goals as goal
 
 pub range_from-requires : goal.range_from-requires
 range_from-requires c above =
     let found = rw c.as_bytes.ensures.value at c.in-Some.ensures in
-    let within : c.in-Some.at < length c.args.text.now = omega (arith, found.0) in
-    let here : get_or c.args.text.now c.in-Some.at 0 ≡ c.args.byte = grind (arith, nat_tests, found.1) in
-    IsCharBoundary-after_ascii c.args.text.now c.in-Some.at c.utf8.text within (omega arith)
+    let here = byte_at c.args.byte c.args.text.now c.in-Some.at found.1 in
+    IsCharBoundary-after_ascii c.args.text.now _ c.utf8.text found.0.high (omega arith)
 
 pub returns-in_default : goal.returns-in_default
 returns-in_default c =
@@ -19,8 +17,7 @@ returns-in_default c =
       parts = lacks;
       shorter = tt;
       split_on = split_on-lacks c.args.byte c.args.text.now lacks;
-      cut = cut-lacks
-          c.args.byte c.args.text.now lacks;
+      cut = cut-lacks c.args.byte c.args.text.now lacks;
     }
 
 pub returns : goal.returns

@@ -1,7 +1,7 @@
 use Rattle.std.proofs.Common.{◌≡◌, ◌+◌, ◌++◌, ◌∙◌, ap, arith, drop, length, length-drop, refl, rules, subst, sym, take}
-use Rattle.std.proofs.Common.{ℕ, zero, suc, ◌-◌, ◌≤◌, List, [], ◌∷◌, replicate, drop-drop, length-take, length-take-le}
-use Rattle.std.proofs.lemmas.List.Edits.{paste_all, drop-paste, length-paste}
-use Rattle.{std.proofs.lemmas.List.take-append-le, std.proofs.lemmas.Simd.put_chunk_is}
+use Rattle.std.proofs.Common.{ℕ, ◌-◌, ◌≤◌, List, replicate, drop-drop, length-take, length-take-le}
+use Rattle.std.proofs.lemmas.List.{Edits.paste_all, Edits.drop-paste, Edits.length-paste, take-append-le, take-take}
+use Rattle.{std.proofs.lemmas.Simd.put_chunk_is}
 use Rattle.{scene_fields.specs.Texts.LacksEscapes, scene_fields.specs.Texts.MovesPlain}
 use lib.Seq.{paste, length_paste_head, take-append-add}
 use Rattle.scene_fields.proofs.unescape.move_plain.Goals as goal
@@ -10,23 +10,14 @@ use Rattle.scene_fields.proofs.unescape.move_plain.Goals as goal
 later_alike : (m k : ℕ) (s t : List ℕ) → m ≤ k → drop m s ≡ drop m t → drop k s ≡ drop k t
 later_alike m k s t le same =
     let at : k ≡ m + (k - m) = omega arith in
-    ap (λ j. drop j s) at ∙ sym (drop-drop (k - m) m s) ∙ ap (drop (k - m)) same ∙ drop-drop (k - m) m t
-    ∙ ap (λ j. drop j t) (sym at)
-
-take_fewer : (n m : ℕ) (t : List ℕ) → n ≤ m → take n (take m t) ≡ take n t
-take_fewer zero m t le = refl
-take_fewer (suc n) zero t le = absurd (omega arith)
-take_fewer (suc n) (suc m) [] le = refl
-take_fewer (suc n) (suc m) (c ∷ t) le = ap (λ u. c ∷ u) (take_fewer n m t (omega arith))
+    rw (at, ← drop-drop (k - m) m s, ← drop-drop (k - m) m t, same) refl
 
 -- the first bytes of a block that was read from an index on are those of the text
 block_front : (t block : List ℕ) (from n : ℕ) → block ≡ take 32 (drop from t) ++ replicate (32 - (length t - from)) 0
     → n ≤ 32 → n ≤ length t - from → take n block ≡ take n (drop from t)
 block_front t block from n is few most =
-    ap (take n) is
-    ∙ take-append-le n (take 32 (drop from t)) _
-    (omega (arith, few, most, length-take 32 (drop from t), length-drop from t))
-    ∙ take_fewer n 32 (drop from t) few
+    let long : n ≤ length (take 32 (drop from t)) = omega (arith, length-take 32 (drop from t), length-drop from t) in
+    rw (is, take-append-le, take-take) refl
 
 -- bytes were written over a text: the first ones are those from an index on, and the others come before what follows
 -- these
@@ -36,7 +27,7 @@ moved t s new from to n m few room low within same pasted plain =
     let before : length (take to t) ≡ to = length-take-le to t (omega arith) in
     record {
       within = within;
-      long = ap (λ u. length u) pasted ∙ length-paste t to s m (omega arith) room;
+      long = ap length pasted ∙ length-paste t to s m (omega arith) room;
       plain = subst LacksEscapes same plain;
       front =
           ap (take (to + n)) pasted
@@ -44,7 +35,7 @@ moved t s new from to n m few room low within same pasted plain =
           (omega (arith, length_paste_head t to s m (omega arith) room))
           ∙ ap (λ k. take (k + n) (take to t ++ take m s)) (sym before)
           ∙ take-append-add (take to t) (take m s) n
-          ∙ ap (λ u. take to t ++ u) (take_fewer n m s few ∙ same);
+          ∙ ap (λ u. take to t ++ u) (take-take n m s few ∙ same);
       rest = later_alike (to + m) (from + n) new t low
           (ap (drop (to + m)) pasted ∙ drop-paste t to s m (omega arith) room);
     }
@@ -57,10 +48,8 @@ returns-then-from-count-ge-BLOCK-clause-moved c =
     let counted = c.plain_len-count.ensures in
     let long : length block ≡ 32 = search rules in
     let same = block_front t block c.args.from _ c.load_block-block.ensures counted.block counted.most in
-    let pasted = put_chunk_is to t block (omega arith)
-    ∙ ap (λ u. take to t ++ (block ++ u)) (drop-drop (length block) to t ∙ ap (λ k. drop (to + k) t) long)
-    ∙ sym (paste_all t to block 32 (sym long)) in
-    moved t block _ c.args.from to _ 32 counted.block (omega arith) (omega arith) (omega arith) same pasted
+    moved t block _ c.args.from to _ 32 counted.block (omega arith) (omega arith) (omega arith) same
+    (rw (put_chunk_is to t block (omega arith), drop-drop, long) (sym (paste_all t to block 32 (sym long))))
     counted.plain
 
 pub returns-clause-moved : goal.returns-clause-moved

@@ -1,5 +1,5 @@
 use Rattle.std.proofs.Common.{◌≡◌, ◌∙◌, ap, arith, not, w64}
-use Rattle.{std.specs.Int.trailing_zeros, std.specs.List.prefix_len, memchr.specs.Find.is_byte}
+use Rattle.{std.specs.Int.trailing_zeros, std.specs.List.position_or_len, memchr.specs.Find.is_byte}
 use Rattle.{std.proofs.lemmas.List.Sums.prefix_len-le-length, std.proofs.lemmas.Simd.leading_from_mask_l}
 use Rattle.{std.proofs.lemmas.Simd.trailing_mask_l}
 use Rattle.scene_fields.proofs.{lemmas.Marks.marks-before, lemmas.Marks.some_before}
@@ -7,7 +7,7 @@ use Rattle.scene_fields.proofs.{unescape.plain_len.Goals.then-marks-eq0, unescap
 use Rattle.scene_fields.proofs.unescape.plain_len.Goals as goal
 
 -- what is counted comes before the first escape
-counted : (c : goal.After-min) → c.if-marks-eq0.count ≡ prefix_len (λ b. not (is_byte 92 b)) c.args.block
+counted : (c : goal.After-min) → c.if-marks-eq0.count ≡ position_or_len (is_byte 92) c.args.block
 counted c = elim c.if-marks-eq0.branch [
   | then-marks-eq0 w ↦ omega (
     arith,
