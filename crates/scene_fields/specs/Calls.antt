@@ -1,5 +1,5 @@
 -- Calls whose tests are named, wherever these names are in memory.
-use Rattle.std.specs.{Borrow.Bor, Prelude.ℕ, Prelude.ℤ, Prelude.List, Prelude.Option}
+use Rattle.std.specs.Prelude.{ℕ, ℤ, List, Option}
 use Rattle.{run_model.specs.Names.UniquePrefix, run_model.specs.declared.replay.ReplayHeader.ReplayHeader}
 use Rattle.run_model.specs.declared.{call.ReportCall.ReportCall, event.TestEvent.TestEvent}
 use Rattle.run_model.specs.declared.{event.TestEventKind.TestEventKind}

@@ -99,8 +99,8 @@ module _ {b : ℕ} {t : List ℕ} {start at end mask : ℕ} (left : AreLeft b t 
 
   -- no bit is left
   pub none_left : mask ≡ 0 → Nowhere (Passes (is_byte b) t) start end
-  none_left none = none_up_to end
-      (λ k past high. none_from_empty_mask (is_byte b) t at (end - at) 0 room (sym left.bits ∙ none) k past (omega arith))
+  none_left none = none_up_to end (λ k past high.
+      none_from_empty_mask (is_byte b) t at (end - at) 0 room (sym left.bits ∙ none) k past (omega arith))
 
   module _ (place : ℕ) (some : mask ≢ 0) (first : place ≡ trailing_zeros w64 mask) where
     counted : place ≡ position_or_len (is_byte b) (chunk at (end - at) t)

@@ -27,11 +27,13 @@ module _ {R : Type 0} (front : List ℕ → R → R) (escape : List ℕ → Opti
       → option_map made (read (p ++ t)) ≡ option_map (λ r. made (front p r)) (read t)
   unfolding unescaped_after
   plain_before made [] t h = simp nothing
-  plain_before made (c ∷ p) t h = rw h.0
-      (map_twice made (front (c ∷ [])) (read (p ++ t)) ∙ plain_before (λ r. made (front (c ∷ []) r)) p t h.1 ∙ simp more)
+  plain_before made (c ∷ p) t h =
+      let others = plain_before (λ r. made (front (c ∷ []) r)) p t h.1 in
+      rw h.0 (map_twice made (front (c ∷ [])) (read (p ++ t)) ∙ others ∙ simp more)
 
   -- the start of a text was read, and the rest is still to come
-  module _ {S : Type 0} {whole : Option S} (made : R → S) {rest : List ℕ} (so_far : whole ≡ option_map made (read rest)) where
+  module _ {S : Type 0} {whole : Option S} (made : R → S) {rest : List ℕ}
+      (so_far : whole ≡ option_map made (read rest)) where
     pub plain_read : (plain after : List ℕ) → rest ≡ plain ++ after → LacksEscapes plain
         → whole ≡ option_map (λ r. made (front plain r)) (read after)
     plain_read plain after r h = so_far ∙ ap (λ t. option_map made (read t)) r ∙ plain_before made plain after h

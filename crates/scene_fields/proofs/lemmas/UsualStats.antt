@@ -44,7 +44,7 @@ module _ {t : List ℕ} {n : ℕ} {rest behind : List ℕ} (r : IsLeadingNumber 
   pub tab_behind : (tab : ℕ) → tab ≡ length t - length rest
       → (tab < length t) × (get_or t tab 0 ≡ 9) × (drop (tab + 1) t ≡ behind)
   tab_behind tab at =
-      let parts : t ≡ r.digits ++ (9 ∷ behind) = r.parts ∙ ap (λ u. r.digits ++ u) is in
+      let parts = rw is at r.parts in
       let size = ap length r.parts ∙ length-append r.digits rest in
       let place : tab ≡ length r.digits = omega arith in (
         omega (arith, ap length is),

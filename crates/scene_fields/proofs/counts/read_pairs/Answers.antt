@@ -49,7 +49,8 @@ module _ {C : Type 0} (rows : C → List (Row C)) (before : CountedRows C) (left
   no_value h = stops (subst IsBad (append-nil left) (bad_front left [] h (λ none. refl)))
 
   -- a pair, and then the others
-  pair : (word after value : List ℕ) (others : List (List ℕ)) → list_any (λ row. has_space row.0) (rows before.0) ≡ false
+  pair : (word after value : List ℕ) (others : List (List ℕ))
+      → list_any (λ row. has_space row.0) (rows before.0) ≡ false
       → Lacks 61 word → left ≡ word ++ (61 ∷ after) → split_on 32 after ≡ value ∷ others
       → option_map (λ read. read.0)
       (option_and_then (λ new. in_turn (pair_in rows) new others) (pair_in rows before word value)) ≡ all

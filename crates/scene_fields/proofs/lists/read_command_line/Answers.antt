@@ -1,5 +1,5 @@
-use Rattle.std.proofs.Common.{◌≡◌, ◌∷◌, [], None, Some, ap, arith, bytes_eq, codes, false, rules, sym, ◌≢◌, ℕ, List, ◌==◌}
-use Rattle.std.proofs.Common.{refl, append_assoc, append-nil, ◌∙◌}
+use Rattle.std.proofs.Common.{◌≡◌, ◌∷◌, [], None, Some, ap, arith, bytes_eq, codes, false, rules, sym, ◌≢◌, ℕ, List}
+use Rattle.std.proofs.Common.{◌==◌, refl, append_assoc, append-nil, ◌∙◌}
 use Rattle.std.proofs.lemmas.{Bool.Decides.nat_tests, Bool.false_from_ne_true, Str.Pattern.strip_prefix_char}
 use Rattle.{std.specs.Option.option_map}
 use Rattle.scene_fields.specs.Lists.{begins_with_comma, in_first_word}
@@ -42,12 +42,13 @@ loop-plain-preserved c =
     let no_comma = no-comma _
     (strip_prefix_char 44 c.in-Some.escape.now None c.in_default-strip_prefix.ensures.cases (omega arith)) in
     let added = rw c.in-Some-2.is at c.in_ok-after.ensures in
+    let gives = ap (option_map (λ b. in_first_word (b ∷ []))) added.gives in
     record {
       valid = search rules;
       read = rw added.grown
           (simp append_assoc
           (escape_read _ _ _ (λ ws. refl) (λ c p ws. refl) _ c.loop-plain.invariant.read _ _ parts.1 parts.0
-          (in_first_word (added.byte ∷ [])) _ (rw no_comma (ap (option_map (λ b. in_first_word (b ∷ []))) added.gives)) added.follows));
+          (in_first_word (added.byte ∷ [])) _ (rw no_comma gives) added.follows));
     }
 
 pub returns : goal.returns

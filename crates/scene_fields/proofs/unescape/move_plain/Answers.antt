@@ -33,9 +33,7 @@ moved t s new from to n m few room low within same pasted plain =
           ap (take (to + n)) pasted
           ∙ take-append-le (to + n) (take to t ++ take m s) _
           (omega (arith, length_paste_head t to s m (omega arith) room))
-          ∙ ap (λ k. take (k + n) (take to t ++ take m s)) (sym before)
-          ∙ take-append-add (take to t) (take m s) n
-          ∙ ap (λ u. take to t ++ u) (take-take n m s few ∙ same);
+          ∙ rw (before, take-take n m s few, same) at (take-append-add (take to t) (take m s) n);
       rest = later_alike (to + m) (from + n) new t low
           (ap (drop (to + m)) pasted ∙ drop-paste t to s m (omega arith) room);
     }

@@ -31,18 +31,18 @@ loop-from-preserved-then-bytes-from-eq92 c =
     let back = take_rest b (from + 1) in
     let gives = rw back at escaped.byte in
     let long = rw back at escaped.len.0 in
+    let rest = drop (from + 1) b in
     let at : from + (1 + len) ≡ from + 1 + len = omega arith in
-    let after : drop (from + (1 + len)) (slice_set b to byte) ≡ drop (escape_len (drop (from + 1) b)) (drop (from + 1) b) =
-    drop-set-lt (from + (1 + len)) b to byte (omega arith) ∙ ap (λ j. drop j b) at
-    ∙ sym (drop-drop len (from + 1) b) ∙ ap (λ n. drop n (drop (from + 1) b)) long in
+    let after : drop (from + (1 + len)) (slice_set b to byte) ≡ drop (escape_len rest) rest =
+    rw (drop-set-lt (from + (1 + len)) b to byte (omega arith), at, ← drop-drop len (from + 1) b, long) refl in
     record {
       long = length-set b to byte ∙ so_far.long;
       within = omega (arith, escaped.len.3, ap length back, length-drop (from + 1) b, length-set b to byte);
       low = omega arith;
       read = rw (take_more_set b to byte (omega arith))
           (simp append_assoc
-          (escape_read _ _ _ (λ t. refl) (λ c p t. refl) _ so_far.read [] _ (begins b from (omega arith) (omega arith)) tt
-          (λ t. byte ∷ t) _ (rw (← gives) refl) after));
+          (escape_read _ _ _ (λ t. refl) (λ c p t. refl) _ so_far.read [] rest
+          (begins b from (omega arith) (omega arith)) tt (λ t. byte ∷ t) _ (rw (← gives) refl) after));
     }
 
 pub loop-from-preserved : goal.loop-from-preserved
@@ -64,7 +64,8 @@ loop-from-preserved c =
 
 pub returns : goal.returns
 unfolding unescaped_after
-returns c = sym (rw (drop_all c.loop-from.from c.loop-from.bytes (omega arith), append-nil) at c.loop-from.invariant.read)
+returns c = let none = drop_all c.loop-from.from c.loop-from.bytes (omega arith) in
+    sym (rw (none, append-nil) at c.loop-from.invariant.read)
 
 pub loop-from-preserved-then-bytes-from-eq92-2 : goal.loop-from-preserved-then-bytes-from-eq92-2
 loop-from-preserved-then-bytes-from-eq92-2 c =
@@ -81,5 +82,6 @@ loop-from-preserved-then-bytes-from-eq92-2 c =
       within = omega (arith, length-set b to byte);
       low = omega arith;
       read = rw (take_more_set b to byte (omega arith))
-          (simp append_assoc (plain_read _ _ _ (λ t. refl) (λ c p t. refl) _ so_far.read (byte ∷ []) _ here (other, tt)));
+          (simp append_assoc
+          (plain_read _ _ _ (λ t. refl) (λ c p t. refl) _ so_far.read (byte ∷ []) _ here (other, tt)));
     }
