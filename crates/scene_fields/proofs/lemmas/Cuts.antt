@@ -40,7 +40,7 @@ cut_at b t k first here = (
 pub split_on-lacks : (b : ℕ) (t : List ℕ) → Lacks b t → split_on b t ≡ t ∷ []
 unfolding split_on
 split_on-lacks b [] h = refl
-split_on-lacks b (c ∷ t) h = let e = split_on-lacks b t h.1 in rw (h.0, e) refl
+split_on-lacks b (c ∷ t) h = rw (h.0, split_on-lacks b t h.1) refl
 
 -- and so is one in which no such byte was found
 pub split_on-none : (b : ℕ) (t : List ℕ) → Nowhere (Passes (is_byte b) t) 0 (length t) → split_on b t ≡ t ∷ []
@@ -55,7 +55,7 @@ split_on-missed b hay t (Some k) same none found = cc
 pub split_on-parts : (b : ℕ) (x y : List ℕ) → Lacks b x → split_on b (x ++ (b ∷ y)) ≡ x ∷ split_on b y
 unfolding split_on
 split_on-parts b [] y h = rw (eq-eqb b b refl) refl
-split_on-parts b (c ∷ x) y h = let e = split_on-parts b x y h.1 in rw (h.0, e) refl
+split_on-parts b (c ∷ x) y h = rw (h.0, split_on-parts b x y h.1) refl
 
 pub split_on-first : (b : ℕ) (t : List ℕ) (k : ℕ) → NoneBefore (Passes (is_byte b) t) 0 (length t) k
     → Passes (is_byte b) t k → split_on b t ≡ take k t ∷ split_on b (drop (k + 1) t)
@@ -66,10 +66,10 @@ split_on-first b t k first here = let parts = cut_at b t k first here in ap (spl
 pub cut-lacks : (b : ℕ) (t : List ℕ) → Lacks b t → None ≡ cut b t
 unfolding cut
 cut-lacks b [] h = refl
-cut-lacks b (c ∷ t) h = let e = sym (cut-lacks b t h.1) in rw (h.0, e) refl
+cut-lacks b (c ∷ t) h = rw (h.0, ← cut-lacks b t h.1) refl
 
 -- and one that has it is cut at the first one
 pub cut-parts : (b : ℕ) (x y : List ℕ) → Lacks b x → cut b (x ++ (b ∷ y)) ≡ Some (x, y)
 unfolding cut
 cut-parts b [] y h = rw (eq-eqb b b refl) refl
-cut-parts b (c ∷ x) y h = let e = cut-parts b x y h.1 in rw (h.0, e) refl
+cut-parts b (c ∷ x) y h = rw (h.0, cut-parts b x y h.1) refl

@@ -20,15 +20,14 @@ marks-padded b zero [] some = refl
 marks-padded b (suc n) [] some =
     let unset : (0 == b) ≡ false = grind (arith, nat_tests, some) in
     rw (unset, marks-padded b n [] some) refl
-marks-padded b n (c ∷ t) some = ap (λ m. cond {A = ℕ} (c == b) 1 0 + 2 * m) (marks-padded b n t some)
+marks-padded b n (c ∷ t) some = rw (marks-padded b n t some) refl
 
 -- a block is cut off where the text ends
 pub marks-block : (b : ℕ) (t : List ℕ) (from n : ℕ) → b ≢ 0
     → marks b (take 32 (drop from t) ++ replicate n 0) ≡ marks_between b t from (min (from + 32) (length t))
 marks-block b t from n some =
     let size : min 32 (length (drop from t)) ≡ min (from + 32) (length t) - from = omega (arith, length-drop from t) in
-    marks-padded b n (take 32 (drop from t)) some
-    ∙ ap (marks b) (sym (take_min 32 (drop from t)) ∙ ap (λ k. take k (drop from t)) size)
+    rw (marks-padded b n (take 32 (drop from t)) some, ← take_min 32 (drop from t), size) refl
 
 half : (m : Bool) (n : ℕ) → (cond m 1 0 + 2 * n) / 2 ≡ n
 half m n = grind arith

@@ -1,4 +1,5 @@
--- What a text spells, step by step (for `read_text`, `read_command_line`, `unescape_up_to`).
+-- What a text spells, step by step (for `read_text`, `read_command_line`, `read_instances`,
+-- `unescape_up_to`).
 use Rattle.std.proofs.Common.{◌≡◌, ℕ, zero, suc, List, [], ◌∷◌, ◌++◌, drop, refl, ap, sym, ◌∙◌, append-nil}
 use Rattle.std.{proofs.Common.Option, proofs.Common.Some, proofs.Common.None, specs.Option.option_and_then}
 use Rattle.std.{specs.Option.option_map}

@@ -13,7 +13,7 @@ use Rattle.scene_fields.specs.Counts.{in_turn, pair_in, stats_in, stats_rows}
 use Rattle.scene_fields.specs.Numbers.{IsLeadingNumber, IsNumberAfter, IsNumberOrZero, nanos_in, number_in}
 use Rattle.scene_fields.specs.Split.{BeginsWith, cut, split_on}
 
--- digits are a piece, if what follows them does not begin with another byte of a piece
+-- digits are a whole piece where what follows them begins with an empty one
 digits_first : (b : ℕ) (ds rest : List ℕ) (ps : List (List ℕ)) → digit_value b ≡ 36 → AllDigits 10 ds
     → split_on b rest ≡ [] ∷ ps → split_on b (ds ++ rest) ≡ ds ∷ ps
 unfolding split_on
@@ -52,7 +52,8 @@ module _ {t : List ℕ} {n : ℕ} {rest behind : List ℕ} (r : IsLeadingNumber 
         rw (place, parts) (drop-append-add r.digits (9 ∷ behind) 1),
       )
 
--- the pairs before the rest gave these statistics, and none of them had the key of a row from this one on
+-- the pairs before the rest gave these statistics, and none of them had the key of a row from this one on. The rest
+-- begins with an empty piece: it is empty, or a space comes before the next pair
 record SaidBefore (all : Option RunStats) (place : ℕ) (s : RunStats) (rest : List ℕ) : Type 0 where
   keys : List Bool
   free : (k : ℕ) → place ≤ k → get_or keys k false ≡ false
@@ -93,35 +94,35 @@ abbrev usual_stats : ℕ → ℕ → ℕ → ℕ → ℕ → RunStats
 usual_stats initial finished passed failed skipped = record (planned_stats initial)
     { finished_count = finished; passed = passed; failed = failed; skipped = skipped }
 
--- these pairs say the statistics
-pub usual_pairs : (t : List ℕ) (initial finished passed failed skipped : ℕ) (r1 r2 r3 r4 r5 : List ℕ)
-    → IsNumberAfter (codes "initial=") t initial r1 → IsNumberAfter (codes " finished=") r1 finished r2
-    → IsNumberOrZero (codes " passed=") r2 passed r3 → IsNumberOrZero (codes " failed=") r3 failed r4
-    → IsNumberOrZero (codes " skipped=") r4 skipped r5 → r5 ≡ []
-    → stats_in t ≡ Some (usual_stats initial finished passed failed skipped)
-unfolding cut in_turn split_on stats_in
-usual_pairs t initial finished passed failed skipped r1 r2 r3 r4 r5 h1 h2 h3 h4 h5 end =
-    let none : SaidBefore (stats_in t) 0 (planned_stats 0) (32 ∷ t) = record {
-      keys = replicate 15 false;
-      free = λ k l. elim (cases_lt k 15) [
-        | inl inside ↦ get_or-replicate 15 k false false inside
-        | inr past ↦ get_or_past (replicate 15 false) k false past
-      ];
-      goes_on = λ ps e. let pieces : split_on 32 t ≡ ps = cc in rw (← pieces, h1.front) refl;
-    } in
-    let first : IsNumberAfter (codes " initial=") (32 ∷ t) initial r1 = record {
-      behind = h1.behind;
-      front = ap (λ u. 32 ∷ u) h1.front;
-      number = h1.number;
-    } in
-    let s1 = next_pair none 0 (omega arith) planned_stats first
-    (λ keys u digits n ps piece number new. rw (piece, number, new) refl) in
-    let s2 = next_pair s1 1 (omega arith) (λ n. usual_stats initial n 0 0 0) h2
-    (λ keys u digits n ps piece number new. rw (piece, number, new) refl) in
-    let s3 = next_or_zero s2 2 (omega arith) (λ n. usual_stats initial finished n 0 0) h3
-    (λ keys u digits n ps piece number new. rw (piece, number, new) refl) refl in
-    let s4 = next_or_zero s3 6 (omega arith) (λ n. usual_stats initial finished passed n 0) h4
-    (λ keys u digits n ps piece number new. rw (piece, number, new) refl) refl in
-    let s5 = next_or_zero s4 10 (omega arith) (usual_stats initial finished passed failed) h5
-    (λ keys u digits n ps piece number new. rw (piece, number, new) refl) refl in
-    s5.goes_on [] (rw end refl)
+module _ {t : List ℕ} {initial finished passed failed skipped : ℕ} {r1 r2 r3 r4 r5 : List ℕ} where
+  -- these pairs say the statistics
+  pub usual_pairs : IsNumberAfter (codes "initial=") t initial r1
+      → IsNumberAfter (codes " finished=") r1 finished r2 → IsNumberOrZero (codes " passed=") r2 passed r3
+      → IsNumberOrZero (codes " failed=") r3 failed r4 → IsNumberOrZero (codes " skipped=") r4 skipped r5
+      → r5 ≡ [] → stats_in t ≡ Some (usual_stats initial finished passed failed skipped)
+  unfolding cut in_turn split_on stats_in
+  usual_pairs h1 h2 h3 h4 h5 end =
+      let none : SaidBefore (stats_in t) 0 (planned_stats 0) (32 ∷ t) = record {
+        keys = replicate 15 false;
+        free = λ k l. elim (cases_lt k 15) [
+          | inl inside ↦ get_or-replicate 15 k false false inside
+          | inr past ↦ get_or_past (replicate 15 false) k false past
+        ];
+        goes_on = λ ps e. let pieces : split_on 32 t ≡ ps = cc in rw (← pieces, h1.front) refl;
+      } in
+      let first : IsNumberAfter (codes " initial=") (32 ∷ t) initial r1 = record {
+        behind = h1.behind;
+        front = ap (λ u. 32 ∷ u) h1.front;
+        number = h1.number;
+      } in
+      let s1 = next_pair none 0 (omega arith) planned_stats first
+      (λ keys u digits n ps piece number new. rw (piece, number, new) refl) in
+      let s2 = next_pair s1 1 (omega arith) (λ n. usual_stats initial n 0 0 0) h2
+      (λ keys u digits n ps piece number new. rw (piece, number, new) refl) in
+      let s3 = next_or_zero s2 2 (omega arith) (λ n. usual_stats initial finished n 0 0) h3
+      (λ keys u digits n ps piece number new. rw (piece, number, new) refl) refl in
+      let s4 = next_or_zero s3 6 (omega arith) (λ n. usual_stats initial finished passed n 0) h4
+      (λ keys u digits n ps piece number new. rw (piece, number, new) refl) refl in
+      let s5 = next_or_zero s4 10 (omega arith) (usual_stats initial finished passed failed) h5
+      (λ keys u digits n ps piece number new. rw (piece, number, new) refl) refl in
+      s5.goes_on [] (rw end refl)

@@ -43,7 +43,7 @@ module _ {C : Type 0} (rows : C → List (Row C)) (before : CountedRows C) (left
     (so_far : option_map (λ read. read.0) (in_turn (pair_in rows) before (split_on 32 left)) ≡ all) where
   stops : IsBad left → None ≡ all
   unfolding in_turn
-  stops bad = let none = cut-lacks 61 bad.0 bad.3 in rw (bad.2, sym none) at so_far
+  stops bad = rw (bad.2, ← cut-lacks 61 bad.0 bad.3) at so_far
 
   no_value : Lacks 61 left → None ≡ all
   no_value h = stops (subst IsBad (append-nil left) (bad_front left [] h (λ none. refl)))

@@ -1,9 +1,8 @@
-use Rattle.std.proofs.Common.{◌≡◌, ◌+◌, ◌-◌, subst, arith}
-use Rattle.std.{specs.Str.IsCharBoundary, proofs.lemmas.Str.IsCharBoundary-after_ascii}
+use Rattle.std.proofs.Common.{◌≡◌, ◌+◌, ◌-◌, arith}
+use Rattle.{std.proofs.lemmas.Str.IsCharBoundary-after_ascii}
 
 pub range_from-requires : Rattle.scene_fields.proofs.texts.push_stretch.Goals.range_from-requires
 range_from-requires c above =
     let f = rw c.as_bytes.ensures.value at c.in-Some.ensures.len in
     let e : c.in-Some.len - 1 + 1 ≡ c.in-Some.len = omega arith in
-    subst (λ n. IsCharBoundary c.args.escape.now n) e
-    (IsCharBoundary-after_ascii c.args.escape.now (c.in-Some.len - 1) c.utf8.escape (omega arith) (omega arith))
+    rw e at (IsCharBoundary-after_ascii c.args.escape.now (c.in-Some.len - 1) c.utf8.escape (omega arith) (omega arith))

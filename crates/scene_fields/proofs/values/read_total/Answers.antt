@@ -4,15 +4,14 @@ use Rattle.{scene_fields.specs.Values.total_in, scene_fields.specs.Values.non_ze
 use Rattle.{std.specs.Int.NonZero.non_zero_u32_get, std.specs.declared.num.NonZeroU32.NonZeroU32}
 use Rattle.{std.proofs.Props.props}
 
-below_prop : (n m : ℕ) → IsProp (n < m)
-below_prop n m = search props
-
 abbrev made : (v : ℕ) (h : 0 < v) → NonZeroU32
 made v h = record { value = v; ok = h }
 
 of_value : (v : ℕ) (h : 0 < v) → Some (made v h) ≡ non_zero v
 of_value zero h = absurd (omega arith)
-of_value (suc n) h = ap (λ (q : 0 < suc n). Some (made (suc n) q)) (below_prop 0 (suc n) h (zero-lt-suc n))
+of_value (suc n) h =
+    let same : IsProp (0 < suc n) = search props in
+    ap (λ (q : 0 < suc n). Some (made (suc n) q)) (same h (zero-lt-suc n))
 
 non_zero_by : (n : ℕ) (r : Option NonZeroU32) → MatchOption r (n ≡ 0) (λ x. non_zero_u32_get x ≡ n) → r ≡ non_zero n
 non_zero_by n None h = rw h refl
