@@ -53,11 +53,11 @@ other_event_rows =
 -- and each that is an event
 unfoldable pub event_rows : List (List ℕ × Line SceneEvent)
 event_rows =
-    (codes "done", with_attempts done_line_fields)
-    ∷ (codes "start", exactly 5 start_line_fields)
+    (codes "retry", exactly 15 retry_line_fields)
     ∷ (codes "retrystart", exactly 6 retry_start_line_fields)
     ∷ (codes "slow", exactly 7 slow_line_fields)
-    ∷ (codes "retry", exactly 15 retry_line_fields)
+    ∷ (codes "done", with_attempts done_line_fields)
+    ∷ (codes "start", exactly 5 start_line_fields)
     ∷ (codes "skip", exactly 3 skip_line_fields)
     ∷ other_event_rows
 

@@ -8,8 +8,7 @@ use Rattle.scene_fields.specs.Values.{flaky_in}
 use Rattle.scene_unit_lines.specs.Lines.{retry_numbered}
 use Rattle.scene_reader.specs.SceneTexts.{LinesBefore, line_place, line_words, with_stored}
 use Rattle.scene_reader.specs.SceneTexts.ParsedLine.{EventLine}
-use Rattle.scene_reader.specs.declared.usual.{NameFields.NameFields, UsualDone.UsualDone, UsualFields.UsualFields}
-use Rattle.scene_reader.specs.declared.usual.{UsualStart.UsualStart}
+use Rattle.scene_reader.specs.declared.usual.{UsualDone.UsualDone, UsualFields.UsualFields, UsualStart.UsualStart}
 use Rattle.run_model.specs.declared.output.ChildExecutionOutputDescription.TheVariants as wrote
 use Rattle.run_model.specs.declared.output.ChildOutputDescription.TheVariants as streams
 use Rattle.run_model.specs.declared.event.TestEventKind.TheVariants as event
@@ -41,9 +40,9 @@ abbrev pub start_event : OwnedTestInstanceId → UsualStart → SceneEvent
 start_event names u = event_at 0 (event.TestStarted None (test_named names.binary_id names.test_name) u.current_stats
     u.command_line)
 
--- the names that the fields spell
-abbrev pub AreNames : NameFields → OwnedTestInstanceId → Type 0
-AreNames f names = (text_in f.binary_id.now ≡ Some names.binary_id) × (text_in f.test_name.now ≡ Some names.test_name)
+-- the names that these fields spell
+abbrev pub AreNames : List ℕ → List ℕ → OwnedTestInstanceId → Type 0
+AreNames id name names = (text_in id ≡ Some names.binary_id) × (text_in name ≡ Some names.test_name)
 
 -- the first two fields of a line are a number of attempts and an outcome, and this text follows their tabs
 abbrev pub BeginsWithOutcome : List ℕ → ℕ → Option ℤ → List ℕ → Type 0
@@ -53,7 +52,7 @@ BeginsWithOutcome t n code rest = (total outcome : List ℕ) × (split_on 9 t �
 -- the fields of a usual `done` line
 abbrev pub SaysFields : List (List ℕ) → UsualFields → Type 0
 SaysFields fields u = (success failure flaky total outcome nanos : List ℕ) × (fields
-    ≡ codes "done" ∷ codes "-" ∷ u.names.binary_id.now ∷ u.names.test_name.now ∷ success ∷ failure ∷ flaky ∷ u.stats.now
+    ≡ codes "done" ∷ codes "-" ∷ u.binary_id.now ∷ u.test_name.now ∷ success ∷ failure ∷ flaky ∷ u.stats.now
     ∷ total ∷ outcome ∷ nanos ∷ codes "0" ∷ codes "split" ∷ u.stdout.now ∷ u.stderr.now ∷ codes "-" ∷ codes "-" ∷ [])
     × (display_in success ≡ Some u.values.success_output) × (display_in failure ≡ Some u.values.failure_output)
     × (flaky_in flaky ≡ Some u.values.flaky_result) × (number_in 32 total ≡ Some u.values.total_attempts)

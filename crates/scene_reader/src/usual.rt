@@ -15,7 +15,7 @@ use run_model::command::CommandLine;
 use run_model::config::TestOutputDisplay;
 use run_model::event::{TestEvent, TestEventKind};
 use run_model::memory::OutOfMemory;
-use run_model::name::{OwnedTestInstanceId, TestInstanceId};
+use run_model::name::OwnedTestInstanceId;
 use run_model::output::{
     ChildExecutionOutputDescription, ChildOutputDescription, ChildSingleOutput,
 };
@@ -61,17 +61,11 @@ struct UsualValues {
 #[derive(Clone, Copy)]
 struct UsualFields<'t> {
     values: UsualValues,
-    names: NameFields<'t>,
+    binary_id: &'t str,
+    test_name: &'t str,
     stats: &'t str,
     stdout: &'t str,
     stderr: &'t str,
-}
-
-// The fields of the names of a test.
-#[derive(Clone, Copy)]
-struct NameFields<'t> {
-    binary_id: &'t str,
-    test_name: &'t str,
 }
 
 /// What a usual `start` line says. Its names are read beside it.
@@ -84,7 +78,8 @@ pub struct UsualStart {
 // The fields of a usual `start` line.
 #[derive(Clone, Copy)]
 struct StartFields<'t> {
-    names: NameFields<'t>,
+    binary_id: &'t str,
+    test_name: &'t str,
     stats: &'t str,
     command_line: &'t str,
 }
@@ -110,7 +105,7 @@ pub fn read_usual(alloc: Global, line: &str, names: &mut OwnedTestInstanceId) ->
     let Some(stderr) = read_stream(alloc, usual.stderr)? else {
         return Ok(None);
     };
-    let Some(()) = usual.names.read(alloc, names)? else {
+    let Some(()) = read_names(alloc, usual.binary_id, usual.test_name, names)? else {
         return Ok(None);
     };
     Ok(Some(UsualDone {
@@ -145,10 +140,8 @@ fn cut_fields(line: &str) -> Option<UsualFields<'_>>
             exit_code,
             time_taken,
         },
-        names: NameFields {
-            binary_id,
-            test_name,
-        },
+        binary_id,
+        test_name,
         stats,
         stdout,
         stderr,
@@ -231,7 +224,6 @@ fn read_written(alloc: Global, field: &str) -> Field<Option<ChildSingleOutput>>
 ///
 /// Memory was refused.
 #[inline(always)]
-#[tactic(auto, unfolding(crate::specs::EventLines::event_rows, scene_unit_lines::specs::Lines::instance_fields))]
 pub fn read_usual_start(
     alloc: Global,
     line: &str,
@@ -248,7 +240,7 @@ pub fn read_usual_start(
     let Some(command_line) = read_command_line(alloc, start.command_line)? else {
         return Ok(None);
     };
-    let Some(()) = start.names.read(alloc, names)? else {
+    let Some(()) = read_names(alloc, start.binary_id, start.test_name, names)? else {
         return Ok(None);
     };
     Ok(Some(UsualStart {
@@ -259,10 +251,9 @@ pub fn read_usual_start(
 
 // Cuts a usual `start` line into its fields.
 #[inline(always)]
-#[tactic(auto, unfolding(scene_fields::specs::Split::split_on))]
 fn cut_start(line: &str) -> Option<StartFields<'_>>
     ensures { IfSome result (λ u. split_on 9 line.now
-        ≡ codes "start" ∷ codes "-" ∷ u.names.binary_id.now ∷ u.names.test_name.now ∷ u.stats.now ∷ u.command_line.now
+        ≡ codes "start" ∷ codes "-" ∷ u.binary_id.now ∷ u.test_name.now ∷ u.stats.now ∷ u.command_line.now
         ∷ []) }
 {
     let (binary_id, rest) = cut_field(line.strip_prefix("start\t-\t")?)?;
@@ -271,27 +262,28 @@ fn cut_start(line: &str) -> Option<StartFields<'_>>
     match split_at_byte(command_line, b'\t') {
         Some(_) => None,
         None => Some(StartFields {
-            names: NameFields {
-                binary_id,
-                test_name,
-            },
+            binary_id,
+            test_name,
             stats,
             command_line,
         }),
     }
 }
 
-impl NameFields<'_> {
-    // Reads the names in place of others. None is a bad field.
-    #[inline(always)]
-    fn read(&self, alloc: Global, names: &mut OwnedTestInstanceId) -> Field<()>
-        ensures { IfOk result (λ read. IfSome read (λ _. AreNames self.now names.new)) }
-    {
-        let Some(()) = replace_name(alloc, self.binary_id, &mut names.binary_id)? else {
-            return Ok(None);
-        };
-        replace_name(alloc, self.test_name, &mut names.test_name)
-    }
+// Reads the names of a test in place of others. None is a bad field.
+#[inline(always)]
+fn read_names(
+    alloc: Global,
+    binary_id: &str,
+    test_name: &str,
+    names: &mut OwnedTestInstanceId,
+) -> Field<()>
+    ensures { IfOk result (λ read. IfSome read (λ _. AreNames binary_id.now test_name.now names.new)) }
+{
+    let Some(()) = replace_name(alloc, binary_id, &mut names.binary_id)? else {
+        return Ok(None);
+    };
+    replace_name(alloc, test_name, &mut names.test_name)
 }
 
 impl UsualStart {
@@ -304,10 +296,7 @@ impl UsualStart {
             elapsed: Nanos(0),
             kind: TestEventKind::TestStarted {
                 stress_index: None,
-                test_instance: TestInstanceId {
-                    binary_id: &names.binary_id,
-                    test_name: &names.test_name,
-                },
+                test_instance: names.as_ref(),
                 current_stats: self.current_stats,
                 command_line: self.command_line,
             },
@@ -331,10 +320,7 @@ impl UsualDone {
             elapsed: Nanos(0),
             kind: TestEventKind::TestFinished {
                 stress_index: None,
-                test_instance: TestInstanceId {
-                    binary_id: &names.binary_id,
-                    test_name: &names.test_name,
-                },
+                test_instance: names.as_ref(),
                 success_output: values.success_output,
                 failure_output: values.failure_output,
                 run_statuses: ExecutionStatuses::with_last(

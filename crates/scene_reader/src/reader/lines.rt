@@ -17,7 +17,8 @@ use scene_unit_lines::lines::{
 use std::alloc::Global;
 
 /// Reads the fields behind a word, which names the kind of event, into the call that they spell. These are the names of
-/// its test. The words of tests come first, since most lines are theirs.
+/// its test. The words of tests come first, since most lines are theirs, but usual `done` and `start` lines are read
+/// elsewhere.
 #[inline(always)]
 #[tactic(auto, unfolding(crate::specs::EventLines::event_rows))]
 pub fn read_event<'n, N: TestNames<'n>>(
@@ -29,13 +30,9 @@ pub fn read_event<'n, N: TestNames<'n>>(
     ensures { Gives call_by_names fields.old result fields.new (event_line_fields word.now) }
 {
     match word {
-        "done" => {
-            fields.with_attempts()?;
-            read_done(alloc, names, fields)
-        }
-        "start" => {
-            fields.exactly(5)?;
-            read_start(alloc, names, fields)
+        "retry" => {
+            fields.exactly(15)?;
+            read_retry(alloc, names, fields)
         }
         "retrystart" => {
             fields.exactly(6)?;
@@ -45,9 +42,13 @@ pub fn read_event<'n, N: TestNames<'n>>(
             fields.exactly(7)?;
             read_slow(alloc, names, fields)
         }
-        "retry" => {
-            fields.exactly(15)?;
-            read_retry(alloc, names, fields)
+        "done" => {
+            fields.with_attempts()?;
+            read_done(alloc, names, fields)
+        }
+        "start" => {
+            fields.exactly(5)?;
+            read_start(alloc, names, fields)
         }
         "skip" => {
             fields.exactly(3)?;

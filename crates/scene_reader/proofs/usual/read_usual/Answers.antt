@@ -8,7 +8,7 @@ unfolding after_streams all_attempts attempt_fields attempts_from event_rows ins
     spelled_output_fields
 returns c before =
     let says = c.in-Some.ensures in
-    let named = rw c.in-Some-4.is at c.in_ok-read.ensures in
+    let named = rw c.in-Some-4.is at c.in_ok-read_names.ensures in
     rw (
       says.6,
       named.0,
