@@ -28,26 +28,43 @@ FAILURES = ("failed", "exec", "timedout", "setupfailed", "setupexec", "setuptime
 
 
 class Failure:
-    """A test or a setup script that failed: its name, and what it wrote."""
+    """A test or a setup script that failed: its name, and what it wrote, also in earlier attempts; the first text is
+    that of the last attempt that failed."""
 
-    def __init__(self, names, fields):
-        self.name, self.result = " ".join(map(plain, names)), plain(fields[0])
+    def __init__(self, names, *attempts):
+        self.name, self.result = " ".join(map(plain, names)), plain(attempts[-1][0])
         self.folders = plain(names[0]).split("/")[-DEEPEST:]
-        # What JUnit XML says of a failure is before standard error.
-        streams = [fields[5], fields[4]] if fields[3] == b"split" else [fields[4]]
-        self.wrote = [text for text in (UNSEEN.sub("", plain(it)) for it in streams if it != b"-") if text.strip()]
-        self.wrote = [it.replace("\r\n", "\n").replace("\r", "\n").lstrip("\n").rstrip() for it in self.wrote]
+        self.wrote = written_by(attempts[-1])
+        said = {*self.wrote}
+        # Of many attempts the last ones say enough.
+        for number in range(len(attempts) - 1, max(0, len(attempts) - LINES), -1):
+            texts = [it for it in written_by(attempts[number - 1]) if it not in said]
+            said.update(texts)
+            self.wrote += [f"attempt {number}: {it}" for it in texts]
 
     def place(self):
         """The first file that what it wrote names and that is there, and the line; None where there is none. Go names
         a file without its folder, which the end of the package's path has."""
+        tried = set()
         for found in (it for text in self.wrote for it in PLACE.finditer(text)):
+            # A log names the same few files a thousand times.
+            if found[1] in tried:
+                continue
+            tried.add(found[1])
             folders = [] if "/" in found[1] else self.folders
             for start in range(len(folders) + 1):
-                path = os.path.relpath("/".join([*folders[start:], found[1]]))
-                if not path.startswith("..") and os.path.isfile(path):
+                path = "/".join([*folders[start:], found[1]])
+                if os.path.isfile(path) and not (path := os.path.relpath(path)).startswith(".."):
                     return path, found[2]
         return None
+
+
+def written_by(fields):
+    """The texts that an attempt wrote."""
+    # What JUnit XML says of a failure is before standard error.
+    streams = [fields[5], fields[4]] if fields[3] == b"split" else [fields[4]]
+    wrote = [text for text in (UNSEEN.sub("", plain(it)) for it in streams if it != b"-") if text.strip()]
+    return [it.replace("\r\n", "\n").replace("\r", "\n").lstrip("\n").rstrip() for it in wrote]
 
 
 class Summary:
@@ -55,7 +72,7 @@ class Summary:
 
     def __init__(self, file):
         self.file, self.took, self.counts, self.has_ended = file, 0, {}, False
-        self.failed, self.failures, self.flaky, self.slowest = 0, [], [], []
+        self.failed, self.failures, self.flakes, self.flaky, self.slowest = 0, [], 0, [], []
 
     def read(self, number, line):
         fields = line.rstrip(b"\n").split(b"\t")
@@ -81,10 +98,14 @@ class Summary:
         if count <= 0 or count % FIELDS_OF_AN_ATTEMPT:
             raise ValueError
         names, was_retried = fields[2:4], count > FIELDS_OF_AN_ATTEMPT
-        if last[0] not in PASSED or (was_retried and fields[6] == b"fail"):
-            self.fail(Failure(names, last))
-        elif was_retried:
-            self.flaky.append(" ".join(map(plain, names)))
+        if last[0] in PASSED and not was_retried:
+            pass
+        elif last[0] in PASSED and fields[6] != b"fail":
+            self.flakes += 1
+            if len(self.flaky) < MOST:
+                self.flaky.append(Failure(names, *attempts_in(fields)[:-1]))
+        else:
+            self.fail(Failure(names, *attempts_in(fields)[: -1 if last[0] in PASSED else None]))
         heapq.heappush(self.slowest, (number_of(last[1]), -number, " ".join(map(plain, names))))
         if len(self.slowest) > SLOWEST:
             heapq.heappop(self.slowest)
@@ -117,39 +138,53 @@ class Summary:
         lost = max(0, self.count("initial") - finished)
         shown += [(f"{self.count('skipped')} skipped", True), (f"{lost} not run", lost)]
         yield f"{', '.join(text for text, is_shown in shown if is_shown)}, in {spoken(self.took)}.\n\n"
-        parts = self.parts()
+        parts, room = parts_of(self.failures, SIZE)
         yield from parts
         if self.failed > len(parts):
             yield f"And {self.failed - len(parts)} more.\n\n"
         if self.flaky:
-            more = f" and {len(self.flaky) - MOST} more" if len(self.flaky) > MOST else ""
-            yield f"**Flaky:** {', '.join(f'<code>{escaped(it)}</code>' for it in self.flaky[:MOST])}{more}\n\n"
+            yield "**Flaky:**\n\n"
+            parts, _ = parts_of(self.flaky, room)
+            yield from parts
+        if self.flakes > len(parts) and self.flaky:
+            yield f"And {self.flakes - len(parts)} more.\n\n"
         if self.slowest:
             yield "| Slowest tests | |\n|---|---|\n"
         for nanos, _, name in sorted(self.slowest, reverse=True):
             yield f"| <code>{escaped(name)}</code> | {spoken(nanos)} |\n"
 
-    def parts(self):
-        """The parts for the first failures, as many as there is room for."""
-        parts, room = [], SIZE
-        for it in self.failures:
-            code = "\n\n".join(map(indented, it.wrote)) or f"    {it.result}"
-            part = f"<details><summary><code>{escaped(it.name)}</code></summary>\n\n{code}\n\n</details>\n\n"
-            room -= len(entry.encoded(part))
-            if room < 0:
-                break
-            parts.append(part)
-        return parts
-
     def annotations(self):
-        count = ANNOTATIONS if self.failed <= ANNOTATIONS else ANNOTATIONS - 1
-        for it in self.failures[:count]:
-            place = it.place()
-            at = f"file={property_of(place[0])},line={place[1]}," if place else ""
-            said = shortened(it.wrote[0]) if it.wrote else it.result
-            yield f"::error {at}title={property_of(it.name)}::{message_of(said)}\n"
-        if self.failed > count:
-            yield f"::error title=test failures::and {self.failed - count} more\n"
+        yield from annotations_of("error", "", self.failures, self.failed, "test failures")
+        # GitHub takes as many warnings beside them.
+        yield from annotations_of("warning", "flaky: ", self.flaky, self.flakes, "flaky tests")
+
+
+def annotations_of(kind, before, failures, total, all_of_them):
+    count = ANNOTATIONS if total <= ANNOTATIONS else ANNOTATIONS - 1
+    for it in failures[:count]:
+        place = it.place()
+        at = f"file={property_of(place[0])},line={place[1]}," if place else ""
+        said = shortened(it.wrote[0]) if it.wrote else it.result
+        yield f"::{kind} {at}title={property_of(before + it.name)}::{message_of(said)}\n"
+    if total > count:
+        yield f"::{kind} title={all_of_them}::and {total - count} more\n"
+
+
+def parts_of(failures, room):
+    """The parts for the first failures, as many as there is room for, and the room that is left."""
+    parts = []
+    for it in failures:
+        code = "\n\n".join(map(indented, it.wrote)) or f"    {it.result}"
+        part = f"<details><summary><code>{escaped(it.name)}</code></summary>\n\n{code}\n\n</details>\n\n"
+        room -= len(entry.encoded(part))
+        if room < 0:
+            break
+        parts.append(part)
+    return parts, max(room, 0)
+
+
+def attempts_in(fields):
+    return [fields[at : at + FIELDS_OF_AN_ATTEMPT] for at in range(FIELDS_BEFORE, len(fields), FIELDS_OF_AN_ATTEMPT)]
 
 
 def counts_of(statistics):

@@ -113,10 +113,19 @@ def uncut():
 
 
 class Folder(tempfile.TemporaryDirectory):
-    """A temporary folder, of which a signal leaves nothing."""
+    """A temporary folder, of which a signal leaves nothing, nor does a process that can open no more files: to remove
+    it takes two."""
+
+    def __init__(self, *words, **how):
+        super().__init__(*words, **how)
+        self.spare = []
+        with contextlib.suppress(OSError):
+            self.spare += [os.open("/", os.O_RDONLY) for _ in range(2)]
 
     def cleanup(self):
         with uncut():
+            while self.spare:
+                os.close(self.spare.pop())
             super().cleanup()
 
 

@@ -3,6 +3,7 @@ built once (unproved_program.py)."""
 
 import contextlib
 import os
+import resource
 import sys
 import tempfile
 import threading
@@ -15,6 +16,8 @@ from norigully.programs import is_of, program, sum_of_sources, take
 
 # How often a build says how far it is, on a terminal and elsewhere, and how long it takes, in seconds.
 TICK, LATER, BUILD = 1.0, 30.0, 60
+# The bytes of addresses that a program without its proof needs.
+SPACE = 20 << 40
 
 
 class BuildLine:
@@ -78,6 +81,15 @@ def build(called, name):
     fault(called, "the program was not built", NOT_BUILT)
 
 
+def check_space(called, name):
+    """Ends this where a program without its proof could not begin: it checks each access to memory, and for that it has
+    the addresses of 20 TB."""
+    most, _ = resource.getrlimit(resource.RLIMIT_AS)
+    if most != resource.RLIM_INFINITY and most < SPACE:
+        why = f"the limit of memory is {most >> 10} KB (ulimit -v), under which {name} without its proof cannot begin"
+        fault(called, f"{why}; ./build makes one that can", FAILED)
+
+
 def check_mount(called, variable, folder):
     """Ends this where no program can run from this folder, and says what helps. One that is not there yet will be in
     one above."""
@@ -94,6 +106,7 @@ def find(called, name):
     sources = sum_of_sources(name)
     if is_of(name, sources) or take(name, sources):
         return program(name)
+    check_space(called, name)
     if found := unproved_program.find(name, sources):
         check_mount(called, "XDG_CACHE_HOME", unproved_program.programs().at)
     return found or build(called, name)

@@ -6,7 +6,9 @@ import contextlib
 import errno
 import functools
 import importlib
+import itertools
 import os
+import re
 import secrets
 import signal
 import stat
@@ -15,7 +17,7 @@ import tempfile
 
 from norigully import VERSION, entry, print_help_if_asked
 from norigully.entry import ERROR, INPUT, OUTPUT, WRONG, Bad, NotBuilt, NotWritten, is_same_file
-from norigully.words import options_of, usage, why_wrong
+from norigully.words import options_of, settings_of, usage, why_wrong
 
 # The first words that name another program than `report`.
 PROGRAMS = {"--follow": "follow", "--recorded": "replay"}
@@ -23,6 +25,9 @@ PROGRAMS = {"--follow": "follow", "--recorded": "replay"}
 # scene is made.
 PAGE, SUMMARY, ANNOTATIONS = "--page", "--summary", "--annotations"
 CONVERTERS = {"--junit": "norigully.junit", "--libtest": "norigully.libtest_json"}
+# Lines by which cargo and libtest are known.
+LIBTEST = re.compile(rb'^\{\s*("type"\s*:\s*"suite"|"reason"\s*:\s*"compiler-)', re.M)
+CARGO = re.compile(rb"^( +(Compiling|Finished|Running) .*[\])]|running \d+ tests?)\r?$", re.M)
 # The word that leaves the lines out by which GitHub takes no command.
 UNSTOPPED = "--no-stop-commands"
 # The statuses of a program that printed a whole report.
@@ -70,6 +75,12 @@ def looks_like(path):
             text = os.pread(file.fileno(), 4096, file.tell()).removeprefix(codecs.BOM_UTF8).lstrip()
     except OSError:
         return None
+    if text.startswith(b"{") and b'"Action"' in text.split(b"\n")[0]:
+        return "this is of `go test -json`: --junit reads what `gotestsum --junitfile run.xml` makes of it"
+    if LIBTEST.search(text):
+        return "this is JSON among cargo's lines: --libtest reads it"
+    if CARGO.search(text):
+        return "this is text of `cargo test`: --libtest reads its JSON (docs/REAL_RUNS.md)"
     for begin, what in ((b"<", "this is XML: --junit"), (b"{", "this is JSON: --libtest")):
         if text.startswith(begin):
             return f"{what} reads it"
@@ -156,13 +167,17 @@ def write_beside(made, words):
     entry.write(f"::stop-commands::{token}\n{text}::{token}::\n" if token else text)
 
 
-def with_scene(typed, converter, words):
+def with_scene(typed, made, converter, words):
     """The words with - in place of the files of another tool, of which standard input is the scene from here on; None
     where they name no file."""
+    settings, words = settings_of(words)
     at = 0
     while at < len(words) and words[at].startswith("-") and words[at] != "-":
         at += 2 if words[at] in ("--level", "--store", "-o", "--title", "--choices") else 1
     files = words[at:]
+    # An option that nobody knows is named before its value is taken for a file.
+    if (made is None) and (why := why_wrong("report", [*words[:at], "-"])):
+        raise Bad(f"{why} ({typed} --help)")
     for option, to in zip(words[:at], words[1:at]):
         if option in ("--store", "-o") and any(is_same_file(to, INPUT if it == "-" else it) for it in files):
             raise Bad(f"cannot write {to}")
@@ -170,6 +185,7 @@ def with_scene(typed, converter, words):
         return None
     say = functools.partial(entry.fault, typed, status=0)
     lines = importlib.import_module(CONVERTERS[converter]).convert(files, say)
+    lines = itertools.chain(settings, lines)
     with tempfile.TemporaryFile() as scene:
         entry.write_all(lines, scene.fileno())
         os.lseek(scene.fileno(), 0, os.SEEK_SET)
@@ -199,7 +215,7 @@ def do(typed, words, kit_line, find):
         converter, *words = words
         if made is None and words[:1] == ["--follow"]:
             del words[0]
-        if converted := with_scene(typed, converter, words):
+        if converted := with_scene(typed, made, converter, words):
             words = converted if made else ["--follow", *converted]
     if made is None:
         become(typed, words, find)

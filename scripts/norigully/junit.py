@@ -2,15 +2,16 @@
 
 import os
 import re
+import stat
 import uuid
 import xml.etree.ElementTree as tree
 from collections import Counter
 from xml.parsers import expat
 
-from norigully.entry import Bad, pieces_of
+from norigully.entry import Bad, pieces_of, unread
 from norigully.held_lines import held
 from norigully.scene_lines import RUN_ID, UNKNOWN_FAILURE, Attempt, WholeRun, nanos
-from norigully.xml_characters import without_unfit
+from norigully.xml_characters import PIECE, has_unfit, without_unfit
 
 # How nextest's types of failures begin. The signal of an abort is in its message; no other message counts, since it has
 # the words of a test.
@@ -20,13 +21,17 @@ SIGNAL = re.compile(r"signal:? (\d{1,9})\b(?:[ (:]+SIG([A-Z0-9]+))?", re.A)
 TIMEOUT = re.compile(r"(?:test|(?:setup )?script) timeout\b")
 # Thousands with commas, as surefire writes them; any other comma is that of a decimal fraction.
 THOUSANDS = re.compile(r"\s*\d{1,3}(?:,\d{3})+(?:\.\d*)?\s*", re.A)
-COUNT = re.compile(r"\d{1,9}", re.A)
+# A count, as a tool may write it: `1.0`, ` 1 `, `1,234`.
+COUNT = re.compile(r"\s*\+?(\d{1,18}|\d{1,3}(?:,\d{3}){1,5})(?:\.0*)?\s*", re.A)
 # pytest writes such a line above each stream, also where nothing follows.
 NOTHING_CAPTURED = re.compile(r"^-{33} Captured (?:Log|Out|Err) -{33}\n\s*(?=\Z|-{33} Captured )", re.M)
 # Node writes the duration of its run in a comment.
 DURATION = re.compile(r"\s*duration_ms (\d+(?:\.\d+)?)\s*", re.A)
+# Where another document begins behind one.
+JUNK, ANOTHER = 9, re.compile(rb"<(?:\?xml|testsuites?)\b")
 FAILED, FAILURES = ("failure", "error"), ("failures", "errors")
-EARLIER = ("flakyFailure", "flakyError", "rerunFailure", "rerunError")
+FLAKY = ("flakyFailure", "flakyError")
+EARLIER = (*FLAKY, "rerunFailure", "rerunError")
 STREAMS = ("system-out", "system-err")
 # What may be in each element; text may be in all.
 IN_SUITES = {"testsuite", "testcase", "properties", *STREAMS, *FAILED}
@@ -45,25 +50,54 @@ ATTRIBUTES = {
     *("skip", "tag", "doctest_version"),
 }
 MAY_FAIL = "TEST_CASE tagged with !mayfail"
-# How tests without an element that says so have failed, by their `status` or `result`.
-STATED = ("fail", "failed", "failure", "error")
+# By what `status` or `result` a test without an element has not failed. Any other word is that of a failure: none is
+# green that nobody knows.
+GOOD = {
+    *("", "run", "pass", "passed", "ok", "success", "successful", "succeeded", "complete", "completed", "done", "fixed"),
+    *("finished", "executed", "true", "skip", "skipped", "ignored", "pending", "todo", "disabled", "notrun", "suppressed"),
+    *("untested", "xfail", "xfailed", "0"),
+}
+# By which of them it did not run.
+NOT_RUN = ("disabled", "notrun", "skipped")
 # Tools that say something in another way than all others, as their files name them.
 QTEST, DOCTEST, CPPLINT, NOSE2 = "QTest", "doctest", "cpplint", "nose2-junit"
 # What fails a run of nose2, and what fails none of prove.
 UNEXPECTED, TODO_PASSED = "test passes unexpectedly", "TodoTestSucceeded"
+# What is said of a test of which there is a time and no more: so pytest leaves one in which it was interrupted.
+INTERRUPTED = "The file has no name of this test, as pytest leaves one in which it was interrupted."
 # Suites in suites: more are no test results.
 DEEPEST = 100
 # Of what was left out so many names are said, and so much of each.
 SAID, LONGEST = 8, 40
 
 
-class Suite:
+class Failures:
+    """The failures and errors that tests have, and how many tests have one."""
+
+    def __init__(self):
+        self.elements, self.tests = Counter(), 0
+
+    def add(self, tags):
+        self.elements.update(tags)
+        self.tests += bool(tags)
+
+    def lost(self, counts):
+        """How many of these failures and errors no test has: a package that could not be built, say. Some tools count
+        tests, others count checks or attempts, of which a test has several."""
+        failures, errors = counts
+        of_errors = errors - sum(count for tag, count in self.elements.items() if tag.endswith("rror"))
+        return max(0, failures + errors - self.elements.total(), min(of_errors, failures + errors - self.tests))
+
+
+class Suite(Failures):
     """A suite that is being read, or what is around all: its name, its test while that is the only one, whether there
-    was one, and whether one failed; its tool, and how many failures and errors it counts, and the suites in it."""
+    was one, and whether one failed; its tool, and how many failures and errors it counts, and the suites in it; and how
+    many of them were found to be of no test."""
 
     def __init__(self, name=None, tool=None, counts=(0, 0)):
+        super().__init__()
         self.name, self.only, self.has_tests, self.has_failed = name, None, False, False
-        self.tool, self.counts, self.sums = tool, counts, [0, 0]
+        self.tool, self.counts, self.sums, self.found = tool, counts, [0, 0], 0
 
     def counted(self):
         """The failures and errors of all suites in it where it counts none itself. The errors of QTest are messages,
@@ -81,12 +115,14 @@ class Tree:
         self.file, self.scene, self.builder, self.within = file, scene, tree.TreeBuilder(), [None]
         # The elements that it is within, and the suites.
         self.open, self.suites, self.left_out = [], [Suite()], Counter()
-        self.data = self.builder.data
-        self.close = self.builder.close
+        # The suites that count more failures than their tests have: the name, how many, and what it wrote.
+        self.accused = []
 
     def start(self, tag, attributes):
         # Without its namespace.
-        name, around = tag.rsplit("}", 1)[-1] if "}" in tag else tag, self.around()
+        name, around = tag.rsplit("}", 1)[-1] if "}" in tag else tag, self.within[-1]
+        if around == "":
+            around = self.around()
         if around is None and name not in INSIDE[None]:
             raise Bad(f"{self.file}: the element `{name}` is no test suite")
         if len(self.within) > DEEPEST:
@@ -95,9 +131,10 @@ class Tree:
             self.left_out["element", name] += 1
             self.within.append("")
             return
-        for it in attributes:
-            if it not in ATTRIBUTES and "}" not in it:
-                self.left_out["attribute", it] += 1
+        if not attributes.keys() <= ATTRIBUTES:
+            for it in attributes:
+                if it not in ATTRIBUTES and "}" not in it:
+                    self.left_out["attribute", it] += 1
         if name in INSIDE[None]:
             self.start_suite(name, around, attributes)
         elif name == "testcase":
@@ -118,7 +155,18 @@ class Tree:
             self.scene.begin(around is None, attributes)
         # A suite in one with a name has that, where it has none of its own, and its tool.
         name, tool = attributes.get("name") or self.suites[-1].name, tool_of(attributes) or self.suites[-1].tool
-        self.suites.append(Suite(name, tool, counts_of(attributes)))
+        self.suites.append(Suite(name, tool, self.counts_of(attributes)))
+
+    def counts_of(self, attributes):
+        """How many failures and how many errors these count. What is no number is said, and is 0."""
+        counts = [0, 0]
+        for place, name in enumerate(FAILURES):
+            if value := attributes.get(name, "").strip():
+                if found := COUNT.fullmatch(value):
+                    counts[place] = int(found[1].replace(",", ""))
+                else:
+                    self.scene.files[-1].unread.append(f'{name}="{value[:LONGEST]}"')
+        return counts
 
     def read_property(self, attributes):
         # What Qt 6 writes is as that of others.
@@ -143,7 +191,7 @@ class Tree:
     def take(self, case):
         suite = self.suites[-1]
         self.scene.take(suite, case)
-        suite.has_failed |= first(case, *FAILED) is not None
+        suite.has_failed |= bool(len(case)) and first(case, *FAILED) is not None
 
     def take_only(self):
         """Takes the test of a suite that has more than this one, or suites."""
@@ -157,7 +205,9 @@ class Tree:
         matters where a test failed. Where the suite itself failed, that is a test of its own."""
         wrote = [it for it in element if it.tag in STREAMS and has_text(it)]
         only = self.suites[-1].only
-        if only is not None and not any(it.tag in STREAMS and has_text(it) for it in only):
+        # What a suite wrote that counts a failure is of that failure.
+        is_of_another = any(self.suites[-1].counts) and only is not None and first(only, *FAILED) is None
+        if only is not None and not is_of_another and not any(it.tag in STREAMS and has_text(it) for it in only):
             only.extend(wrote)
             wrote = []
         self.take_only()
@@ -168,8 +218,16 @@ class Tree:
             wrote = []
             self.take(case)
         suite = self.suites.pop()
-        self.suites[-1].has_failed |= suite.has_failed
-        self.suites[-1].sums = [*map(int.__add__, self.suites[-1].sums, suite.counted())]
+        around, counted = self.suites[-1], suite.counted()
+        lost = suite.lost(counted) - suite.found
+        # jest-junit names a file that it could not load `undefined`.
+        if lost > 0 and element.tag == "testsuite" and suite.name not in (None, "undefined") and any(suite.counts):
+            self.accused.append((suite.name, lost, *(text_in(wrote, it) for it in STREAMS)))
+            suite.found, wrote = suite.found + lost, []
+        around.has_failed |= suite.has_failed
+        around.sums = [*map(int.__add__, around.sums, counted)]
+        around.elements.update(suite.elements)
+        around.tests, around.found = around.tests + suite.tests, around.found + suite.found
         self.left_out.update(("element", it.tag) for it in wrote if suite.has_failed)
         element.clear()
 
@@ -182,24 +240,63 @@ class Tree:
 
 
 def read(file, text, scene):
-    """Reads the XML of a file, and returns how often what was left out. It is read at once: an older expat begins anew
-    at each chunk of a long text."""
-    target = Tree(file, scene)
-    parser = tree.XMLParser(target=target)
+    """Reads the XML of a file, whose bytes or descriptor these are, and returns how often what was left out. libtest
+    writes a document for each binary, one after another."""
+    left_out, at, lines_before = Counter(), 0, 0
+    if isinstance(text, int):
+        # It is read twice, unless something is to be left out: so little of it is kept.
+        given, text = text, lambda at, size: os.pread(given, size, at)
+        if has_unfit(text):
+            return read(file, joined(pieces_from(text)), scene)
+    else:
+        whole = memoryview(without_unfit(text, left_out))
+        text = lambda at, size: whole[at : at + size]  # noqa: E731
+    while at is not None:
+        at, lines_before = read_one(file, text, at, scene, left_out, lines_before)
+    return left_out
+
+
+def pieces_from(text):
+    at = 0
+    while piece := text(at, PIECE):
+        yield piece
+        at += len(piece)
+
+
+def read_one(file, text, begin, scene, left_out, lines_before):
+    """Reads the document from this place on, and returns the place of the one behind it, or None, and the number of
+    lines before that."""
+    target, parser = Tree(file, scene), expat.ParserCreate(None, "}")
+    parser.buffer_text, parser.buffer_size = True, 1 << 16
+    parser.StartElementHandler, parser.EndElementHandler = target.start, target.end
+    parser.CharacterDataHandler, parser.CommentHandler = target.builder.data, target.comment
+    parser.StartDoctypeDeclHandler = target.doctype
+    at, size, behind = begin, PIECE, None
     try:
-        parser.feed(without_unfit(text, target.left_out))
-        parser.close()
-    except tree.ParseError as error:
-        raise Bad(f"{file}: line {error.position[0]}: {expat.ErrorString(error.code)}") from error
+        while piece := text(at, size):
+            parser.Parse(piece, False)
+            at += len(piece)
+            # An older expat begins anew at each piece of a long word.
+            size = max(PIECE, at - begin - max(0, parser.CurrentByteIndex))
+        parser.Parse(b"", True)
+    except expat.ExpatError as error:
+        behind = begin + parser.ErrorByteIndex
+        if error.code != JUNK or not ANOTHER.match(text(behind, LONGEST)):
+            raise Bad(f"{file}: line {lines_before + error.lineno}: {expat.ErrorString(error.code)}") from error
+        lines_before += error.lineno - 1
     except (LookupError, ValueError, OverflowError) as error:
         # The encoding that it names, of which Python says what is wrong.
         raise Bad(f"{file}: {error}") from error
-    scene.end_file(os.path.basename(file), target.suites[0].sums)
-    return target.left_out
+    scene.end_file(os.path.basename(file), target.suites[0].sums, target.accused)
+    left_out.update(target.left_out)
+    return behind, lines_before
 
 
 def first(element, *names):
-    return next((it for it in element if it.tag in names), None)
+    for it in element:
+        if it.tag in names:
+            return it
+    return None
 
 
 def has_text(element):
@@ -235,7 +332,7 @@ def described(failure):
         pieces += ["" if it.tag in STREAMS else "".join(it.itertext()), it.tail or ""]
     body = "".join(it for it in pieces if it.strip()).lstrip("\n").rstrip()
     # An attribute has spaces where its tool wrote line feeds.
-    is_in_body = held(body, [message]) or f" {' '.join(message.split())} " in f" {' '.join(body.split())} "
+    is_in_body = held(body, [message]) or f" {' '.join(message.split())} " in f" {' '.join(body[:PIECE].split())} "
     return body if is_in_body else f"{message}\n{body}".rstrip()
 
 
@@ -261,8 +358,6 @@ def seconds_of(element):
 
 def attempts_of(case):
     """The attempts of a test, in the order in which they were made."""
-    if not len(case):
-        return [Attempt("pass", seconds_of(case))]
     others = [
         failed_attempt([it], seconds_of(it), "", text_in(it, "system-out"), text_in(it, "system-err"))
         for it in case
@@ -272,6 +367,9 @@ def attempts_of(case):
     failures = [it for it in case if it.tag in FAILED]
     if not failures and (unstarted := not_started(case)) is not None:
         failures = [unstarted]
+    if not failures and others and first(case, *FLAKY) is None:
+        # Reruns are those of a test that failed in the end.
+        return others
     if not failures:
         return [*others, Attempt("pass", seconds_of(case), out, err)]
     place = ":".join(filter(None, (case.get("file"), case.get("line"))))
@@ -281,9 +379,10 @@ def attempts_of(case):
 
 def place_of(case, suite):
     """The binary and the name of a test. Its binary is its class, else its suite; also its suite where the class is the
-    test's whole name, as jest-junit and ctest write it, or Node's `test`."""
+    test's whole name, as jest-junit and ctest write it, or its end, as mocha-junit-reporter does, or Node's `test`."""
     group, test = case.get("classname") or "", case.get("name") or ""
-    return (group if group not in (test, "test") else "") or suite or group, test
+    is_of_test = group in (test, "test") or test.endswith(f" {group}")
+    return (group if not is_of_test else "") or suite or group, test
 
 
 def may_fail(skipped):
@@ -300,37 +399,39 @@ def not_started(case):
 def is_skipped(case):
     """Whether a test did not run: it has an element that says so, or the state by which ctest and GoogleTest say it.
     One that failed, too, has failed, unless it may."""
+    is_stated = case.get("status") in NOT_RUN or case.get("result") == "skipped"
     if not len(case):
-        return case.get("status") in ("disabled", "notrun")
+        return is_stated
     skipped = first(case, "skipped")
     if first(case, *FAILED) is not None:
         return may_fail(skipped)
-    return not_started(case) is None and (skipped is not None or case.get("status") in ("disabled", "notrun"))
+    return not_started(case) is None and (skipped is not None or is_stated)
 
 
-def counts_of(attributes):
-    """How many failures and how many errors these count: 0 where that is no number."""
-    return [int(it) if it and COUNT.fullmatch(it) else 0 for it in map(attributes.get, FAILURES)]
-
-
-class File:
+class File(Failures):
     """What a file says of its run as a whole: how long it took, in its first element, else in the suites that are right
     in it. And what its tests come to."""
 
     def __init__(self, attributes):
+        super().__init__()
         self.name, self.run_id = attributes.get("name"), attributes.get("uuid")
         # A time of 0 is written by tools that do not know it.
         self.took = int(nanos(seconds_of(attributes)))
         # The times of the suites right in it, and whether tests are there, too.
         self.times, self.is_mixed = [], False
-        self.tests, self.nanos, self.longest, self.elements = 0, 0, 0, Counter()
+        self.nanos, self.longest = 0, 0
+        # Its counts that are no numbers.
+        self.unread = []
 
     def suite(self, attributes):
         self.times.append(int(nanos(seconds_of(attributes))))
 
-    def add(self, case, tool):
+    def add(self, case, suite):
         """Counts the failures of a test, but for those that its tool does not count either. What that says in another
         way the test then says as all do."""
+        tool = suite.tool
+        if not len(case) and tool != QTEST and not stated_failure(case) and case.keys() != ["time"]:
+            return
         skipped = first(case, "skipped")
         if tool == QTEST and case.get("result") is None:
             tree.SubElement(case, "skipped")
@@ -340,10 +441,12 @@ class File:
             tree.SubElement(case, "failure", message=f"The file says {stated} of this test, and no more.")
         found = [it.tag for it in case if it.tag in (*FAILED, *EARLIER)]
         if tool != CPPLINT and (skipped is None or skipped.get("message") != MAY_FAIL):
-            self.elements.update(found)
-            self.tests += bool(found)
+            Failures.add(self, found)
+            Failures.add(suite, found)
         for it in [it for it in case if tool == DOCTEST and it.get("type") == "WARN" or is_passed_todo(it)]:
             case.remove(it)
+        if case.keys() == ["time"] and not len(case):
+            tree.SubElement(case, "failure", message=INTERRUPTED)
 
     def duration(self):
         """That of its tests where it has no other; it is at least that of the longest one."""
@@ -353,14 +456,8 @@ class File:
     def spend(self, nanos):
         """Counts the time of a test."""
         self.nanos += nanos
-        self.longest = max(self.longest, nanos)
-
-    def lost(self, counts):
-        """How many of the failures and errors that it counts no test has: a package that could not be built, say. Some
-        tools count tests, others count checks or attempts, of which a test has several."""
-        failures, errors = counts
-        of_errors = errors - sum(count for tag, count in self.elements.items() if tag.endswith("rror"))
-        return max(0, failures + errors - self.elements.total(), min(of_errors, failures + errors - self.tests))
+        if nanos > self.longest:
+            self.longest = nanos
 
 
 def tool_of(attributes):
@@ -372,13 +469,19 @@ def tool_of(attributes):
 
 def stated_failure(case):
     """The attribute by which a test has failed, as it is in the file; None where there is none."""
-    stated = ((it, case.get(it) or "") for it in ("status", "result"))
-    return next((f'{name}="{value}"' for name, value in stated if value.lower() in STATED), None)
+    for name in ("status", "result"):
+        if (value := case.get(name)) and value.strip().lower() not in GOOD:
+            return f'{name}="{value[:LONGEST]}"'
+    return None
 
 
 def is_passed_todo(element):
     """Whether an error is that of a test that passed and is still marked as one to do, by which prove fails no run."""
     return element.tag == "error" and element.get("type") == TODO_PASSED
+
+
+def number_of(failures):
+    return f"{failures} failure{'s' * (failures > 1)}"
 
 
 class Scene:
@@ -400,26 +503,45 @@ class Scene:
         binary, name = place_of(case, suite.name)
         self.binaries.add(binary)
         file = self.files[-1]
-        file.add(case, suite.tool)
+        file.add(case, suite)
         if is_skipped(case):
             self.skipped += 1
             file.spend(int(nanos(seconds_of(case))))
             self.run.skip(binary, name)
+        elif not len(case):
+            self.total += 1
+            took = nanos(seconds_of(case))
+            file.spend(int(took))
+            self.run.passed(binary, name, took)
         else:
             self.total += 1
             attempts = attempts_of(case)
             # Where it has one attempt, that took its time.
             file.spend(int(attempts[0].fields[1] if len(attempts) == 1 else nanos(seconds_of(case))))
+            for number, attempt in enumerate(attempts[:-1], 1):
+                self.run.retry(binary, name, attempt, number, len(attempts))
             self.run.done(binary, name, attempts)
 
-    def end_file(self, name, counts):
-        """A file that counts more failures than its tests have is that of a run that failed."""
-        if lost := self.files[-1].lost(counts):
-            binary = self.files[-1].name or name
-            self.total += 1
-            self.binaries.add(binary)
-            said = f"The file counts {lost} failure{'s' * (lost > 1)} that no test in it has.\n"
-            self.run.done(binary, "[no test]", [Attempt(UNKNOWN_FAILURE, 0, stderr=said)])
+    def end_file(self, name, counts, accused):
+        """A file that counts more failures than its tests have is that of a run that failed: of the suites that do, and
+        of the file itself. So is one whose counts are no numbers, unless a test of it failed anyway."""
+        file = self.files[-1]
+        lost = file.lost(counts)
+        for suite, count, *wrote in accused:
+            if count := min(count, lost):
+                self.no_test(suite, f"The suite counts {number_of(count)} that no test in it has.\n", wrote)
+                lost -= count
+        if lost:
+            self.no_test(file.name or name, f"The file counts {number_of(lost)} that no test in it has.\n")
+        elif file.unread and not file.tests and not accused:
+            self.no_test(file.name or name, f"The file has {', '.join(file.unread[:SAID])}, which is no count.\n")
+
+    def no_test(self, binary, said, wrote=(None, None)):
+        out, err = wrote
+        self.total += 1
+        self.binaries.add(binary)
+        err = f"{said}{err}" if err else said
+        self.run.done(binary, "[no test]", [Attempt(UNKNOWN_FAILURE, 0, stdout=out, stderr=err)])
 
     def lines(self):
         taken = sum(it.duration() for it in self.files)
@@ -458,13 +580,29 @@ def convert(words, say=lambda _: None):
     for number, word in enumerate(words):
         if word.startswith("-") and word != "-":
             raise Bad(f"{word} is behind a FILE, and options come before it" if number else f"unknown option {word}")
-    return scene_of(((name_to_say(it), whole(it)) for it in words or ["-"]), say)
+    return scene_of(((name_to_say(it), text) for it in words or ["-"] for text in texts_of(it)), say)
 
 
-def whole(path):
-    """All bytes of a file; to join its pieces would take twice the memory."""
+def texts_of(path):
+    """The descriptor of a file, or all bytes of what is none, such as a pipe; to join the pieces would take twice the
+    memory."""
+    try:
+        opened = None if path == "-" else os.open(path, os.O_RDONLY | os.O_NONBLOCK)
+    except OSError as error:
+        raise Bad(unread(path, error)) from error
+    try:
+        if opened is not None and stat.S_ISREG(os.fstat(opened).st_mode):
+            yield opened
+            return
+    finally:
+        if opened is not None:
+            os.close(opened)
+    yield joined(pieces_of(path))
+
+
+def joined(pieces):
     found = bytearray()
-    for piece in pieces_of(path):
+    for piece in pieces:
         found += piece
     return found
 

@@ -115,7 +115,8 @@ class Kept:
         """The file of an entry, opened, or None. It counts as used now."""
         with self.opened() as at, contextlib.suppress(OSError):
             if at:
-                opened = os.open(at / name, os.O_RDONLY | os.O_NOFOLLOW)
+                # A pipe would be waited for.
+                opened = os.open(at / name, os.O_RDONLY | os.O_NOFOLLOW | os.O_NONBLOCK)
                 if is_whole(opened):
                     os.utime(opened)
                     return opened

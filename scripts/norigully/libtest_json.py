@@ -11,6 +11,8 @@ from norigully.scene_lines import UNKNOWN_FAILURE, Attempt, WholeRun, nanos, sig
 HASHED = re.compile(r"(.{1,255})-[0-9a-f]{16}(?:\.exe)?")
 DOC_TESTS = re.compile(r"\s*Doc-tests (\S+)")
 DIED = "process didn't exit successfully: "
+# What cargo says of a binary that failed, once that has ended.
+ACCUSED = re.compile(r"error: (?:doc)?test failed, to rerun pass ")
 ENDED_BY = re.compile(r" \((?:signal: (\d{1,9})|exit status: (\d{1,9}))\b", re.A)
 OWN = re.compile(r'\{\s*"type"\s*:\s*"(?:suite|test)"')
 DECODE = json.JSONDecoder().scan_once
@@ -25,15 +27,19 @@ class Reader:
     def __init__(self):
         self.binary_ids, self.suites, self.run, self.slow = {}, 0, WholeRun(), set()
         self.binary, self.total, self.began = "unknown", 0, {}
-        self.nanos, self.ignored = 0, 0
+        self.nanos, self.ignored, self.is_of_go = 0, 0, False
+        # Whether a suite is under way, whether a test of it has failed, and how a binary ended that is said to have.
+        self.is_within, self.has_failed, self.accused = False, False, None
 
     def line(self, line):
         if (event := event_in(line)) is not None:
             self.event(event)
         elif binary := binary_in(line):
-            self.binary = self.binary_ids.get(binary[0], binary[1])
+            self.begin(self.binary_ids.get(binary[0], binary[1]))
         elif doc := DOC_TESTS.match(line):
-            self.binary = f"{doc[1]}::doc"
+            self.begin(f"{doc[1]}::doc")
+        elif ACCUSED.match(line) and not self.is_within:
+            self.accused = UNKNOWN_FAILURE
         elif DIED in line:
             ended = None
             for ended in ENDED_BY.finditer(line, line.index(DIED)):
@@ -44,9 +50,23 @@ class Reader:
     def died(self, result):
         """Where a test ends its process, each test that had begun is said to have ended so: which one did it is not
         known."""
+        if self.accused and not self.began:
+            self.accused = result
         for place in self.began:
             self.done(place, result, None, "")
         self.began = {}
+
+    def begin(self, binary):
+        """The next binary. The one before may have failed without a test that did: it has a harness of its own, or it
+        ended before its first test or behind its last."""
+        self.settle()
+        self.binary, self.is_within, self.has_failed = binary, False, False
+
+    def settle(self):
+        if self.accused and not self.has_failed:
+            self.total += 1
+            self.done((self.binary, "[no test]"), self.accused, None, "It failed, and no test in it has.\n")
+        self.accused = None
 
     def place(self, name):
         """The binary and the test of an event: nextest's JSON has both in the name."""
@@ -64,11 +84,17 @@ class Reader:
         elif kind == "suite" and what == "started":
             self.suites += 1
             self.total += whole(event["test_count"])
-            self.began = {}
+            self.began, self.is_within, self.has_failed = {}, True, False
         elif kind == "suite":
+            self.is_within = False
+            if what == "failed":
+                self.accused = UNKNOWN_FAILURE
+                self.settle()
             self.nanos += int(nanos(event.get("exec_time")))
         elif kind == "test":
             self.test(self.place(text_of(event, "name")), what, event)
+        elif "Action" in event and "Package" in event:
+            self.is_of_go = True
         elif kind == "bench":
             # One that ended well; its time is none of a test.
             self.done(self.place(text_of(event, "name")), "pass", None, "")
@@ -94,6 +120,7 @@ class Reader:
             self.done(place, "pass" if what == "ok" else UNKNOWN_FAILURE, event.get("exec_time"), "\n".join(wrote))
 
     def done(self, place, result, seconds, wrote):
+        self.has_failed |= result != "pass"
         self.run.done(*place, [Attempt(result, seconds, combined=wrote, is_slow=place in self.slow)])
 
 
@@ -148,8 +175,12 @@ def read(lines, name):
             reader.line(line.decode("utf-8", "replace").rstrip("\r\n"))
         except (ValueError, KeyError, TypeError, IndexError, AttributeError, RecursionError) as error:
             raise Bad(f"{name}: line {number}: no line of libtest's JSON") from error
+    reader.settle()
     if not reader.suites:
-        raise Bad(f"{name}: no suite of tests in it: were the words `--format json` there?")
+        why = "were the words `--format json` there?"
+        if reader.is_of_go:
+            why = "it is of `go test -json`, of which `gotestsum --junitfile run.xml` makes what --junit reads"
+        raise Bad(f"{name}: no suite of tests in it: {why}")
     if reader.total < 0:
         raise Bad(f"{name}: more tests are ignored than its suites have")
     return reader

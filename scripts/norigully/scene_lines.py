@@ -6,6 +6,7 @@ with the statistics after it. The statistics follow nextest's `RunStats`; each r
 
 import re
 import signal
+import tempfile
 from decimal import ROUND_HALF_UP, Decimal
 
 from norigully.entry import encoded
@@ -219,16 +220,31 @@ class Run:
 
 class WholeRun(Run):
     """Writes the lines of a run whose totals are known in its end: until then a byte that no line has is in their
-    place. The lines are kept as bytes, which take a third of the memory of texts."""
+    place. Many lines are kept in a temporary file."""
 
     TOTAL, PIECE = "\0", 1 << 20
 
     def __init__(self):
-        self.kept, self.counts, self.texts = bytearray(), {}, {}
+        self.kept, self.counts, self.texts = tempfile.SpooledTemporaryFile(16 * self.PIECE), {}, {}
+        # The last lines, and their characters.
+        self.last, self.size = [], 0
         self.count_as("initial", self.TOTAL)
 
     def write(self, line):
-        self.kept += encoded(line)
+        self.last.append(line)
+        self.size += len(line)
+        if self.size > self.PIECE:
+            self.keep()
+
+    def keep(self):
+        self.kept.write(encoded("".join(self.last)))
+        self.last, self.size = [], 0
+
+    def passed(self, binary, name, nanos):
+        """A test that passed at once, and of which no more is known."""
+        self.count("finished", "passed")
+        before = f"done\t-\t{text(binary)}\t{text(name)}\tnever\timmediate\tpass\t{self.stats()}"
+        self.write(f"{before}\t1\tpass\t{nanos}\t0\tsplit\t-\t-\t-\t-\n")
 
     def lines(self, total, binaries, skipped, run_id=RUN_ID):
         """Some of the lines at a time, with the totals."""
@@ -237,11 +253,11 @@ class WholeRun(Run):
         yield encoded(first[0])
         # Statistics leave out what is 0, and are `-` where all is.
         changes = {self.TOTAL: str(total)} if total else {f"initial={self.TOTAL} ": "", f"initial={self.TOTAL}": "-"}
-        at = 0
-        while at < len(self.kept):
-            end = self.kept.find(b"\n", at + self.PIECE) + 1 or len(self.kept)
-            piece = bytes(self.kept[at:end])
+        self.keep()
+        self.kept.seek(0)
+        while piece := self.kept.read(self.PIECE):
+            if not piece.endswith(b"\n"):
+                piece += self.kept.readline()
             for pattern, number in changes.items():
                 piece = piece.replace(pattern.encode(), number.encode())
             yield piece
-            at = end

@@ -4,8 +4,20 @@ the programs' own."""
 import os
 from dataclasses import dataclass, field
 
+from norigully.entry import Bad
+
 FLAGS = ("--color", "--counter", "--replay", "--unload", "--store-success", "--store-failure")
 LEVELS = ("none", "fail", "retry", "slow", "leak", "pass", "skip", "all")
+# nextest's options for what a report shows, the key of `config` that each is, and its values: they are taken with
+# --junit and --libtest.
+TIMES = ("never", "immediate", "final", "immediate-final")
+FINAL = ("none", "fail", "flaky", "slow", "skip", "leak", "pass", "all")
+SETTINGS = {
+    "--success-output": ("success", TIMES),
+    "--failure-output": ("failure", TIMES),
+    "--final-status-level": ("final", FINAL),
+    "--no-output-indent": ("noindent", None),
+}
 # In the order in which usage shows them.
 SHOWN = ("--color", "--counter", "--replay", "--unload", "--level L", "--store PATH", *FLAGS[-2:])
 # How usage shows the last word.
@@ -26,6 +38,23 @@ FILES_OF_RUN = ("run.scene", "outputs")
 def usage(program):
     """The usage of a program, as it prints it itself."""
     return f"usage: {program} {' '.join(f'[{it}]' for it in SHOWN)} {LAST[program]}"
+
+
+def settings_of(words):
+    """The lines of `config` that the words ask for, and the words without those."""
+    lines, rest, at = [], [], 0
+    while at < len(words) and words[at].startswith("-") and words[at] != "-":
+        word, key, values = words[at], *SETTINGS.get(words[at], (None, None))
+        value = "1" if values is None else (words[at + 1 :] or [None])[0]
+        size = 2 if values or (word in (*WITH_VALUE, "-o", "--title", "--choices")) else 1
+        if key is None:
+            rest += words[at : at + size]
+        elif values and value not in values:
+            raise Bad(f"unknown value {value} of {word}: {', '.join(values)}" if value else f"{word} needs a value")
+        else:
+            lines.append(f"config\t{key}\t{value}\n".encode())
+        at += size
+    return lines, rest + words[at:]
 
 
 @dataclass
