@@ -1,6 +1,6 @@
 """The places of the check scripts that compare something, the calls of an `expect` however it is named, and which of
-them failed: check-checks wants each to fail under some slip, or a line of untried.txt that says why not. How much some
-scripts compare at least is in least.txt, by the functions that their `main` calls."""
+them failed: check-checks wants each to fail under some slip, or a line of untried.txt that says why not. How much the
+scripts compare at least is in least.txt, by the functions that their `main` calls, or in all."""
 
 import ast
 import os
@@ -14,6 +14,8 @@ from norigully import TOP
 NOTED = os.environ.get("CHECKS_NOTED")
 UNTRIED, LEAST = TOP / "scripts/gate/untried.txt", TOP / "scripts/gate/least.txt"
 COMPARES = re.compile(r"\.expect\w*$|\bchecks\.count$")
+# The kind of a line that counts all that a script compares.
+ALL = "all"
 # Of check-checks itself and of what it does: they fail where a slip is not seen.
 OWN = ("scripts/check-checks", "scripts/gate/checks.py")
 
@@ -54,6 +56,8 @@ def too_few(kinds):
     """Where this script compared less of a kind than it should, or of a kind of which that is not said."""
     words = " ".join([Path(sys.argv[0]).name, *sys.argv[1:]])
     wanted = least().get(words)
+    if wanted and ALL in wanted:
+        kinds = {ALL: sum(kinds.values())}
     for it in sorted({*kinds, *wanted}) if wanted else ():
         if kinds[it] < wanted.get(it, kinds[it] + 1):
             yield f"{LEAST.relative_to(TOP)}: {words}: {it} {kinds[it]}, and at least {wanted.get(it)} is there"
