@@ -1,6 +1,6 @@
 //! The commands that a run starts.
 
-ghost use Rattle.std.specs.Prelude.{◌≡◌, ◌∷◌, ◌++◌, [], IfOk, OnErr, OnOk, map};
+ghost use Rattle.std.specs.Prelude.{◌≡◌, ◌∷◌, ◌++◌, [], IfOk, OnErr, OnOk, map, string_bytes};
 ghost use Rattle.std.specs.Iterator.{YieldsFirstRef, item_count};
 
 use crate::memory::OutOfMemory;
@@ -71,6 +71,36 @@ impl CommandLine {
             command.push(word)?;
         }
         Ok(command)
+    }
+
+    /// A command of these words, which it copies.
+    ///
+    /// # Errors
+    ///
+    /// Memory was refused.
+    pub fn from_strings(alloc: Global, words: &[String]) -> Result<Self, OutOfMemory>
+        ensures { IfOk result (λ command. command ≡ map string_bytes words.now) }
+    {
+        let mut command = CommandLine::new(alloc);
+        for word in words {
+            command.push(word.as_str())?;
+        }
+        Ok(command)
+    }
+
+    /// A copy of its words.
+    ///
+    /// # Errors
+    ///
+    /// Memory was refused.
+    pub fn to_strings(&self, alloc: Global) -> Result<Vec<String>, OutOfMemory>
+        ensures { IfOk result (λ words. map string_bytes words.items ≡ self.now) }
+    {
+        let mut owned = Vec::with_capacity(alloc, self.lens.len())?;
+        for word in self.words() {
+            owned.push(String::from_str(alloc, word)?)?;
+        }
+        Ok(owned)
     }
 
     /// Adds a word, which it copies.

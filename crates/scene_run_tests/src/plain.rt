@@ -171,7 +171,7 @@ fn by_all_calls(
     records: &mut Vec<u8>,
 ) -> Result<(), Fault<'static>> {
     let scene = read_whole(alloc, options, text.as_bytes())?;
-    let outcome = write_report(alloc, options, &scene, report, records);
+    let (outcome, _, _) = write_report(alloc, options, &scene, report, records);
     mem::forget(scene);
     outcome
 }

@@ -1,3 +1,4 @@
+pub mod Created
 pub mod Gathered
 pub mod Judged
 pub mod SceneNotes

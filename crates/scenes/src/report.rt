@@ -4,7 +4,7 @@
 //! none of a scene that is refused.
 
 ghost use Rattle.std.specs.Prelude.{◌≡◌, ◌⊎◌, ℕ, List, None, Option, Some, IfErr, IfOk, OnOk, [], string_bytes};
-ghost use Rattle.scenes.specs.Judged.{fault_in_memory};
+ghost use Rattle.{scenes.specs.Created.MayCreate, scenes.specs.Judged.fault_in_memory};
 ghost use Rattle.scene_follower.specs.Names.{Begins, IsJudgeFault, IsUnread, OfText, Prints, device};
 ghost use Rattle.scene_follower.specs.Names.{store_for};
 ghost use Rattle.scenes.specs.Names.{IsFaultOfLines, IsRefusal, IsRefusedText, IsRejected, IsRunAccepted, OfStore};
@@ -46,7 +46,8 @@ pub fn report_scene<
     writer: W,
     create_store: F,
 ) -> (Result<(), Fault<'a>>, W, Option<S>)
-    requires create_store { F.IsAlwaysCallable create_store }
+    requires create_store { MayCreate (F.pre create_store) options.now (R.remaining reader) }
+    ensures no_store { options.now.store ≡ None → result.2 ≡ None }
     ensures ok { (text : List ℕ) → R.remaining reader ≡ Some text
         → OnOk result.0 (OfStore S.contents (F.post create_store) options.now.store result.2
         (λ store_old store_new. OfText text
@@ -324,40 +325,35 @@ pub fn judge<'a, R: Read + Drop>(
     }
 }
 
-/// Writes the report of a scene to a device, and its records to a second one if the options ask for them. Its
-/// text is judged first: if the reporter refuses a call, nothing is written.
+/// Writes the report of a scene to a device, and its records to a second one if the options ask for them, and returns
+/// both. Its text is judged first: if the reporter refuses a call, both devices are as they were.
 ///
 /// # Errors
 ///
 /// The fault of the line of the first call that is refused; or a failed device, or refused memory, after which each
 /// device has a prefix.
-pub fn write_report<W: Write + Drop, S: Write + Drop>(
+pub fn write_report<W: Write, S: Write>(
     alloc: Global,
     options: &Options<'_>,
     scene: &Scene,
     writer: W,
     store_writer: S,
-) -> Result<(), Fault<'static>>
-    ensures ok { OnOk result
-        (OfText scene.now.text (λ run. (last : W) × (store_last : S)
-        × Prints device device options.now (W.contents writer, S.contents store_writer)
-        (W.contents last, S.contents store_last) run)) }
-    ensures err { IfErr result
-        (λ fault. IsRefusedText options.now scene.now.text fault
-        ⊎ OfText scene.now.text (λ run. (last : W) × (store_last : S)
-        × Begins device device options.now (W.contents writer, S.contents store_writer)
-        (W.contents last, S.contents store_last) run fault)) }
+) -> (Result<(), Fault<'static>>, W, S)
+    ensures ok { OnOk result.0
+        (OfText scene.now.text
+        (Prints device device options.now (W.contents writer, S.contents store_writer)
+        (W.contents result.1, S.contents result.2))) }
+    ensures err { IfErr result.0
+        (λ fault. (IsRefusedText options.now scene.now.text fault
+        × (result.1 ≡ writer) × (result.2 ≡ store_writer))
+        ⊎ OfText scene.now.text
+        (λ run. Begins device device options.now (W.contents writer, S.contents store_writer)
+        (W.contents result.1, S.contents result.2) run fault)) }
+    ensures no_store { options.now.store ≡ None → result.2 ≡ store_writer }
 {
     match judge_text(alloc, options, scene.text()) {
         Ok(()) => {}
-        Err(fault) => return Err(in_memory(fault)),
+        Err(fault) => return (Err(in_memory(fault)), writer, store_writer),
     }
-    let (outcome, _writer, _store_writer) = report_judged(
-        alloc,
-        options,
-        scene.text(),
-        writer,
-        store_writer,
-    );
-    outcome
+    report_judged(alloc, options, scene.text(), writer, store_writer)
 }

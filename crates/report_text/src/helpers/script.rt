@@ -1,6 +1,6 @@
 //! Setup scripts as a report shows them.
 
-ghost use Rattle.std.specs.Prelude.{◌≡◌, ◌∷◌, IfOk, Some, string_bytes};
+ghost use Rattle.std.specs.Prelude.{◌≡◌, ◌∷◌, IfOk, Some, map, string_bytes};
 ghost use Rattle.{report_text.specs.Instance.script_text, report_text.specs.Quoting.shell_words};
 ghost use Rattle.{writers.specs.Writer.Puts};
 
@@ -27,7 +27,7 @@ use writers::write_str::{WriteFault, WriteStr};
 /// ```
 /// use run_names::name::ScriptId;
 /// let id = ScriptId::new(alloc, "s1")?;
-/// let args = CommandLine::from_words(alloc, &["an argument"])?;
+/// let args = [String::from_str(alloc, "an argument")?];
 /// let shown = DisplayScriptInstance::new(alloc, None, id, "cmd", &args, styles.script_id, styles.count)?;
 /// assert_eq!(shown.to_string(alloc)?.as_str(), "s1: cmd 'an argument'");
 /// ```
@@ -51,19 +51,20 @@ impl DisplayScriptInstance {
         stress_index: Option<StressIndex>,
         script_id: ScriptId,
         command: &str,
-        args: &CommandLine,
+        args: &[String],
         script_id_style: Style,
         count_style: Style,
     ) -> Result<DisplayScriptInstance, OutOfMemory>
         ensures stress_index { IfOk result (λ shown. shown.stress_index ≡ stress_index) }
         ensures script_id { IfOk result (λ shown. shown.script_id ≡ script_id) }
         ensures command { IfOk result
-            (λ shown. string_bytes shown.full_command ≡ shell_words (command.now ∷ args.now)) }
+            (λ shown. string_bytes shown.full_command ≡ shell_words (command.now ∷ map string_bytes args.now)) }
         ensures script_id_style { IfOk result (λ shown. shown.script_id_style ≡ script_id_style) }
         ensures count_style { IfOk result (λ shown. shown.count_style ≡ count_style) }
     {
+        let args = CommandLine::from_strings(alloc, args)?;
         let mut full_command = String::new(alloc);
-        match write_shell_command(&mut full_command, command, args) {
+        match write_shell_command(&mut full_command, command, &args) {
             Ok(()) => Ok(DisplayScriptInstance {
                 stress_index,
                 script_id,

@@ -136,7 +136,7 @@ fn commands(rt: HostRuntime) -> Result<(), Fail> {
     let command = CommandLine::from_words(rt.alloc(), &["cargo", "", "it's", "a=b"])?;
     let joined = shell_join(rt.alloc(), &command)?;
     expect_text(&rt, joined.as_str(), "cargo '' 'it'\\''s' a=b");
-    let args = CommandLine::from_words(rt.alloc(), &["an argument"])?;
+    let args = [String::from_str(rt.alloc(), "an argument")?];
     let script_id = ScriptId::new(rt.alloc(), "s1")?;
     let first = StressIndex {
         current: 0,

@@ -1,0 +1,12 @@
+-- When the device of the records is created.
+use Rattle.std.specs.Prelude.{◌≡◌, ℕ, List, Option, Some}
+use Rattle.std.specs.Borrow.{Bor}
+use Rattle.command_line.specs.declared.args.{Options.Options, StoreOptions.StoreOptions}
+use Rattle.scene_follower.specs.ParsedScenes.{OfText}
+use Rattle.scenes.specs.Judged.{IsRunAccepted}
+
+-- It may be created for the path of the options, once a text is accepted that is all that the reader has.
+abbrev pub MayCreate : (Bor (List ℕ) → Type 0) → Options → Option (List ℕ) → Type 0
+MayCreate may_be_called options remaining = (text : List ℕ) (store : StoreOptions)
+    → ((known : List ℕ) → remaining ≡ Some known → text ≡ known) → OfText text (IsRunAccepted options)
+    → options.store ≡ Some store → may_be_called store.file
