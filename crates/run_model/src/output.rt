@@ -105,8 +105,6 @@ impl CapturedText {
     {
         let mut text = String::new(alloc);
         push_lossy(bytes.as_slice(), &mut text)?;
-        // A copy: the block of a large line is up to four times as large.
-        let bytes = Bytes::copy_from_slice(alloc, bytes.as_slice())?;
         Ok(CapturedText {
             text: ByteStr::from_string(text)?,
             other_bytes: Some(Box::new(alloc, bytes)?),
@@ -172,7 +170,10 @@ impl ChildSingleOutput {
         let captured = match String::from_utf8(bytes) {
             Ok(text) => Captured::Text(Arc::new(alloc, text)?),
             Err(error) => {
-                let text = CapturedText::decode(alloc, Bytes::from_vec(error.into_bytes())?)?;
+                // Its block may be four times as large.
+                let mut bytes = error.into_bytes();
+                bytes.shrink_to_fit();
+                let text = CapturedText::decode(alloc, Bytes::from_vec(bytes)?)?;
                 Captured::Shared(Arc::new(alloc, text)?)
             }
         };

@@ -658,15 +658,21 @@ fn take_single(alloc: Global, fields: &mut Fields<'_>) -> Line<ChildSingleOutput
     }
 }
 
-// Decodes the bytes of one stream, or of both together, in the memory of their field.
+// Decodes the bytes of one stream, or of both together, in the memory of their field unless it is much larger.
 fn decode(alloc: Global, field: BytesMut) -> Field<ChildSingleOutput>
     ensures { IfOk result (λ output. output ≡ bytes_in field.items) }
 {
     let mut bytes = field;
+    let most = bytes.len() / 2;
     let Some(len) = unescape_in_place(bytes.as_mut_slice()) else {
         return Ok(None);
     };
     bytes.truncate(len);
+    if len < most {
+        // A copy: the field is up to four times as large.
+        let bytes = Vec::from_slice(alloc, bytes.as_slice())?;
+        return Ok(Some(ChildSingleOutput::from_vec(alloc, bytes)?));
+    }
     Ok(Some(ChildSingleOutput::new(alloc, bytes.freeze()?)?))
 }
 
