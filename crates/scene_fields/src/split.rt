@@ -3,7 +3,7 @@
 //! Like `str::split_once`, but it searches a long text with memchr, since outputs are searched for backslashes from end
 //! to end.
 
-ghost use Rattle.std.specs.Prelude.{◌≡◌, ◌<◌, ◌≤◌, ◌+◌, [], ◌∷◌, ◌++◌, length, IfSome, MatchOption};
+ghost use Rattle.std.specs.Prelude.{◌≡◌, ◌<◌, ◌≤◌, ◌+◌, ◌-◌, [], ◌∷◌, ◌++◌, length, slice_index, IfSome, MatchOption};
 ghost use Rattle.scene_fields.specs.Split.{Lacks, cut, cut_texts, split_on, pieces_left, size_left};
 ghost use Rattle.{memchr.specs.Find.IsFirstByte, memchr.specs.Find.is_byte};
 
@@ -70,6 +70,46 @@ pub fn cut_field(line: &str) -> Option<(&str, &str)>
 {
     let tab = find_near(b'\t', line.as_bytes())?;
     Some((&line[..tab], &line[tab + 1..]))
+}
+
+/// The text behind these bytes at the front of a line, or None if it does not begin with them. They are ASCII, and an
+/// array, so that their number is known and at most eight of them are compared in one or two instructions.
+///
+/// ```
+/// assert_eq!(strip_front("done\t-", b"done\t"), Some("-"));
+/// ```
+#[inline(always)]
+pub fn strip_front<'t, const N: usize>(line: &'t str, front: &[u8; N]) -> Option<&'t str>
+    requires some { 1 ≤ N }
+    requires ascii { slice_index front.now (N - 1) < 128 }
+    ensures { IfSome result (λ rest. line.now ≡ front.now ++ rest.now) }
+{
+    let (begin, _) = line.as_bytes().split_first_chunk::<N>()?;
+    if *begin != *front {
+        return None;
+    }
+    Some(&line[N..])
+}
+
+/// The first two fields of a line, the text of both, and the text after the second one's tab.
+///
+/// ```
+/// assert_eq!(cut_two_fields("alpha\tt1\tpass"), Some(("alpha\tt1", "alpha", "t1", "pass")));
+/// ```
+#[inline(always)]
+pub fn cut_two_fields(line: &str) -> Option<(&str, &str, &str, &str)>
+    ensures both { IfSome result (λ x. x.0.now ≡ x.1.now ++ 9 ∷ x.2.now) }
+    ensures split { IfSome result (λ x. split_on 9 line.now ≡ x.1.now ∷ x.2.now ∷ split_on 9 x.3.now) }
+{
+    let first = find_near(b'\t', line.as_bytes())?;
+    let behind = &line[first + 1..];
+    let second = find_near(b'\t', behind.as_bytes())?;
+    Some((
+        &line[..first + 1 + second],
+        &line[..first],
+        &behind[..second],
+        &behind[second + 1..],
+    ))
 }
 
 /// The text before the first of these bytes, and the text after it, if it has one. The byte is ASCII.

@@ -18,7 +18,11 @@ pub(crate) fn read_usual_stats(field: &str) -> Option<RunStats>
     ensures { IfSome result (λ stats. stats_in field.now ≡ Some stats) }
 {
     let (initial_run_count, rest) = number_after(b"initial=", field.as_bytes())?;
-    let (finished_count, rest) = number_after(b" finished=", rest)?;
+    let (begin, rest) = rest.split_first_chunk::<4>()?;
+    if *begin != *b" fin" {
+        return None;
+    }
+    let (finished_count, rest) = number_after(b"ished=", rest)?;
     let (passed, rest) = number_after_or_zero(b" passed=", rest);
     let (failed, rest) = number_after_or_zero(b" failed=", rest);
     let (skipped, rest) = number_after_or_zero(b" skipped=", rest);

@@ -40,10 +40,6 @@ abbrev pub start_event : OwnedTestInstanceId → UsualStart → SceneEvent
 start_event names u = event_at 0 (event.TestStarted None (test_named names.binary_id names.test_name) u.current_stats
     u.command_line)
 
--- the names that these fields spell
-abbrev pub AreNames : List ℕ → List ℕ → OwnedTestInstanceId → Type 0
-AreNames id name names = (text_in id ≡ Some names.binary_id) × (text_in name ≡ Some names.test_name)
-
 -- the first two fields of a line are a number of attempts and an outcome, and this text follows their tabs
 abbrev pub BeginsWithOutcome : List ℕ → ℕ → Option ℤ → List ℕ → Type 0
 BeginsWithOutcome t n code rest = (total outcome : List ℕ) × (split_on 9 t ≡ total ∷ outcome ∷ split_on 9 rest)

@@ -27,6 +27,7 @@ use scene_fields::fault::{LineError, LineFault};
 pub use scene_fields::fields::LARGE;
 use scene_fields::fields::{Fields, split_fields};
 use scene_fields::owned_text::OwnedText;
+use scene_fields::split::strip_front;
 use scene_fields::stored::PlacedOutput;
 use scene_run_lines::config::SceneConfig;
 use scene_run_lines::lines::read_config;
@@ -99,10 +100,10 @@ impl LinesRead {
         let Ok(line) = str::from_utf8(line) else {
             return Err(self.fault(LineFault::NotUtf8));
         };
-        if line.starts_with("done\t") {
+        if strip_front(line, b"done\t").is_some() {
             return self.pass_done(alloc, file, line, texts, sink);
         }
-        if line.starts_with("start\t") {
+        if strip_front(line, b"start\t").is_some() {
             return self.pass_start(alloc, file, line, texts, sink);
         }
         self.pass_split(alloc, file, line, texts, sink)

@@ -4,10 +4,11 @@
 //! exit code at their first attempt, and were not slow. Such a line is read in place. Any other line, and any with a
 //! fault, is split into fields, which are read one by one.
 
-ghost use Rattle.std.specs.Prelude.{◌≡◌, ◌∷◌, [], IfOk, IfSome, codes};
-ghost use Rattle.scene_fields.specs.{Calls.call_by_names, Results.result_in, Split.split_on};
+ghost use Rattle.std.specs.Prelude.{◌≡◌, ◌∷◌, ◌++◌, [], IfOk, IfSome, codes};
+ghost use Rattle.scene_fields.specs.{Calls.call_by_names, Results.result_in, Split.BeginsWith, Split.split_on};
+ghost use Rattle.scene_fields.specs.Values.{display_in, flaky_in};
 ghost use Rattle.scene_unit_lines.specs.Lines.{stream_in};
-ghost use Rattle.scene_reader.specs.Usual.{AreNames, BeginsWithOutcome, SaysEvent, SaysFields, start_event};
+ghost use Rattle.scene_reader.specs.Usual.{BeginsWithOutcome, SaysEvent, SaysFields, start_event};
 ghost use Rattle.scene_reader.specs.Usual.{usual_event, usual_result};
 
 use run_model::call::ReportCall;
@@ -27,9 +28,9 @@ use run_model::status::{
 use run_model::time::Nanos;
 use scene_fields::counts::read_stats;
 use scene_fields::lists::read_command_line;
-use scene_fields::names::replace_name;
+use scene_fields::names::replace_names;
 use scene_fields::numbers::{cut_nanos, read_code, read_small_count};
-use scene_fields::split::{cut_field, split_at_byte};
+use scene_fields::split::{cut_field, cut_two_fields, split_at_byte, strip_front};
 use scene_fields::texts::read_bytes;
 use scene_fields::values::{read_display, read_flaky_result};
 use std::alloc::Global;
@@ -61,6 +62,7 @@ struct UsualValues {
 #[derive(Clone, Copy)]
 struct UsualFields<'t> {
     values: UsualValues,
+    names: &'t str,
     binary_id: &'t str,
     test_name: &'t str,
     stats: &'t str,
@@ -78,6 +80,7 @@ pub struct UsualStart {
 // The fields of a usual `start` line.
 #[derive(Clone, Copy)]
 struct StartFields<'t> {
+    names: &'t str,
     binary_id: &'t str,
     test_name: &'t str,
     stats: &'t str,
@@ -96,7 +99,8 @@ pub fn read_usual(alloc: Global, line: &str, names: &mut OwnedTestInstanceId) ->
     let Some(usual) = cut_fields(line) else {
         return Ok(None);
     };
-    let Some(current_stats) = read_stats(usual.stats) else {
+    let Some(()) = replace_names(alloc, usual.names, usual.binary_id, usual.test_name, names)?
+    else {
         return Ok(None);
     };
     let Some(stdout) = read_stream(alloc, usual.stdout)? else {
@@ -105,7 +109,7 @@ pub fn read_usual(alloc: Global, line: &str, names: &mut OwnedTestInstanceId) ->
     let Some(stderr) = read_stream(alloc, usual.stderr)? else {
         return Ok(None);
     };
-    let Some(()) = read_names(alloc, usual.binary_id, usual.test_name, names)? else {
+    let Some(current_stats) = read_stats(usual.stats) else {
         return Ok(None);
     };
     Ok(Some(UsualDone {
@@ -120,26 +124,27 @@ pub fn read_usual(alloc: Global, line: &str, names: &mut OwnedTestInstanceId) ->
 // to right: what is the same in all usual lines is compared, and other fields are searched for their tabs.
 #[inline(always)]
 fn cut_fields(line: &str) -> Option<UsualFields<'_>>
-    ensures { IfSome result (SaysFields (split_on 9 line.now)) }
+    ensures fields { IfSome result (SaysFields (split_on 9 line.now)) }
+    ensures names { IfSome result (λ u. u.names.now ≡ u.binary_id.now ++ 9 ∷ u.test_name.now) }
 {
-    let (binary_id, rest) = cut_field(line.strip_prefix("done\t-\t")?)?;
-    let (test_name, rest) = cut_field(rest)?;
-    let (success, rest) = cut_field(rest)?;
-    let (failure, rest) = cut_field(rest)?;
-    let (flaky, rest) = cut_field(rest)?;
+    let (names, binary_id, test_name, rest) = cut_two_fields(strip_front(line, b"done\t-\t")?)?;
+    let (success_output, rest) = cut_display(rest)?;
+    let (failure_output, rest) = cut_display(rest)?;
+    let (flaky_result, rest) = cut_flaky_result(rest)?;
     let (stats, rest) = cut_field(rest)?;
     let (total_attempts, exit_code, rest) = cut_outcome(rest)?;
     let (time_taken, rest) = cut_nanos(rest)?;
     let (stdout, stderr) = cut_streams(rest)?;
     Some(UsualFields {
         values: UsualValues {
-            success_output: read_display(success)?,
-            failure_output: read_display(failure)?,
-            flaky_result: read_flaky_result(flaky)?,
+            success_output,
+            failure_output,
+            flaky_result,
             total_attempts,
             exit_code,
             time_taken,
         },
+        names,
         binary_id,
         test_name,
         stats,
@@ -148,13 +153,39 @@ fn cut_fields(line: &str) -> Option<UsualFields<'_>>
     })
 }
 
+// Reads when an output is shown, which is mostly never, and cuts it off.
+#[inline(always)]
+#[tactic(auto, unfolding(scene_fields::specs::Split::split_on))]
+fn cut_display(line: &str) -> Option<(TestOutputDisplay, &str)>
+    ensures { IfSome result (λ x. BeginsWith display_in line.now x.0 x.1.now) }
+{
+    if let Some(rest) = strip_front(line, b"never\t") {
+        return Some((TestOutputDisplay::Never, rest));
+    }
+    let (field, rest) = cut_field(line)?;
+    Some((read_display(field)?, rest))
+}
+
+// Reads what a flaky test counts as, which is mostly a pass, and cuts it off.
+#[inline(always)]
+#[tactic(auto, unfolding(scene_fields::specs::Split::split_on))]
+fn cut_flaky_result(line: &str) -> Option<(FlakyResult, &str)>
+    ensures { IfSome result (λ x. BeginsWith flaky_in line.now x.0 x.1.now) }
+{
+    if let Some(rest) = strip_front(line, b"pass\t") {
+        return Some((FlakyResult::Pass, rest));
+    }
+    let (field, rest) = cut_field(line)?;
+    Some((read_flaky_result(field)?, rest))
+}
+
 // Reads how many attempts there can be, and the exit code of a failure, and cuts both off. A pass has no code.
 #[inline(always)]
 #[tactic(auto, using(crate::proofs::lemmas::Usual::one_passed))]
 fn cut_outcome(line: &str) -> Option<(u32, Option<i32>, &str)>
     ensures { IfSome result (λ x. BeginsWithOutcome line.now x.0 x.1 x.2.now) }
 {
-    if let Some(rest) = line.strip_prefix("1\tpass\t") {
+    if let Some(rest) = strip_front(line, b"1\tpass\t") {
         return Some((1, None, rest));
     }
     let (total, rest) = cut_field(line)?;
@@ -181,10 +212,11 @@ fn cut_streams(line: &str) -> Option<(&str, &str)>
     ensures { IfSome result (λ x. split_on 9 line.now
         ≡ codes "0" ∷ codes "split" ∷ x.0.now ∷ x.1.now ∷ codes "-" ∷ codes "-" ∷ []) }
 {
-    if matches!(line, "0\tsplit\t\t\t-\t-") {
+    let streams = strip_front(line, b"0\tsplit\t")?;
+    if matches!(strip_front(streams, b"\t\t-\t-"), Some(rest) if rest.is_empty()) {
         return Some(("", ""));
     }
-    let (stdout, rest) = split_at_byte(line.strip_prefix("0\tsplit\t")?, b'\t')?;
+    let (stdout, rest) = split_at_byte(streams, b'\t')?;
     let (stderr, rest) = split_at_byte(rest, b'\t')?;
     if !matches!(rest, "-\t-") {
         return None;
@@ -234,13 +266,14 @@ pub fn read_usual_start(
     let Some(start) = cut_start(line) else {
         return Ok(None);
     };
-    let Some(current_stats) = read_stats(start.stats) else {
+    let Some(()) = replace_names(alloc, start.names, start.binary_id, start.test_name, names)?
+    else {
         return Ok(None);
     };
     let Some(command_line) = read_command_line(alloc, start.command_line)? else {
         return Ok(None);
     };
-    let Some(()) = read_names(alloc, start.binary_id, start.test_name, names)? else {
+    let Some(current_stats) = read_stats(start.stats) else {
         return Ok(None);
     };
     Ok(Some(UsualStart {
@@ -252,38 +285,23 @@ pub fn read_usual_start(
 // Cuts a usual `start` line into its fields.
 #[inline(always)]
 fn cut_start(line: &str) -> Option<StartFields<'_>>
-    ensures { IfSome result (λ u. split_on 9 line.now
+    ensures fields { IfSome result (λ u. split_on 9 line.now
         ≡ codes "start" ∷ codes "-" ∷ u.binary_id.now ∷ u.test_name.now ∷ u.stats.now ∷ u.command_line.now
         ∷ []) }
+    ensures names { IfSome result (λ u. u.names.now ≡ u.binary_id.now ++ 9 ∷ u.test_name.now) }
 {
-    let (binary_id, rest) = cut_field(line.strip_prefix("start\t-\t")?)?;
-    let (test_name, rest) = cut_field(rest)?;
+    let (names, binary_id, test_name, rest) = cut_two_fields(strip_front(line, b"start\t-\t")?)?;
     let (stats, command_line) = cut_field(rest)?;
     match split_at_byte(command_line, b'\t') {
         Some(_) => None,
         None => Some(StartFields {
+            names,
             binary_id,
             test_name,
             stats,
             command_line,
         }),
     }
-}
-
-// Reads the names of a test in place of others. None is a bad field.
-#[inline(always)]
-fn read_names(
-    alloc: Global,
-    binary_id: &str,
-    test_name: &str,
-    names: &mut OwnedTestInstanceId,
-) -> Field<()>
-    ensures { IfOk result (λ read. IfSome read (λ _. AreNames binary_id.now test_name.now names.new)) }
-{
-    let Some(()) = replace_name(alloc, binary_id, &mut names.binary_id)? else {
-        return Ok(None);
-    };
-    replace_name(alloc, test_name, &mut names.test_name)
 }
 
 impl UsualStart {

@@ -7,8 +7,8 @@ pub returns : goal.returns
 unfolding after_streams all_attempts attempt_fields attempts_from event_rows instance_fields output_fields
     spelled_output_fields
 returns c before =
-    let says = c.in-Some.ensures in
-    let named = rw c.in-Some-4.is at c.in_ok-read_names.ensures in
+    let says = c.in-Some.ensures.fields in
+    let named = rw c.in-Some-2.is at c.in_ok-replace_names.ensures in
     rw (
       says.6,
       named.0,
@@ -20,6 +20,6 @@ returns c before =
       says.10,
       says.11,
       says.12,
-      sym c.in_ok-stdout.ensures ∙ c.in-Some-2.is,
-      sym c.in_ok-stderr.ensures ∙ c.in-Some-3.is,
+      sym c.in_ok-stdout.ensures ∙ c.in-Some-3.is,
+      sym c.in_ok-stderr.ensures ∙ c.in-Some-4.is,
     ) refl

@@ -18,14 +18,14 @@ returns-in_default g c =
     let bad = utf8_fails _ c.in_default.ensures.cases.0 in
     stopped _ _ _ _ _ _ _ _ c.fault.ensures (ap with_stored (read_bad None (before_next c.args.self.now) _ some bad))
 
-pub returns-then-starts_with : goal.returns-then-starts_with
-returns-then-starts_with g c =
+pub returns-then-is_some : goal.returns-then-is_some
+returns-then-is_some g c =
     let some = sym c.is_passed_over.ensures ∙ c.if-is_passed_over.false in
     rw (read_text (before_next c.args.self.now) c.args.line.now _ some c.in-Ok.ensures.cases.0 c.in-Ok.ensures.cases.1)
     c.pass_done.ensures
 
-pub returns-then-starts_with-2 : goal.returns-then-starts_with-2
-returns-then-starts_with-2 g c =
+pub returns-then-is_some-2 : goal.returns-then-is_some-2
+returns-then-is_some-2 g c =
     let some = sym c.is_passed_over.ensures ∙ c.if-is_passed_over.false in
     rw (read_text (before_next c.args.self.now) c.args.line.now _ some c.in-Ok.ensures.cases.0 c.in-Ok.ensures.cases.1)
     c.pass_start.ensures
