@@ -1,10 +1,9 @@
 -- The line of a fault, and the status that the program ends with.
 use Rattle.std.specs.Prelude.{ℕ, List, ◌++◌, Option, None, Some, codes, decimal, ⊤}
 use Rattle.{std.specs.Borrow.Bor, std.specs.declared.io.ErrorKind.ErrorKind, command_line.specs.Pieces.IsUnread}
-use Rattle.{scene_fields.specs.Faults.line_fault_text, scene_fields.specs.declared.fault.ReadFault.ReadFault}
+use Rattle.{scene_fields.specs.Faults.line_fault_text}
 use Rattle.command_line.specs.declared.fault.{Fault.Fault, FaultLine.FaultLine, ReportProgram.ReportProgram}
 use Rattle.std.specs.declared.io.ErrorKind.TheVariants as kind
-use Rattle.scene_fields.specs.declared.fault.ReadFault.TheVariants as read
 use Rattle.command_line.specs.declared.fault.Fault.TheVariants as fault
 use Rattle.command_line.specs.declared.fault.ReportProgram.TheVariants as program
 
@@ -47,11 +46,6 @@ status_of _ = 2
 abbrev pub IsJudgeFault : List ℕ → Fault → Type 0
 IsJudgeFault file (fault.Line n f) = ⊤
 IsJudgeFault file other = IsUnread file other
-
--- the fault of a scene that could not be read
-abbrev pub fault_of_read : ReadFault → Fault
-fault_of_read (read.Line n f) = fault.Line n f
-fault_of_read read.OutOfMemory = fault.OutOfMemory
 
 -- this fault, or OutOfMemory if the I/O error is of that kind
 abbrev pub fault_by_kind : ErrorKind → Fault → Fault

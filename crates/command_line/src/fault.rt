@@ -1,12 +1,11 @@
 //! The errors of the programs, with the message and the exit status of each.
 
 ghost use Rattle.std.specs.Prelude.{◌≡◌, Some};
-ghost use Rattle.command_line.specs.Faults.{fault_by_kind, fault_line, fault_of_read, line_of, program_words};
-ghost use Rattle.command_line.specs.Faults.{status_of};
+ghost use Rattle.command_line.specs.Faults.{fault_by_kind, fault_line, line_of, program_words, status_of};
 ghost use Rattle.command_line.specs.declared.fault.Fault.TheVariants.{OutOfMemory};
 
 use run_model::memory::OutOfMemory;
-pub use scene_fields::fault::{LineFault, ReadFault};
+pub use scene_fields::fault::LineFault;
 use std::error::Error;
 use std::fmt;
 use std::fmt::Formatter;
@@ -152,16 +151,5 @@ impl From<OutOfMemory> for Fault<'_> {
 
     fn from(_refused: OutOfMemory) -> Self {
         Fault::OutOfMemory
-    }
-}
-
-impl From<ReadFault> for Fault<'_> {
-    ghost from_gives = { λ read fault. fault ≡ fault_of_read read };
-
-    fn from(fault: ReadFault) -> Self {
-        match fault {
-            ReadFault::Line { line, fault } => Fault::Line { line, fault },
-            ReadFault::OutOfMemory => Fault::OutOfMemory,
-        }
     }
 }

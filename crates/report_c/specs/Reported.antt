@@ -4,9 +4,7 @@ use Rattle.std.specs.Prelude.{false, ⊤}
 use Rattle.run_names.specs.declared.level.StatusLevel.{StatusLevel}
 use Rattle.run_names.specs.declared.level.StatusLevel.TheVariants as level
 use Rattle.{scene_fields.specs.declared.fault.LineFault.LineFault}
-use Rattle.{scene_fields.specs.declared.fault.ReadFault.ReadFault}
 use Rattle.report_c.specs.declared.{NorigullyOptions.NorigullyOptions, NorigullyOutcome.NorigullyOutcome}
-use Rattle.scene_fields.specs.declared.fault.ReadFault.TheVariants as read
 use Rattle.scenes.specs.Names.{IsFaultOfText}
 use Rattle.scene_follower.specs.Names.{OfText, Prints, device, Fault, Options}
 use Rattle.command_line.specs.declared.fault.Fault.TheVariants as fault
@@ -61,17 +59,12 @@ pub record IsFaultOfLine (options : NorigullyOptions) (text : List ℕ) (line : 
   pub wrong : LineFault
   pub judged : IsFaultOfText program text (fault.Line line wrong)
 
--- The fault of a report to memory: a wrong line, or refused memory.
-abbrev pub read_fault_of : Fault → ReadFault
-read_fault_of (fault.Line n f) = read.Line n f
-read_fault_of _ = read.OutOfMemory
-
 -- There is no report: the program reports a fault of this line, or memory was refused.
-abbrev pub IsUnreported : Options → List ℕ → ReadFault → Type 0
-IsUnreported options text (read.Line n f) = IsFaultOfText options text (fault.Line n f)
-IsUnreported options text read.OutOfMemory = ⊤
+abbrev pub IsUnreported : Options → List ℕ → Fault → Type 0
+IsUnreported options text (fault.Line n f) = IsFaultOfText options text (fault.Line n f)
+IsUnreported options text _ = ⊤
 
 -- the outcome of a scene with this fault
-abbrev pub outcome_of_fault : ReadFault → NorigullyOutcome
-outcome_of_fault (read.Line n f) = record { length = 0; line = n; status = 2 }
-outcome_of_fault read.OutOfMemory = record { length = 0; line = 0; status = 3 }
+abbrev pub outcome_of_fault : Fault → NorigullyOutcome
+outcome_of_fault (fault.Line n f) = record { length = 0; line = n; status = 2 }
+outcome_of_fault _ = record { length = 0; line = 0; status = 3 }

@@ -8,8 +8,8 @@ ghost use Rattle.report_c.specs.Reported.{IsTooLong, IsWritten, IsFaultOfLine, l
 
 mod report;
 
+use command_line::fault::Fault;
 use report::{options_of, report_of};
-use scene_fields::fault::ReadFault;
 use std::alloc::Global;
 
 /// How the report of a scene is shown.
@@ -86,7 +86,7 @@ pub extern "C" fn norigully_report(
     };
     let report = match report_of(alloc, &options, scene) {
         Ok(report) => report,
-        Err(fault) => return outcome_of_fault(fault),
+        Err(fault) => return outcome_of_fault(&fault),
     };
     let length = report.len();
     let status = if length <= out.len() {
@@ -102,13 +102,13 @@ pub extern "C" fn norigully_report(
     }
 }
 
-// The outcome of a scene with this fault.
-fn outcome_of_fault(fault: ReadFault) -> NorigullyOutcome
-    ensures { result ≡ outcome_of_fault fault }
+// The outcome of a scene with this fault: a report to memory has no other than a wrong line and refused memory.
+fn outcome_of_fault(fault: &Fault<'_>) -> NorigullyOutcome
+    ensures { result ≡ outcome_of_fault fault.now }
 {
     match fault {
-        ReadFault::Line { line, .. } => failed(WRONG_LINE, line),
-        ReadFault::OutOfMemory => failed(OUT_OF_MEMORY, 0),
+        Fault::Line { line, .. } => failed(WRONG_LINE, *line),
+        _ => failed(OUT_OF_MEMORY, 0),
     }
 }
 

@@ -2,13 +2,12 @@
 
 ghost use Rattle.std.specs.Prelude.{◌≡◌, ◌↔◌, [], IfSome, IfOk, IfErr, None, Some, string_bytes};
 ghost use Rattle.scene_follower.specs.Names.{OfText, Prints, device, store_for};
-ghost use Rattle.report_c.specs.Reported.{AsksFor, IsUnreported, read_fault_of, level_numbered};
+ghost use Rattle.report_c.specs.Reported.{AsksFor, IsUnreported, level_numbered};
 
 use crate::NorigullyOptions;
 use command_line::args::Options;
 use command_line::fault::Fault;
 use run_model::level::StatusLevel;
-use scene_fields::fault::ReadFault;
 use scenes::report::report_to_string;
 use std::alloc::Global;
 
@@ -54,27 +53,11 @@ fn read_level(number: u32) -> Option<StatusLevel>
 /// # Errors
 ///
 /// The first line that is wrong or whose event is refused, or `OutOfMemory`.
-pub fn report_of(alloc: Global, options: &Options<'_>, text: &[u8]) -> Result<String, ReadFault>
+pub fn report_of<'a>(alloc: Global, options: &Options<'a>, text: &[u8]) -> Result<String, Fault<'a>>
     requires no_store { store_for options.now ≡ None }
     ensures report { IfOk result (λ report. OfText text.now
         (Prints device device options.now (Some [], None) (Some (string_bytes report), None))) }
     ensures fault { IfErr result (IsUnreported options.now text.now) }
 {
-    match report_to_string(alloc, options, text) {
-        Ok(report) => Ok(report),
-        Err(fault) => Err(read_fault_of(&fault)),
-    }
-}
-
-// The error as a wrong line, or else as refused memory: a report to memory has no other error.
-fn read_fault_of(fault: &Fault<'_>) -> ReadFault
-    ensures { result ≡ read_fault_of fault.now }
-{
-    match fault {
-        Fault::Line { line, fault } => ReadFault::Line {
-            line: *line,
-            fault: *fault,
-        },
-        _ => ReadFault::OutOfMemory,
-    }
+    report_to_string(alloc, options, text)
 }

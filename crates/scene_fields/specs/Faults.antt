@@ -1,9 +1,7 @@
--- The message of a scene that cannot be read.
+-- What is wrong with a line, in words.
 use Rattle.std.specs.Prelude.{ℕ, List, ◌++◌, codes, decimal}
 use Rattle.{scene_fields.specs.declared.fault.LineFault.LineFault}
-use Rattle.{scene_fields.specs.declared.fault.ReadFault.ReadFault}
 use Rattle.scene_fields.specs.declared.fault.LineFault.TheVariants as line
-use Rattle.scene_fields.specs.declared.fault.ReadFault.TheVariants as fault
 
 -- what is wrong with a line
 abbrev pub line_fault_text : LineFault → List ℕ
@@ -14,8 +12,3 @@ line_fault_text line.WrongNumberOfFields = codes "wrong number of fields"
 line_fault_text line.RetriedSuccess = codes "a retried attempt succeeded"
 line_fault_text line.OutputNotLoaded = codes "output not loaded"
 line_fault_text (line.BadField n) = codes "bad field " ++ decimal n
-
--- the number of the line and what is wrong with it, or that memory was refused
-abbrev pub read_fault_text : ReadFault → List ℕ
-read_fault_text (fault.Line n f) = codes "line " ++ (decimal n ++ (codes ": " ++ line_fault_text f))
-read_fault_text fault.OutOfMemory = codes "out of memory"

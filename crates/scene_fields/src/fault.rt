@@ -1,9 +1,7 @@
-//! What can be wrong with a line of a scene, and why a scene could not be read.
+//! What can be wrong with a line of a scene.
 
 ghost use Rattle.std.specs.Prelude.{◌≡◌, Some};
-ghost use Rattle.scene_fields.specs.{declared.fault.LineError.LineError};
-ghost use Rattle.scene_fields.specs.{declared.fault.ReadFault.TheVariants.OutOfMemory, Faults.line_fault_text};
-ghost use Rattle.scene_fields.specs.{Faults.read_fault_text};
+ghost use Rattle.scene_fields.specs.{declared.fault.LineError.LineError, Faults.line_fault_text};
 
 use run_model::memory::OutOfMemory;
 use std::alloc::AllocFailed;
@@ -47,46 +45,6 @@ impl fmt::Display for LineFault {
 }
 
 impl Error for LineFault {}
-
-/// Why a scene could not be read.
-///
-/// ```
-/// let fault = ReadFault::Line { line: 2, fault: LineFault::UnknownEvent };
-/// assert_eq!(fault.to_string(alloc)?.as_str(), "line 2: unknown event");
-/// ```
-#[derive(Clone, Copy, Debug, PartialEq, Eq)]
-pub enum ReadFault {
-    /// A line of the scene is wrong.
-    Line {
-        /// Its number, from 1.
-        line: u64,
-        /// What is wrong with it.
-        fault: LineFault,
-    },
-    /// A growth of memory was refused.
-    OutOfMemory,
-}
-
-impl fmt::Display for ReadFault {
-    ghost output = { λ fault. Some (read_fault_text fault) };
-
-    fn fmt<W: fmt::Write>(&self, f: &mut Formatter<W>) -> fmt::Result {
-        match self {
-            ReadFault::Line { line, fault } => write!(f, "line {line}: {fault}"),
-            ReadFault::OutOfMemory => f.write_str("out of memory"),
-        }
-    }
-}
-
-impl Error for ReadFault {}
-
-impl<T: Drop> From<AllocFailed<T>> for ReadFault {
-    ghost from_gives = { λ _ fault. fault ≡ OutOfMemory };
-
-    fn from(_refused: AllocFailed<T>) -> ReadFault {
-        ReadFault::OutOfMemory
-    }
-}
 
 /// Why a line could not be read.
 #[derive(Clone, Copy, PartialEq, Eq)]

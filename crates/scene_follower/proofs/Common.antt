@@ -1,5 +1,4 @@
 -- The names that most proofs of this crate cite, passed on from one place. Declares nothing.
-pub use Rattle.command_line.specs.Faults.{fault_of_read}
 pub use Rattle.command_line.specs.Pieces.{IsNextPiece, IsUnread}
 pub use Rattle.command_line.specs.declared.args.Options.{Options}
 pub use Rattle.command_line.specs.declared.fault.Fault.{Fault}

@@ -1,5 +1,5 @@
 -- The names that the crates above import in one line. A new one is added to the line of its module.
-pub use Rattle.command_line.specs.Faults.{IsJudgeFault, fault_of_read, status_of}
+pub use Rattle.command_line.specs.Faults.{IsJudgeFault, status_of}
 pub use Rattle.command_line.specs.Pieces.{IsUnread}
 pub use Rattle.command_line.specs.declared.args.Options.{Options}
 pub use Rattle.command_line.specs.declared.fault.Fault.{Fault}

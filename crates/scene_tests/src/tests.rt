@@ -3,7 +3,7 @@
 use self::pieces::push_often;
 use crate::testing::{expect_row, expect_text};
 use command_line::args::{Options, StoreOptions, words};
-use command_line::fault::{Fault, FaultLine, LineFault, ReadFault, ReportProgram};
+use command_line::fault::{Fault, FaultLine, LineFault, ReportProgram};
 use run_model::level::StatusLevel;
 use scene_follower::follow::{RunOutcome, follow_scene};
 use scenes::report::{judge, report_scene, write_report};
@@ -445,16 +445,12 @@ fn reports_what_is_wrong_with_a_line(rt: HostRuntime) -> Result<(), Fail> {
         (LineFault::BadField(0), "line 3: bad field 0"),
     ];
     for (fault, line) in faults {
-        let read = ReadFault::Line { line: 3, fault };
-        expect_text(&rt, read.to_string(rt.alloc())?.as_str(), line);
-        let shown = Fault::from(read).to_string(rt.alloc())?;
+        let shown = Fault::Line { line: 3, fault }.to_string(rt.alloc())?;
         expect_text(
             &rt,
             shown.as_str().strip_prefix("report: ").unwrap_or(""),
             line,
         );
     }
-    let refused = ReadFault::OutOfMemory.to_string(rt.alloc())?;
-    expect_text(&rt, refused.as_str(), "out of memory");
     Ok(())
 }

@@ -29,12 +29,10 @@ free-state_line : (k : Bool) (mode : NextestRunMode) (u : InfoUnit) (x : UnitSta
     → AreFree k (state_line mode u x)
 unfolding state_line exited_text exiting_line waiting_line
 free-state_line k mode u (Running pid taken mark) h = tt
-free-state_line k mode u (Exiting pid taken mark result waiting remaining) h =
-    (tt, (free-tentative_info k (is_some mark) result h, tt))
+free-state_line k mode u (Exiting pid taken mark result waiting remaining) h = search free-tentative_info
 free-state_line k mode u (Terminating x) h = tt
-free-state_line k mode u (Exited result taken mark) h = (tt, (free-info_text k (is_some mark) result h, tt))
-free-state_line k mode u (DelayBeforeNextAttempt result is_slow waiting remaining) h =
-    (tt, (free-info_text k is_slow result h, tt))
+free-state_line k mode u (Exited result taken mark) h = search free-info_text
+free-state_line k mode u (DelayBeforeNextAttempt result is_slow waiting remaining) h = search free-info_text
 
 free-state_note : (k : Bool) (mode : NextestRunMode) (u : InfoUnit) (x : UnitState) → IsPlainState x
     → AreFree k (state_note mode u x)
@@ -48,36 +46,16 @@ free-state_note k mode u (DelayBeforeNextAttempt result is_slow waiting remainin
 colour_pair-info_layout : (k : Bool) (kind : UnitKind)
     → IsColourPairOfLayout k (info_layout (styles_of true) kind) (info_layout (styles_of false) kind)
 unfolding without_end_spaces
-colour_pair-info_layout k kind = record {
-  stdout = colour_pair-label k _ _;
-  stderr = colour_pair-label k _ _;
-  combined = colour_pair-label k _ _;
-  exec_fail = colour_pair-label k _ _;
-  margin = refl;
-  free = refl;
-  blank = refl;
-}
+colour_pair-info_layout k kind = search colour_pair-label
 
 free-unit_answer : (k : Bool) (s : Settings) (u : InfoUnit) (x : UnitState) (w : Written) → IsPlainState x
     → IsPlainWritten k w → AreFree k (unit_answer s u x w)
 unfolding unit_answer valid_output state_text
-free-unit_answer k s u x w h j = (
-  (free-state_line k s.mode u x h, free-state_note k s.mode u x h),
-  (colour_pair-execution_output k s.unit_output _ _ (colour_pair-info_layout k u.kind) w j, tt),
-)
+free-unit_answer k s u x w h j =
+    search (free-state_line, free-state_note, colour_pair-execution_output, colour_pair-info_layout)
 
 pub free-info_response_text : (k : Bool) (s : Settings) (index total : ℕ) (x : InfoResponse) → IsPlainResponse k x
     → AreFree k (info_response_text s index total x)
 unfolding info_response_text script_answer test_answer
-free-info_response_text k s index total (SetupScript x) h = (
-  tt,
-  (
-    tt,
-    (
-      free-shown_script k (answering_script x) h.0,
-      (tt, free-unit_answer k s (script_unit x) x.state x.output h.1 h.2),
-    ),
-  ),
-)
-free-info_response_text k s index total (Test x) h =
-    (tt, (tt, (free-instance_end k _ (tt, h.0), free-unit_answer k s (test_unit x) x.state x.output h.1 h.2)))
+free-info_response_text k s index total (SetupScript x) h = search (free-shown_script, free-unit_answer)
+free-info_response_text k s index total (Test x) h = search (free-instance_end, free-unit_answer)

@@ -106,9 +106,6 @@ abbrev event_put : AttemptsOfRun → SceneEvent → SceneEvent
 event_put a (EventCall e) = EventCall (record e { kind = kind_put a e.kind })
 event_put a other = other
 
-same_some : (a b : AttemptsOfRun) → ◌≡◌ {A = Option AttemptsOfRun} (Some a) (Some b) → a ≡ b
-same_some a b h = cc
-
 -- it is none that has no attempts
 no_attempts : (event finish : SceneEvent) → event ≡ finish → is_some (event_attempts finish) ≡ true
     → is_some (event_attempts event) ≡ true
@@ -194,10 +191,6 @@ module _ (d : OutputLoadDecider) (all : List ℕ) (ps : List PlacedOutput) where
   loaded_call (EventCall e) c is loads = of_event e.elapsed e.kind c is loads
   loaded_call (HeaderCall h) c is loads = all_loaded (HeaderCall h) c is
   loaded_call (PrefixCall p) c is loads = all_loaded (PrefixCall p) c is
-
--- nor does the outcome of a run
-outcome-call : (before : RunOutcome) (c : ReportCall) → outcome_after before (call_of_last c) ≡ outcome_after before c
-outcome-call before c = grind arith
 
 outcome_behind : (calls past other : List ReportCall) → run_outcome other ≡ run_outcome past
     → run_outcome (reverse_aux (calls_of_last calls) other) ≡ run_outcome (reverse_aux calls past)

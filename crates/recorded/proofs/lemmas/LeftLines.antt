@@ -46,13 +46,6 @@ abbrev Keeps : {K X : Type 0} → Takes K → (K → X) → Type 0
 Keeps {K} takes name = (old : K) (file : List ℕ) (n : ℕ) (stored : List PlacedOutput) (call : ReportCall)
     (result : Result (Unit {0}) Fault) (new : K) → takes old file n stored call result new → name new ≡ name old
 
-taken_keeps : {K X : Type 0} (takes : Takes K) (file : List ℕ) (n : ℕ) (line : ParsedLine) (stored : List PlacedOutput)
-    (given : K) (result : Result (Unit {0}) Fault) (after : K)
-    → IsTaken takes file n stored line given result after → (name : K → X) → Keeps takes name → name after ≡ name given
-taken_keeps takes file n NoEvent stored given result after taken name keeps = ap name taken.0
-taken_keeps takes file n (ConfigLine c) stored given result after taken name keeps = ap name taken.0
-taken_keeps takes file n (EventLine e) stored given result after taken name keeps = search
-
 pub line_keeps : {K X : Type 0} (takes : Takes K) (file : List ℕ)
     (value : Result (ParsedLine × List PlacedOutput) LineFault) (old : LinesRead) (given : K)
     (result : Result (Unit {0}) Fault) (new : LinesRead) (after : K)

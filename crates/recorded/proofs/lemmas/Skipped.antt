@@ -18,12 +18,6 @@ skipped-with : (d : OutputLoadDecider) (place : ℕ) (captured : ChildOutputDesc
 skipped-with d place captured (kind.TestFinished stress test success failure statuses stats) = grind arith
 skipped-with d place captured k = grind arith
 
-pub call_skips-with : (d : OutputLoadDecider) (place : ℕ) (captured : ChildOutputDescription) (c : ReportCall)
-    → call_skips d (call_with place captured c) ≡ call_skips d c
-call_skips-with d place captured (call.Event e) = skipped-with d place captured e.kind
-call_skips-with d place captured (call.Header h) = refl
-call_skips-with d place captured (call.Prefix p) = refl
-
 pub skips-with : (d : OutputLoadDecider) (place : ℕ) (captured : ChildOutputDescription) (event : SceneEvent)
     → skips d (event_with place captured event) ≡ skips d event
 skips-with d place captured (EventCall e) = skipped-with d place captured e.kind

@@ -46,14 +46,6 @@ output_loads captured output = execution_with_output output captured
 
 abbrev pub attempt_loads : ChildOutputDescription → Attempt → Attempt
 attempt_loads captured attempt = attempt_with_output attempt captured
-
-abbrev attempt_made : RetryData → ExecutionResultDescription → Nanos → Bool → Written → Attempt
-attempt_made retry_data result time_taken is_slow output = record {
-  retry_data = retry_data;
-  output = output;
-  result = result;
-  time_taken = time_taken;
-  is_slow = is_slow;
 }
 
 module _ (all : List ℕ) where

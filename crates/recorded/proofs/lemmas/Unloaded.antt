@@ -7,18 +7,10 @@ use Rattle.run_model.specs.declared.status.{SetupScriptExecuteStatus.SetupScript
 use Rattle.scene_reader.specs.Names.{ChildOutputDescription, LiveSpec}
 use Rattle.console_reporter.proofs.lemmas.Isolation.{unloaded-summary}
 
-unloaded-execution : (o : Written) (captured : ChildOutputDescription)
-    → unloaded_output (execution_with_output o captured) ≡ unloaded_output o
-unloaded-execution o captured = grind arith
-
 -- an attempt, and one of a setup script
 pub unloaded-attempt : (a : Attempt) (captured : ChildOutputDescription)
     → unloaded_attempt (attempt_with_output a captured) ≡ unloaded_attempt a
 unloaded-attempt a captured = grind arith
-
-pub unloaded-script : (a : SetupScriptExecuteStatus LiveSpec ChildOutputDescription) (captured : ChildOutputDescription)
-    → unloaded_script (record a { output = execution_with_output a.output captured }) ≡ unloaded_script a
-unloaded-script a captured = grind arith
 
 -- earlier attempts, of which one may be there, and all attempts of a test
 pub unloaded-earlier : (attempts : List Attempt) (place : ℕ) (captured : ChildOutputDescription)
@@ -30,12 +22,3 @@ unloaded-earlier (x ∷ xs) (suc place) captured = grind (arith, unloaded-earlie
 pub unloaded-attempts : (place : ℕ) (captured : ChildOutputDescription) (a : Attempts LiveSpec ChildOutputDescription)
     → unloaded_attempts (attempts_with place captured a) ≡ unloaded_attempts a
 unloaded-attempts place captured a = grind (arith, unloaded-attempt, unloaded-earlier)
-
--- attempts have the same outcome, whatever they captured
-pub same-summary : (place : ℕ) (captured : ChildOutputDescription) (a : Attempts LiveSpec ChildOutputDescription)
-    → summary_of (attempts_with place captured a) ≡ summary_of a
-same-summary place captured a = cc (
-  unloaded-summary (attempts_with place captured a),
-  unloaded-summary a,
-  unloaded-attempts place captured a,
-)

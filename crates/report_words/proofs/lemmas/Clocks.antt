@@ -11,9 +11,6 @@ use Rattle.{styled_text.proofs.lemmas.Decimals.IsAscii-none}
 abbrev colon_digits : ℕ → Text → Text
 colon_digits n rest = 58 ∷ (48 + n / 10 % 10) ∷ (48 + n % 10) ∷ rest
 
-IsAscii-colon_digits : (n : ℕ) (rest : Text) → IsAscii rest → IsAscii (colon_digits n rest)
-IsAscii-colon_digits n rest h = grind arith
-
 -- minutes and seconds
 abbrev after_hours : ℕ → Text
 after_hours s = colon_digits (s / 60 % 60) (colon_digits (s % 60) [])

@@ -73,14 +73,6 @@ ends-joined Lines Lines t u (inl empty) j = rw empty j
 ends-joined Lines Lines t u (inr h) (inl empty) = grind (arith, append-nil)
 ends-joined Lines Lines t u (inr h) (inr j) = inr (ends_after t u j)
 
-ends-either : (d e : End) (b : Bool) (t u : Text) → EndsBy d t → EndsBy e u → EndsBy (either_end d e) (cond b t u)
-ends-either Line Line true t u h j = h
-ends-either Line Line false t u h j = j
-ends-either Lines Line true t u h j = h
-ends-either Lines Line false t u h j = inr j
-ends-either _ _ true t u h j = search inr
-ends-either _ _ false t u h j = search inr
-
 blank-spaces : (n : ℕ) → IsBlank (spaces n)
 unfolding without_end_spaces
 blank-spaces zero = refl

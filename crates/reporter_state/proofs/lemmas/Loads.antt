@@ -15,12 +15,6 @@ use Rattle.reporter_state.specs.Names.{is_failed_output_shown, finish_by, decide
 use Rattle.reporter_state.specs.Names.{Settings}
 use Rattle.run_names.specs.declared.level.StatusLevel.TheVariants as level
 
--- needed output is loaded, if the event was accepted
-pub loaded_where : (is_needed : Bool) (output : Written) →
-    option_map_or (λ (o : Written). not (has_loaded_output o)) (if is_needed then Some output else None) false ≡ false
-    → is_needed ≡ true → has_loaded_output output ≡ true
-loaded_where is_needed output lacks is = grind arith
-
 pub attempt_loaded : (s : Settings) (stress : Option StressIndex) (test : TestInstanceId) (status : Attempt)
     (delay : Nanos) (failure : TestOutputDisplay)
     → lacks_output (decider_by s None) (TestAttemptFailedWillRetry stress test status delay failure) ≡ false

@@ -12,13 +12,6 @@ use Rattle.reporter_state.specs.declared.decider.OutputMetadata.TheVariants.{Set
 use Rattle.reporter_state.specs.declared.decider.OutputMetadata.TheVariants.{TestAttemptFailedWillRetry, TestFinished}
 use Rattle.run_model.specs.declared.output_event.OutputEventKind.TheVariants as decided
 
--- the outcome is a success exactly if the last attempt succeeded
-success_case : (is_success is_only : Bool) (flaky : FlakyResult)
-    → is_success_case (if is_success then (if is_only then Success else Flaky flaky) else Failure) ≡ is_success
-success_case true true flaky = refl
-success_case true false flaky = refl
-success_case false is_only flaky = refl
-
 pub loads_last-same : {S O : Type 0} (d : OutputLoadDecider) (success failure : TestOutputDisplay) (a : Attempts S O)
     → loads_last d success failure a.last.result ≡ loads_finish d success failure (summary_of a)
 loads_last-same d success failure a = grind arith

@@ -34,29 +34,14 @@ free-id_text k (Some p) id h = h
 free-starting_line : (k : Bool) (s : Settings) (c : TestCounts) → HasNoEscape s.default_filter.profile
     → AreFree k (starting_line s c)
 unfolding starting_line
-free-starting_line k s c h = (
-  tt,
-  (
-    tt,
-    (
-      tt,
-      (
-        free-skip_note k s.mode (skipped_tests_in s.mode c.skip_counts) c.skip_counts s.default_filter h,
-        tt,
-      ),
-    ),
-  ),
-)
+free-starting_line k s c h = search free-skip_note
 
 pub free-run_started_text : (k : Bool) (s : Settings) (prefix : Option UniquePrefix) (c : TestCounts) (id : List ℕ)
     (profile : Text)
     → HasNoEscape s.default_filter.profile → HoldsIf IsPlainPrefix prefix → HasNoEscape profile
     → AreFree k (run_started_text s prefix c id profile)
 unfolding run_started_text run_id_line profile_text
-free-run_started_text k s prefix c id profile h p q = (
-  tt,
-  ((tt, (tt, (free-id_text k prefix id p, (tt, (q, tt))))), free-starting_line k s c h),
-)
+free-run_started_text k s prefix c id profile h p q = search (free-id_text, free-starting_line)
 
 -- the header of a replay
 free-started_text : (d : DateTime) → HasNoEscape (started_text d)
@@ -65,10 +50,7 @@ free-started_text d = search (frees, free-last_digits) depth 12
 
 pub free-replay_header_text : (k : Bool) (h : ReplayHeader) → IsPlainHeader h → AreFree k (replay_header_text h)
 unfolding replay_header_text replaying_line started_line
-free-replay_header_text k h p = (
-  (tt, (tt, (free-id_text k h.unique_prefix h.run_id p.0, tt))),
-  (tt, (tt, (colour_pair-free k _ (free-started_text h.started_at), (tt, (p.1, tt))))),
-)
+free-replay_header_text k h p = search (free-id_text, colour_pair-free, free-started_text)
 
 -- setup scripts
 free-script_counter : (index total : ℕ) → HasNoEscape (script_counter index total)
@@ -78,44 +60,37 @@ free-script_counter index total = search frees depth 12
 pub free-setup_script_started_text : (k : Bool) (index total : ℕ) (x : Script) → IsPlainScript x
     → AreFree k (setup_script_started_text index total x)
 unfolding setup_script_started_text
-free-setup_script_started_text k index total x h = (
-  tt,
-  (tt, (colour_pair-free k _ (free-script_counter index total), (free-shown_script k x h, tt))),
-)
+free-setup_script_started_text k index total x h = search (colour_pair-free, free-script_counter, free-shown_script)
 
 pub free-setup_script_slow_text : (k : Bool) (s : Settings) (x : Script) (elapsed : ℕ) (b : Bool) → IsPlainScript x
     → AreFree k (setup_script_slow_text s x elapsed b)
 unfolding setup_script_slow_text shown_slow_script
-free-setup_script_slow_text k s x elapsed b h = ((tt, (tt, (tt, (free-shown_script k x h, tt)))), tt)
+free-setup_script_slow_text k s x elapsed b h = search free-shown_script
 
 free-setup_script_line : (k : Bool) (x : Script) (result : ExecutionResultDescription) (taken : ℕ) → IsPlainScript x
     → IsPlainResult result → AreFree k (setup_script_line x result taken)
 unfolding setup_script_line
-free-setup_script_line k x result taken h p = let word = free-short_word result p in
-    (search frees depth 12, (tt, (tt, (free-shown_script k x h, tt))))
+free-setup_script_line k x result taken h p = search (free-short_word, frees, free-shown_script)
 
 pub free-setup_script_finished_text : (k : Bool) (s : Settings) (x : Script) (status : SetupScriptExecuteStatus
     LiveSpec ChildOutputDescription)
     → IsPlainScript x → IsPlainScriptStatus k status
     → AreFree k (setup_script_finished_text s x status)
 unfolding setup_script_finished_text failed_script_output
-free-setup_script_finished_text k s x status h p = (
-  free-setup_script_line k x status.result status.time_taken.0 h p.0,
-  (tt, free-unit_output k s unit.Script false status.result status.output p.0 p.1),
-)
+free-setup_script_finished_text k s x status h p = search (free-setup_script_line, free-unit_output)
 
 -- the outstanding tests that a rerun has not seen
 free-not_seen_line : (k : Bool) (i : OwnedTestInstanceId) → IsPlainOwned i → AreFree k (not_seen_line i)
 unfolding not_seen_line
-free-not_seen_line k i h = (tt, (colour_pair-test_text k None None i.binary_id i.test_name tt h.0 h.1, tt))
+free-not_seen_line k i h = search colour_pair-test_text
 
 free-listed : (k : Bool) (listed : List OwnedTestInstanceId) → AllByRecursion IsPlainOwned listed
     → AllByRecursion (λ i. AreFreeGiven k (not_seen_line i)) listed
 free-listed k [] h = tt
-free-listed k (i ∷ listed) h = (free-not_seen_line k i h.0, free-listed k listed h.1)
+free-listed k (i ∷ listed) h = search (free-not_seen_line, free-listed k listed h.1)
 
 pub free-not_seen_text : (k : Bool) (mode : NextestRunMode) (x : Option NotSeen) → IsPlainNotSeen x
     → AreFree k (not_seen_text mode x)
 unfolding not_seen_note
 free-not_seen_text k mode None h = tt
-free-not_seen_text k mode (Some x) h = (tt, (tt, (free-listed k x.not_seen h, tt)))
+free-not_seen_text k mode (Some x) h = search free-listed

@@ -18,27 +18,17 @@ free-status_words : (k : Bool) (kind : StatusLineKind) (case : StatusCase) (x : 
     → AreFree k (status_words kind case x)
 free-status_words k kind Success x h = tt
 free-status_words k kind (Flaky result) x h = tt
-free-status_words k kind Failure x h = let long = free-long_word x.result h in let short = free-short_word x.result h in
-    search frees depth 12
+free-status_words k kind Failure x h = search (free-long_word, free-short_word, frees)
 
 free-status_prefix : (k : Bool) (kind : StatusLineKind) (x : StatusSummary) → IsPlainResult x.result
     → AreFree k (status_prefix kind x)
 unfolding status_prefix
-free-status_prefix k kind x h = (free-status_words k kind x.case x h, tt)
+free-status_prefix k kind x h = search free-status_words
 
 pub free-status_line : (k : Bool) (kind : StatusLineKind) (test : CountedInstance) (x : StatusSummary)
     → IsPlainTest test → IsPlainResult x.result → AreFree k (status_line kind test x)
 unfolding status_line
-free-status_line k kind test x h j = (
-  free-status_prefix k kind x j,
-  (
-    tt,
-    (
-      colour_pair-instance_text k test.stress_index test.counter test.instance h.0 h.1,
-      (tt, (free-abort_line k x.result j, tt)),
-    ),
-  ),
-)
+free-status_line k kind test x h j = search (free-status_prefix, colour_pair-instance_text, free-abort_line)
 
 -- a finished test holds no escape character, except in an output that may
 pub record IsPlainFinish (k : Bool) (f : FinishReport) : Type 0 where

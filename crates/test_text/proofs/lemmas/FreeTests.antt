@@ -25,53 +25,46 @@ free-skip_line k test h = (tt, free-untimed_end k test h)
 pub free-test_skipped_text : (k : Bool) (s : Settings) (stress : Option StressIndex) (i : TestInstanceId)
     → IsPlainInstance i → AreFree k (test_skipped_text s stress i)
 unfolding test_skipped_text
-free-test_skipped_text k s stress i h = (free-skip_line k _ (plain-padded s stress i h), tt)
+free-test_skipped_text k s stress i h = search (free-skip_line, plain-padded)
 
 -- a test that starts
 free-command_text : (k : Bool) (s : Settings) (words : List Text) → AllByRecursion HasNoEscape words
     → AreFree k (command_text s words)
 unfolding command_text
-free-command_text k s words h = ((tt, (tt, (colour_pair-free k _ (free-shell_words words h), tt))), tt)
+free-command_text k s words h = search (colour_pair-free, free-shell_words)
 
 pub free-test_started_text : (k : Bool) (s : Settings) (stress : Option StressIndex) (i : TestInstanceId) (x : RunStats)
     (words : List Text)
     → IsPlainInstance i → AllByRecursion HasNoEscape words
     → AreFree k (test_started_text s stress i x words)
 unfolding test_started_text start_line
-free-test_started_text k s stress i x words h j = (
-  ((tt, free-untimed_end k _ (plain-started_counter s x, h)), tt),
-  free-command_text k s words j,
-)
+free-test_started_text k s stress i x words h j = search (free-untimed_end, plain-started_counter, free-command_text)
 
 pub free-test_retry_started_text : (k : Bool) (s : Settings) (stress : Option StressIndex) (i : TestInstanceId)
     (r : RetryData) (words : List Text)
     → IsPlainInstance i → AllByRecursion HasNoEscape words
     → AreFree k (test_retry_started_text s stress i r words)
 unfolding test_retry_started_text retry_start_line
-free-test_retry_started_text k s stress i r words h j = (
-  ((tt, free-untimed_end k _ (plain-padded s stress i h)), tt),
-  free-command_text k s words j,
-)
+free-test_retry_started_text k s stress i r words h j = search (free-untimed_end, plain-padded, free-command_text)
 
 -- a test that is slow
 free-slow_end : (k : Bool) (test : CountedInstance) (elapsed : ℕ) → IsPlainTest test → AreFree k (slow_end test elapsed)
 unfolding slow_end
-free-slow_end k test elapsed h = (tt, (tt, free-instance_end k test h))
+free-slow_end k test elapsed h = search free-instance_end
 
 pub free-test_slow_text : (k : Bool) (s : Settings) (stress : Option StressIndex) (i : TestInstanceId) (r : RetryData)
     (elapsed : ℕ) (will_terminate : Bool)
     → IsPlainInstance i
     → AreFree k (test_slow_text s stress i r elapsed will_terminate)
 unfolding test_slow_text slow_text terminating_text
-free-test_slow_text k s stress i r elapsed true h = ((tt, free-slow_end k _ elapsed (plain-padded s stress i h)), tt)
-free-test_slow_text k s stress i r elapsed false h = ((tt, free-slow_end k _ elapsed (plain-padded s stress i h)), tt)
+free-test_slow_text k s stress i r elapsed true h = search (free-slow_end, plain-padded)
+free-test_slow_text k s stress i r elapsed false h = search (free-slow_end, plain-padded)
 
 -- a failed attempt that is retried
 free-attempt_failed_line : (k : Bool) (test : CountedInstance) (x : Attempt) → IsPlainTest test → IsPlainResult x.result
     → AreFree k (attempt_failed_line test x)
 unfolding attempt_failed_line
-free-attempt_failed_line k test x h j = let word = free-short_word x.result j in
-    (search frees depth 12, (tt, (tt, free-instance_end k test h)))
+free-attempt_failed_line k test x h j = search (free-short_word, frees, free-instance_end)
 
 pub free-attempt_failed_text : (k : Bool) (s : Settings) (stress : Option StressIndex) (i : TestInstanceId)
     (x : Attempt) (delay : ℕ) (failure : TestOutputDisplay)
@@ -79,13 +72,4 @@ pub free-attempt_failed_text : (k : Bool) (s : Settings) (stress : Option Stress
     → AreFree k (attempt_failed_text s stress i x delay failure)
 unfolding attempt_failed_text failed_output delay_line
 free-attempt_failed_text k s stress i x delay failure h j w =
-    let test = plain-padded s stress i h in (
-      (
-        free-attempt_failed_line k _ x test j,
-        (
-          (free-unit_output k s unit.Test true x.result x.output j w, tt),
-          (tt, (tt, (tt, (tt, free-instance_end k _ test)))),
-        ),
-      ),
-      tt,
-    )
+    search (plain-padded, free-attempt_failed_line, free-unit_output, free-instance_end)

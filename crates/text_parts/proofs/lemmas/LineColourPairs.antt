@@ -13,16 +13,8 @@ use Rattle.report_text.proofs.lemmas.{InstanceColourPairs.colour_pair-script_tex
 abbrev pub painted : Bool → Settings → Settings
 painted b s = record s { styles = styles_of b }
 
--- no counter holds an escape character
-pub plain-finished_counter : (s : Settings) (x : RunStats) → HasPlainCounter (finished_counter s x)
-plain-finished_counter s x = grind arith
-
 pub plain-started_counter : (s : Settings) (x : RunStats) → HasPlainCounter (started_counter s x)
 plain-started_counter s x = grind arith
-
-plain-hbar : (b : Bool) → hbar_character b ≢ 27
-plain-hbar true = λ e. omega (arith, e)
-plain-hbar false = λ e. omega (arith, e)
 
 pub plain-padded_counter : (s : Settings) → HasPlainCounter (padded_counter s)
 plain-padded_counter s = grind arith

@@ -1,9 +1,8 @@
 use Rattle.{std.proofs.Common.refl, report_c.proofs.Unreported.unreported}
 use Rattle.report_c.proofs.report.report_of.Goals as goal
 
-pub returns-in-Ok-clause-report : goal.returns-in-Ok-clause-report
-returns-in-Ok-clause-report c = rw c.in-Ok.is at (c.report_to_string.ensures.report c.args.text.now refl)
+pub returns-clause-report : goal.returns-clause-report
+returns-clause-report c = c.report_to_string.ensures.report c.args.text.now refl
 
-pub returns-in-Err-clause-fault : goal.returns-in-Err-clause-fault
-returns-in-Err-clause-fault c = rw c.read_fault_of.ensures
-    (unreported _ _ c.in-Err.fault (rw c.in-Err.is at (c.report_to_string.ensures.fault c.args.text.now refl)))
+pub returns-clause-fault : goal.returns-clause-fault
+returns-clause-fault c = grind (unreported, c.report_to_string.ensures.fault c.args.text.now refl)
