@@ -63,8 +63,40 @@ impl DisplayScriptInstance {
         ensures count_style { IfOk result (λ shown. shown.count_style ≡ count_style) }
     {
         let args = CommandLine::from_strings(alloc, args)?;
+        DisplayScriptInstance::from_command_line(
+            alloc,
+            stress_index,
+            script_id,
+            command,
+            &args,
+            script_id_style,
+            count_style,
+        )
+    }
+
+    /// Shows the script as [`new`](DisplayScriptInstance::new) does, without a copy of its arguments.
+    ///
+    /// # Errors
+    ///
+    /// Memory was refused.
+    pub fn from_command_line(
+        alloc: Global,
+        stress_index: Option<StressIndex>,
+        script_id: ScriptId,
+        command: &str,
+        args: &CommandLine,
+        script_id_style: Style,
+        count_style: Style,
+    ) -> Result<DisplayScriptInstance, OutOfMemory>
+        ensures stress_index { IfOk result (λ shown. shown.stress_index ≡ stress_index) }
+        ensures script_id { IfOk result (λ shown. shown.script_id ≡ script_id) }
+        ensures command { IfOk result
+            (λ shown. string_bytes shown.full_command ≡ shell_words (command.now ∷ args.now)) }
+        ensures script_id_style { IfOk result (λ shown. shown.script_id_style ≡ script_id_style) }
+        ensures count_style { IfOk result (λ shown. shown.count_style ≡ count_style) }
+    {
         let mut full_command = String::new(alloc);
-        match write_shell_command(&mut full_command, command, &args) {
+        match write_shell_command(&mut full_command, command, args) {
             Ok(()) => Ok(DisplayScriptInstance {
                 stress_index,
                 script_id,

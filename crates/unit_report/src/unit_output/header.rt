@@ -60,11 +60,11 @@ pub enum OutputHeader {
         /// The characters of the bars.
         theme_characters: ThemeCharacters,
         /// How many characters the bar on the left has, a space where it is absent.
-        left: Option<u8>,
+        left: Option<usize>,
         /// The name.
         name: OutputName,
         /// How many characters the bar on the right has.
-        right: u8,
+        right: usize,
     },
     /// The name and a colon, as `stdout:`.
     Label {
@@ -103,7 +103,7 @@ impl WriteText for OutputHeader {
 
 // A bar of the given number of characters, or a space.
 #[derive(Clone, Copy)]
-struct Bar(ThemeCharacters, Option<u8>);
+struct Bar(ThemeCharacters, Option<usize>);
 
 impl WriteText for Bar {
     ghost text = { λ b. bar_text b.0 b.1 };
@@ -112,7 +112,7 @@ impl WriteText for Bar {
     fn write_to<W: WriteStr>(&self, w: &mut W) -> Result<(), WriteFault> {
         match *self {
             Bar(_, None) => w.write_str(" "),
-            Bar(theme, Some(width)) => theme.write_hbar(w, usize::from(width)),
+            Bar(theme, Some(width)) => theme.write_hbar(w, width),
         }
     }
 }
