@@ -6,6 +6,7 @@
 //! - `laws` states what the other contracts imply, such as what can still stop a report without a wrong line.
 //! - `gathering` reports calls into memory, and `judge` asks whether a reporter would refuse them.
 //! - `keeping` keeps the text of a scene while it is judged.
+//! - `process` is what a program does with its words.
 //! - `scene` is a run of the library, which owns its text.
 //!
 //! How lines are read and followed one by one is in the crate `scene_follower`.
@@ -15,5 +16,6 @@ mod gathering;
 mod judge;
 mod keeping;
 pub mod laws;
+pub mod process;
 pub mod report;
 pub mod scene;

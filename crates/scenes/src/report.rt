@@ -350,7 +350,7 @@ pub fn judge<'a, R: Read + Drop>(
 ///
 /// The fault of the line of the first call that is refused; or a failed device, or refused memory, after which each
 /// device has a prefix.
-pub fn write_report<W: Write, S: Write>(
+pub fn write_scene<W: Write, S: Write>(
     alloc: Global,
     options: &Options<'_>,
     scene: &Scene,
@@ -374,4 +374,36 @@ pub fn write_report<W: Write, S: Write>(
         Err(fault) => return (Err(in_memory(fault)), writer, store_writer),
     }
     report_judged(alloc, options, scene.text(), writer, store_writer)
+}
+
+/// Writes the report of a scene as [`write_scene`] does, and drops both devices.
+///
+/// # Errors
+///
+/// Those of [`write_scene`].
+pub fn write_report<W: Write + Drop, S: Write + Drop>(
+    alloc: Global,
+    options: &Options<'_>,
+    scene: &Scene,
+    writer: W,
+    store_writer: S,
+) -> Result<(), Fault<'static>>
+    ensures ok { OnOk result
+        (OfText scene.now.text (λ run. (last : W) × (store_last : S)
+        × Prints device device options.now (W.contents writer, S.contents store_writer)
+        (W.contents last, S.contents store_last) run)) }
+    ensures err { IfErr result
+        (λ fault. IsRefusedText options.now scene.now.text fault
+        ⊎ OfText scene.now.text (λ run. (last : W) × (store_last : S)
+        × Begins device device options.now (W.contents writer, S.contents store_writer)
+        (W.contents last, S.contents store_last) run fault)) }
+{
+    let (outcome, _writer, _store_writer) = write_scene(
+        alloc,
+        options,
+        scene,
+        writer,
+        store_writer,
+    );
+    outcome
 }
