@@ -1,5 +1,9 @@
 //! The lines of a scene, reported as they come: each before more is read.
 
+ghost use Rattle.std.specs.Prelude.{◌≡◌, ◌⊎◌, Err, None};
+ghost use Rattle.command_line.specs.Args.{options_or_input, texts};
+ghost use Rattle.command_line.specs.declared.fault.Fault.TheVariants.{OutOfMemory, Usage};
+
 use command_line::args::{Options, args_or_input};
 use command_line::fault::Fault;
 use scene_follower::follow::{RunOutcome, follow_scene};
@@ -12,7 +16,10 @@ use writers::write_str::RetryInterrupted;
 pub(crate) fn follow_file<'a>(
     rt: &HostRuntime,
     args: &'a mut Vec<String>,
-) -> Result<RunOutcome, Fault<'a>> {
+) -> Result<RunOutcome, Fault<'a>>
+    ensures usage { options_or_input (texts args.old.items) ≡ None
+        → (result ≡ Err Usage) ⊎ (result ≡ Err OutOfMemory) }
+{
     let Some(options) = args_or_input(rt.alloc(), args)? else {
         return Err(Fault::Usage);
     };

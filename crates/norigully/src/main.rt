@@ -6,6 +6,12 @@
 //! success. An error is one line on standard error and a status.
 #![tactic(auto)]
 
+ghost use Rattle.std.specs.Prelude.{◌≡◌, codes, IfErr, IfOk};
+ghost use Rattle.command_line.specs.Faults.{status_of};
+ghost use Rattle.command_line.specs.declared.fault.ReportProgram.TheVariants.{Follow, Replay};
+ghost use Rattle.norigully.specs.declared.Request.TheVariants.{Run};
+ghost use Rattle.scene_follower.specs.Outcomes.{status_of_outcome};
+
 mod follow;
 mod replay;
 
@@ -40,7 +46,11 @@ enum Request {
     Text(&'static str),
 }
 
-fn request_of(first: &str, is_alone: bool) -> Request {
+// Only the first word asks for another run than that of a file.
+fn request_of(first: &str, is_alone: bool) -> Request
+    ensures follow { first.now ≡ codes "--follow" → result ≡ Run Follow }
+    ensures recorded { first.now ≡ codes "--recorded" → result ≡ Run Replay }
+{
     match first {
         "--follow" => Request::Run(ReportProgram::Follow),
         "--recorded" => Request::Run(ReportProgram::Replay),
@@ -86,7 +96,10 @@ fn start(rt: &HostRuntime, args: Vec<String>) -> u8 {
 }
 
 // The exit status of a run, or of the fault that stopped it. If the run did not end, it also prints a line.
-fn end(rt: &HostRuntime, program: ReportProgram, outcome: Result<RunOutcome, Fault<'_>>) -> u8 {
+fn end(rt: &HostRuntime, program: ReportProgram, outcome: Result<RunOutcome, Fault<'_>>) -> u8
+    ensures outcome { IfOk outcome.entry (λ run. result ≡ status_of_outcome run) }
+    ensures fault { IfErr outcome.entry (λ fault. result ≡ status_of fault) }
+{
     match outcome {
         Ok(outcome) => {
             if outcome == RunOutcome::NotEnded {

@@ -1,5 +1,9 @@
 //! A recorded run. Only the output that the report shows is read.
 
+ghost use Rattle.std.specs.Prelude.{◌≡◌, Err, None};
+ghost use Rattle.command_line.specs.Args.{options_of, texts};
+ghost use Rattle.command_line.specs.declared.fault.Fault.TheVariants.{Usage};
+
 use command_line::args::{Options, words};
 use command_line::fault::Fault;
 use recorded::{Metered, RecordedOutputs, RecordedRun};
@@ -15,7 +19,9 @@ use writers::write_str::RetryInterrupted;
 pub(crate) fn replay_folder<'a>(
     rt: &HostRuntime,
     args: &'a [String],
-) -> Result<RunOutcome, Fault<'a>> {
+) -> Result<RunOutcome, Fault<'a>>
+    ensures usage { options_of (texts args.now) ≡ None → result ≡ Err Usage }
+{
     let Some(options) = words(args) else {
         return Err(Fault::Usage);
     };
