@@ -1,7 +1,8 @@
 //! The outputs of a recorded run. A stream is loaded by its reference, and an output by its stored form. Only their
 //! bytes are read, and these are never spelled as text.
 
-ghost use Rattle.std.specs.Prelude.{◌≡◌, ◌≤◌, ◌↔◌, false, IsTrue, IfErr, IfOk, IfSome, OnOk, if◌then◌else◌, is_ok, length};
+ghost use Rattle.std.specs.Prelude.{◌≡◌, ◌≤◌, ◌↔◌, false, IsTrue, IfErr, IfOk, IfSome};
+ghost use Rattle.std.specs.Prelude.{OnOk, if◌then◌else◌, is_ok, length};
 ghost use Rattle.std.specs.Prelude.{vec_len};
 ghost use Rattle.{std.specs.Option.ForSome, scene_fields.specs.References.end_of};
 ghost use Rattle.recorded.specs.Names.{IsCaptured, IsCapturedStream, IsCountedOf, IsCountedOfStream, HasSum, IsCounted};

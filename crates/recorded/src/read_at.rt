@@ -3,7 +3,8 @@
 //! The kit's `Read` and `Seek` do not say that what is read after a seek is at the position that was sought; [`Source`]
 //! says so. What is read through [`ReadAt`] is counted as well: [`Metered`] is the meter, and wraps any source.
 
-ghost use Rattle.std.specs.Prelude.{◌≡◌, ℕ, List, Option, None, Some, IfErr, IfOk, IfSome, OnOk, ⊤, if◌then◌else◌, is_ok};
+ghost use Rattle.std.specs.Prelude.{◌≡◌, ℕ, List, Option, None, Some, IfErr, IfOk};
+ghost use Rattle.std.specs.Prelude.{IfSome, OnOk, ⊤, if◌then◌else◌, is_ok};
 ghost use Rattle.std.specs.Prelude.{length};
 ghost use Rattle.std.specs.declared.io.Error.{Error};
 ghost use Rattle.{std.specs.Io.Cursor.cursor_inner, recorded.specs.Names.counted, recorded.specs.Names.HasRead};

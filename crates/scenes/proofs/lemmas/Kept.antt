@@ -1,7 +1,8 @@
 -- A text that is kept while its lines are read (for `KeepingSource`, `read_judged`).
 use Rattle.std.proofs.Common.{◌≡◌, ℕ, List, [], ◌∷◌, ◌++◌, map, Ok, Err, Result, refl, sym, ap, ◌∙◌}
 use Rattle.std.proofs.Common.{subst, append_assoc, append-nil, inl, inr, arith, Bool, true, false}
-use Rattle.scene_follower.proofs.Common.{all_append, AllRead, AtLine, Fault, lines_before, line_value, no_lines, Options}
+use Rattle.scene_follower.proofs.Common.{all_append, AllRead, AtLine, Fault, lines_before}
+use Rattle.scene_follower.proofs.Common.{line_value, no_lines, Options}
 use Rattle.scene_follower.proofs.Common.{map-append, ParsedLines, RunLine, text_lines, text_read, with_line}
 use Rattle.scene_follower.proofs.lemmas.ReadLines.{split_on_joined}
 use Rattle.scene_follower.proofs.lemmas.Taken.{taken_read}
@@ -78,7 +79,11 @@ passed_kept takes file run lines rest kept text others first Left old given (Ok 
         taken,
         before,
         place,
-        (left, line_kept kept text others run value (subst (λ l. line_value (lines_before run) l ≡ Ok value) same says) k),
+        (
+          left,
+          line_kept kept text others run value
+              (subst (λ l. line_value (lines_before run) l ≡ Ok value) same says) k,
+        ),
       );
       err = tt;
     }
@@ -97,12 +102,14 @@ pub kept_spells : (kept : List ℕ) (run : ParsedLines) → AreKept kept [] run 
 kept_spells kept run (front, inl none, reads) =
     let empty = sym (append-nil front) ∙ none.1 in
     let is = subst (λ f. AllRead no_lines (map plain_line f) run) empty reads in
-    rw none.0 (all_told 1 no_lines (text_lines []) run (subst (AllRead no_lines (text_lines [])) is (none_read no_lines)))
+    rw none.0
+    (all_told 1 no_lines (text_lines []) run (subst (AllRead no_lines (text_lines [])) is (none_read no_lines)))
 kept_spells kept run (front, inr (text, same, parts), reads) =
     let lines = ap (split_on 10) same ∙ split_on_joined text []
     ∙ ap (λ ls. ls ++ split_on 10 []) (parts ∙ append-nil front) in
     all_told 1 no_lines (text_lines kept) run
-    (subst (λ ls. AllRead no_lines ls run) (sym (ap (map plain_line) lines ∙ map-append plain_line front (split_on 10 [])))
+    (subst (λ ls. AllRead no_lines ls run)
+    (sym (ap (map plain_line) lines ∙ map-append plain_line front (split_on 10 [])))
     (all_append no_lines (map plain_line front) run (text_lines []) run reads (none_read run)))
 
 -- all lines of a source were passed, so this is left of it after their run
@@ -113,7 +120,8 @@ pub all_left : {K : Type 0} (takes : Takes K) (file : List ℕ) (all : List RunL
 all_left takes file all run last lines number at given after Done done = record {
   run = last;
   spelled = ap (lines_read 1 no_lines) at.whole ∙ all_told 1 no_lines (at.front ++ lines) last
-      (all_append no_lines at.front run lines last at.tells (taken_read takes file number run last given after lines done.0));
+      (all_append no_lines at.front run lines last at.tells
+      (taken_read takes file number run last given after lines done.0));
   holds = done.1;
 }
 

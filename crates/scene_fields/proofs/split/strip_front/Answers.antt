@@ -1,4 +1,5 @@
-use Rattle.std.proofs.Common.{◌≡◌, ◌-◌, ◌<◌, ◌∙◌, get_or, get_or-take, refl, rules, subst, sym, take, take-append-drop, length, arith}
+use Rattle.std.proofs.Common.{◌≡◌, ◌-◌, ◌<◌, ◌∙◌, get_or, get_or-take, refl, rules, subst}
+use Rattle.std.proofs.Common.{sym, take, take-append-drop, length, arith}
 use Rattle.std.specs.Str.{IsCharBoundary}
 use Rattle.std.proofs.lemmas.{Bool.Decides.Decides-eqb, Slice.Eq.slice_eq-Decides, Str.IsCharBoundary-after_ascii}
 use Rattle.scene_fields.proofs.split.strip_front.Goals as goal

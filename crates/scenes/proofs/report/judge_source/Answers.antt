@@ -42,7 +42,8 @@ returns-in-None-clause-accepted g c = λ total all known.
     let h = c.in-Ok.ensures total all known in
     let passed = rw c.in-Ok-pass_to.is at (c.pass_to.ensures total h.run h.lines h.before h.left.0) in
     for_both (whole_so _ c.in-None.is judged.0)
-    (all_left {K = Judge} (λ old f. JudgesCall old) c.args.options.now.file.now all h.run passed.ok.0 h.lines c.in-Ok.reading.read.next h.at
+    (all_left {K = Judge} (λ old f. JudgesCall old) c.args.options.now.file.now all h.run passed.ok.0 h.lines
+    c.in-Ok.reading.read.next h.at
     c.new-judge.result c.pass_to.new.sink (g.L.RunSource.left total c.pass_to.new.source []) (passed.ok.1, passed.ok.2))
     (λ run good left. (good.1, left))
 

@@ -21,5 +21,6 @@ returns-clause-err g c =
       | inr begun ↦ inr (at_last g.W.Write.contents g.S.Write.contents c.args.scene.now.text
           (made.result.1, made.result.2)
           (λ last store_last run. Begins device device c.args.options.now
-          (g.W.Write.contents c.args.writer, g.S.Write.contents c.args.store_writer) (last, store_last) run fault) begun)
+          (g.W.Write.contents c.args.writer, g.S.Write.contents c.args.store_writer) (last, store_last) run fault)
+          begun)
     ]) made.ensures.err
