@@ -1,5 +1,6 @@
-"""Definitions of specs/ that a definition reaches: each with its file and line, in an order to read them in. A file is read by its columns: what begins a line at its left edge declares a name or is an equation of
-the one above, and lines below it that are indented go on with it."""
+"""Definitions of specs/ that a definition reaches: each with its file and line, in an order to read them in. A file is
+read by its columns: what begins a line at its left edge declares a name or is an equation of the one above, and lines
+below it that are indented go on with it."""
 
 import functools
 import re
