@@ -197,7 +197,7 @@ from norigully import entry
 def hit():
     os.kill(os.getpid(), signal.SIGTERM)
 def work():
-    with entry.Folder(dir={place!r}) as made:
+    with entry.folder(dir={place!r}) as made:
         for number in range(9):
             pathlib.Path(made, str(number)).touch()
         removes = os.unlink

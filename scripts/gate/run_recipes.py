@@ -142,11 +142,23 @@ def on_gitlab(typed, text):
     return ended.returncode == 0
 
 
+def on_jenkins(typed, text):
+    """Whether a pipeline of Jenkins passes: the commands of its stages up to one that fails, and all of `post`. What it
+    keeps must be there."""
+    passes = True
+    for part, is_always in zip(text.split("  post {\n"), (False, True)):
+        for block, line in re.findall(r"^ *sh (?:'''\n(.*?)'''|'(.*?)')$", part, re.M | re.S):
+            if passes or is_always:
+                passes = typed.ran(f"set -e\n{block or line}", JOB_NAME="main").returncode == 0 and passes
+    kept = re.findall(r"^ *(?:archiveArtifacts|junit) '(.*)'$", text, re.M)
+    return passes and len(kept) == 2 and all((typed.folder / it).is_file() for it in kept)
+
+
 def check_jobs(checks, room, missing):
     """The jobs of CI services fail where a test or the tool does, and leave a page in any case."""
-    jobs = re.findall(r"^```yaml\n(.*?)^```$", documents(), re.M | re.S)
-    checks.expect(len(jobs) == 2, f"the documents have {len(jobs)} jobs")
-    for text, job in zip(jobs, (on_github, on_gitlab)):
+    jobs = re.findall(r"^```(?:yaml|groovy)\n(.*?)^```$", documents(), re.M | re.S)
+    checks.expect(len(jobs) == 3, f"the documents have {len(jobs)} jobs")
+    for text, job in zip(jobs, (on_github, on_gitlab, on_jenkins)):
         for kind in (RED, GREEN, LOW):
             typed, what = Typed(room, f"{job.__name__} {kind}", kind), f"{job.__name__}, {kind}: the job"
             typed.env["NORIGULLY"] = (room.folder / "norigully.tar").as_uri()
@@ -159,7 +171,7 @@ def check_jobs(checks, room, missing):
             passes, page = job(typed, text), typed.folder / "run.html"
             checks.expect(passes == (kind == GREEN), f"{what} {'passes' if passes else 'fails'}")
             checks.expect(page.is_file() and page.stat().st_size > 9999, f"{what} has no page")
-            is_summed = job is on_gitlab or (typed.folder / "summary").is_file()
+            is_summed = job is not on_github or (typed.folder / "summary").is_file()
             checks.expect(is_summed, f"{what} has no summary")
 
 

@@ -9,11 +9,9 @@ import importlib
 import itertools
 import os
 import re
-import secrets
 import signal
 import stat
 import sys
-import tempfile
 
 from norigully import VERSION, entry, print_help_if_asked
 from norigully.entry import ERROR, INPUT, OUTPUT, WRONG, Bad, NotBuilt, NotWritten, is_same_file
@@ -183,6 +181,8 @@ def with_scene(typed, made, converter, words):
             raise Bad(f"cannot write {to}")
     if not files:
         return None
+    import tempfile
+
     say = functools.partial(entry.fault, typed, status=0)
     lines = importlib.import_module(CONVERTERS[converter]).convert(files, say)
     lines = itertools.chain(settings, lines)
@@ -262,7 +262,7 @@ def token_for(stops_commands):
     GitHub takes no line for a command, and a test may print one. None elsewhere."""
     kinds = stat.S_ISFIFO, stat.S_ISSOCK, stat.S_ISCHR
     is_log = os.environ.get("GITHUB_ACTIONS") and any(it(os.fstat(OUTPUT).st_mode) for it in kinds)
-    return secrets.token_hex(16) if is_log and stops_commands else None
+    return os.urandom(16).hex() if is_log and stops_commands else None
 
 
 def ended(child, typed, what, token):
