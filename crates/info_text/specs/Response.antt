@@ -37,7 +37,7 @@ number_padding place total = spaces (8 - (length (decimal place) + length (decim
 pub free-number_padding : (place total : ℕ) → HasNoEscape (number_padding place total)
 free-number_padding place total = spaces_free (8 - (length (decimal place) + length (decimal total) + 3))
 
--- which response of how many it is, counted from 1
+-- the number of the response, from 1, and how many there are
 unfoldable pub response_number : ℕ → ℕ → Fixed Open
 response_number place total =
     words (codes "\n* ")

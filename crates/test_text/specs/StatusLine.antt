@@ -22,7 +22,7 @@ attempt_words attempt word = codes "TRY " ++ (decimal attempt ++ (codes " " ++ w
 pub free-attempt_words : (attempt : ℕ) (word : Text) → HasNoEscape word → HasNoEscape (attempt_words attempt word)
 free-attempt_words attempt word free = free_both (decimal attempt) (codes " " ++ word) (decimal_free _) free
 
--- a success after earlier attempts: as it is shown during the run, and in the summary
+-- a flaky test: its style, and its word during the run and in the summary
 abbrev pub flaky_tone : FlakyResult → Tone
 flaky_tone flaky.Pass = Skip
 flaky_tone flaky.Fail = Fail
@@ -36,7 +36,7 @@ flaky_words Intermediate result retry = attempt_words retry.attempt (codes "PASS
 flaky_words Final result retry = flaky_label result
     ++ (decimal retry.attempt ++ (codes "/" ++ decimal retry.total_attempts))
 
--- these words hold no escape character
+-- the words of a flaky test hold no escape character
 pub free-flaky_words : (kind : StatusLineKind) (x : FlakyResult) (retry : RetryData)
     → HasNoEscape (flaky_words kind x retry)
 free-flaky_words Intermediate x retry = free-attempt_words retry.attempt (codes "PASS") refl

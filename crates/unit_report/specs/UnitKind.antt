@@ -17,6 +17,6 @@ free-unit_word mode.Benchmark kind.Test = refl
 free-unit_word mode.Test kind.Script = refl
 free-unit_word mode.Benchmark kind.Script = refl
 
--- as a part of a line
+-- the word as a part of a line
 abbrev pub unit_part : NextestRunMode → UnitKind → Fixed Open
 unit_part m x = Verbatim (unit_word m x) (free-unit_word m x)
