@@ -18,7 +18,7 @@ Prints the console report of a run that is written as text. FILE is the last wor
   --libtest         as the first word, or behind one of these: of libtest's JSON, in FILE
   --color           with colours, which is the default on a terminal, and where CARGO_TERM_COLOR is `always` or
                     CLICOLOR_FORCE or FORCE_COLOR is set; never if NO_COLOR is
-  --no-color        without colours, also on a terminal
+  --no-color        without colours, even on a terminal
   --no-stop-commands
                     where GITHUB_ACTIONS is set, does not keep GitHub from taking what a test printed for a command
   --counter         a counter on the line of each test
@@ -34,7 +34,7 @@ Prints the console report of a run that is written as text. FILE is the last wor
 Its status is 0; 2 where the words, FILE, DIR, PATH or a line are wrong; 3 where writing or memory failed; and 1 where
 the program is not beside it. With --follow, --recorded, --junit or --libtest it is that of the run: 0, 100 where it
 failed or was cancelled, 4 where no test ran, and 3 where it did not end. A page, a summary and annotations have status
-0 also where the run failed.
+0 even if the run failed.
 """
 
 import pathlib

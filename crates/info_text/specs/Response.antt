@@ -20,7 +20,7 @@ use Rattle.info_text.specs.FreeWords.{free-number_padding, free-separator}
 use Rattle.run_names.specs.declared.unit.UnitKind.TheVariants as unit
 use Rattle.unit_report.specs.declared.unit_output.header.OutputName.TheVariants as name
 
--- which response of how many it is, counted from 1
+-- the number of the response, from 1, and how many there are
 unfoldable pub response_number : ℕ → ℕ → Fixed Open
 response_number place total =
     words (codes "\n* ")

@@ -19,7 +19,7 @@ unfoldable pub status_start : InfoUnit → Fixed Open
 status_start u = toned Count (codes "status") ⧺ words (codes ": ") ⧺ Verbatim (attempt_text u.attempt)
     (free-attempt_text u.attempt)
 
--- how it begins with the word for the unit
+-- the words at the start of a line about this unit
 unfoldable pub unit_start : NextestRunMode → InfoUnit → Fixed Open
 unit_start mode u = status_start u ⧺ unit_part mode u.kind ⧺ words (codes " ")
 
@@ -36,11 +36,11 @@ running_line mode u pid taken mark =
     ⧺ number Count pid
     ⧺ Verbatim (marked_slow_end (nanos_of mark)) (free-marked_slow_end (nanos_of mark))
 
--- the words for a unit of which it is not known how it ended
+-- the words for a unit if it is not known how it ended
 unfoldable pub unknown_info : Fixed Open
 unknown_info = toned Fail (codes "failed") ⧺ words (codes " with unknown status")
 
--- how a unit ended, as far as known; the flag says that it was slow
+-- how a unit ended, if that is known; the flag says that it was slow
 abbrev pub tentative_info : Bool → Option ExecutionResultDescription → Parts false Open
 tentative_info is_slow None = plainly unknown_info
 tentative_info is_slow (Some result) = info_text is_slow result

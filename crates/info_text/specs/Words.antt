@@ -6,7 +6,7 @@ use Rattle.text_parts.specs.Names.{RetryData, ThemeCharacters}
 use Rattle.run_model.specs.Names.{Nanos}
 use Rattle.info_text.specs.Seconds.{seconds_between}
 
--- which attempt it is, if that is shown
+-- the attempt, if its number is shown
 unfoldable pub attempt_text : Option RetryData → Text
 attempt_text None = []
 attempt_text (Some r) =

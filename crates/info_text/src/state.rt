@@ -25,7 +25,7 @@ use writers::write_str::{WriteFault, WriteStr};
 pub struct InfoUnit {
     /// Whether it is a test or a setup script.
     pub kind: UnitKind,
-    /// Which attempt it is, if that is shown.
+    /// The attempt, if its number is shown.
     pub attempt: Option<RetryData>,
     /// Whether its output has errors.
     pub has_errors: bool,
@@ -348,7 +348,7 @@ impl WriteText for StatusStart<'_> {
     }
 }
 
-// Which attempt it is, if that is shown.
+// The attempt, if its number is shown.
 #[derive(Clone, Copy)]
 struct Attempt(Option<RetryData>);
 
@@ -371,7 +371,7 @@ impl WriteText for Attempt {
     }
 }
 
-// How a unit ended, as far as known.
+// How a unit ended, if that is known.
 #[derive(Clone, Copy)]
 struct TentativeInfo<'a> {
     styles: &'a Styles,

@@ -281,7 +281,7 @@ const fn keeping(
     })
 }
 
-// Every option that stands alone, and a level.
+// Every option without a value, and a level.
 const ALL: Options<'static> = Options {
     show_counter: true,
     is_replay: true,

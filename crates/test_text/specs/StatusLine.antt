@@ -15,7 +15,7 @@ use Rattle.test_text.specs.Words.{attempt_words, flaky_words}
 use Rattle.test_text.specs.FreeWords.{free-flaky_words}
 use Rattle.run_model.specs.declared.status.FlakyResult.TheVariants as flaky
 
--- a success after earlier attempts: as it is shown during the run, and in the summary
+-- a flaky test: its style, and its word during the run and in the summary
 abbrev pub flaky_tone : FlakyResult → Tone
 flaky_tone flaky.Pass = Skip
 flaky_tone flaky.Fail = Fail

@@ -19,7 +19,7 @@ attempt_failed_line test x =
     ⧺ bracketed x.time_taken.0
     ⧺ instance_end test
 
--- the output of a failed attempt is shown immediately: by the setting for failures, also if the test could not be
+-- the output of a failed attempt is shown immediately: by the setting for failures, even if the test could not be
 -- started
 unfoldable pub is_failed_output_shown : Settings → TestOutputDisplay → Bool
 is_failed_output_shown s failure = is_immediate (unwrap_or s.unit_output.overrides.force_failure_output failure)

@@ -11,7 +11,7 @@ use Rattle.text_parts.specs.FreeWords.{free-note_separator}
 abbrev pub failure_tone : RunStats → Tone
 failure_tone x = if has_failures x then Fail else Pass
 
--- how many there are, and of what
+-- a number, and a space before the word for what it counts
 unfoldable pub counted_front : ℕ → Fixed Open
 counted_front n = number Count n ⧺ words (codes " ")
 

@@ -26,7 +26,7 @@ pub record DeliversWithin (old held new pending text : List ℕ) : Type 0 where
   pub whole : text ≡ front ++ rest
   pub delivers : Delivers old held new pending front
 
--- what the device held is a prefix of what it holds
+-- the device holds what it held before, and maybe more
 pub record Holds (old new : Option (List ℕ)) : Type 0 where
   pub more : List ℕ
   pub grown : Appends old new more
