@@ -17,7 +17,7 @@ import subprocess
 import tempfile
 import threading
 
-from gate import crates, twins
+from gate import crates
 from gate.checks import Checks, module_of
 from gate.functions import OF_A_PROOF, read_above
 from norigully import crate_list, kit
@@ -87,23 +87,6 @@ TEXTS = (
     ("specs/A.antt", "a = @\n", True),
     ("proofs/f/Answers.antt", "a = @\n", False),
 )
-
-
-# Mistakes, and whether each changes a form without a twin.
-FORMS = (
-    ("file: a\nold: f(x)\nnew: f(y)\n", False),
-    ("file: a\nold: f(x)\nnew: f(&x[..0])\n", True),
-    ("file: a\nold: f(x)\nnew: f(&x[..0])\nright: f(&x[..])\n", False),
-    ("file: a\nold: f(x)\nnew: f(y)\nold: g(x)\nnew: g(!x)\n", True),
-)
-
-
-def check_forms(checks):
-    """What changes a form, and that one without a twin is wrong."""
-    for text, is_one in FORMS:
-        checks.expect(twins.changes_form(text) == is_one, f"it is not {is_one} that this changes a form: {text}")
-        found = [*twins.wrong([("one", text.encode())])]
-        checks.expect(len(found) == is_one, f"{found} is wrong with: {text}")
 
 
 def write_planted(folder, names):
@@ -287,5 +270,5 @@ def main(is_of_record):
         parts = [reopened.check_texts, reopened.check_record, reopened.check_tried_anew]
         if not is_of_record:
             parts += [failures.check_failures, failures.check_kept, failures.check_page]
-        checks.each([check_forms, *(functools.partial(made_alone, it) for it in parts)])
+        checks.each([functools.partial(made_alone, it) for it in parts])
     checks.end()

@@ -13,13 +13,14 @@ import pathlib
 import shutil
 import sys
 
+from gate.processes import TESTS
 from norigully import TOP, kept, kit
 
 # What a build or a run leaves.
 LEFT = (".git", "out", "target", "__pycache__", "my-run", "Cargo.lock")
 # What only those scripts read that name it, and those that read it by a pattern.
 RARELY_READ = ("*.md", "scripts/check-*", "crates/*/mistakes/*", "crates/*/must-fail/*", "mistakes/*")
-BY_PATTERN = {"check-docs": "*", "check-run": "scripts/check-*"}
+BY_PATTERN = {"check-docs": "*", TESTS: "*", "check-run": "scripts/check-*"}
 # The tools that scripts take where they are there.
 TOOLS = ("bash", "cargo", "cc", "chromium", "chromium-headless-shell", "google-chrome", "pdftotext", "rustc", "setpriv")
 # How many are kept.
@@ -49,7 +50,7 @@ def text_of(script):
 
 def can_read(script, path):
     path = pathlib.PurePath(path)
-    is_named = path.name in text_of(script) or script in BY_PATTERN and path.match(BY_PATTERN[script])
+    is_named = script in BY_PATTERN and path.match(BY_PATTERN[script]) or path.name in text_of(script)
     return is_named or not any(map(path.match, RARELY_READ))
 
 
@@ -62,7 +63,7 @@ class Passed:
 
     def name(self, words):
         """The name under which it is kept that a script passed."""
-        script = words.split()[0]
+        script = words if words == TESTS else words.split()[0]
         files = sorted(it for it in self.files.items() if can_read(script, it[0]))
         return f"{script}-{kept.sum_of(words, files, self.rest)}"
 

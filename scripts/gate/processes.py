@@ -5,12 +5,15 @@ import os
 import shlex
 import signal
 import subprocess
+import sys
 import threading
 import time
 from concurrent.futures import ThreadPoolExecutor
 
 from norigully import TOP, entry
 
+# The tests of tests/, which are no script of scripts/.
+TESTS = "unit tests"
 # So long a thread has to end, once what it waits for has.
 SECOND = 1.0
 # A Ctrl-C reaches all that this starts, too. It is ended from here, so that one line says so, and not one of each.
@@ -27,7 +30,8 @@ def start(command, **how):
 
 def script(words, *more, first=()):
     """Starts a script: its name with its words, as a shell reads them, and more words as they are."""
-    return start([*first, *shlex.split(f"scripts/{words}"), *map(str, more)])
+    command = [sys.executable, "-m", "tests"] if words == TESTS else shlex.split(f"scripts/{words}")
+    return start([*first, *command, *map(str, more)])
 
 
 def end(ran):
