@@ -95,7 +95,7 @@ input_line_fields = do
   running ← field (number_in 64)
   says (event_at elapsed.0 (event.InputEnter stats running))
 
--- how many tests were not seen, and those of them that are listed; where some were, or some are listed
+-- how many tests were not seen, and those that are listed, if there are any of either
 abbrev pub not_seen_fields : Line (Option NotSeen)
 not_seen_fields = do
   count ← field (number_in 64)

@@ -606,7 +606,7 @@ fn take_empty_output(fields: &mut Fields<'_>) -> Result<bool, OutOfMemory>
     Ok(true)
 }
 
-// Whether an output that holds nothing comes first.
+// Whether the next fields are those of an empty output.
 fn is_empty_output(fields: &[&str]) -> bool
     ensures { IsTrue result → field_texts fields.now ≡ empty_output_fields ++ drop 5 (field_texts fields.now) }
 {

@@ -12,7 +12,7 @@ abbrev pub indent_onward : Text → Bool → Text → Text
 indent_onward p b [] = []
 indent_onward p b (c ∷ t) = cond (c == 10) (10 ∷ indent_onward p true t) (cond b p [] ++ c ∷ indent_onward p false t)
 
--- the flag after the text
+-- whether a line begins after the text
 abbrev pub after_onward : Bool → Text → Bool
 after_onward b [] = b
 after_onward b (c ∷ t) = after_onward (c == 10) t

@@ -27,7 +27,7 @@ pub struct InfoResult<'a> {
     pub styles: &'a Styles,
     /// Whether it was slow.
     pub is_slow: bool,
-    /// Its result.
+    /// How the attempt ended.
     pub outcome: &'a ExecutionResultDescription,
 }
 
