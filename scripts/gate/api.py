@@ -13,7 +13,7 @@ REPORTER = Module("console_reporter", CRATES / "console_reporter/src/lib.rt")
 PRELUDE = Module("console_reporter::prelude", CRATES / "console_reporter/src/prelude.rt")
 WIDTH = 110
 # The items that most programs use, what each is for, and what its functions and fields take.
-MOST_USED = (
+MOST_USED: tuple[tuple[str, str, list[str]], ...] = (
     ("TextBuffer", "gathers the text of the report, and writes it to a file or a pipe", ["WriteStr"]),
     (
         "DisplayReporterBuilder",

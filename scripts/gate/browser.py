@@ -17,6 +17,14 @@ OPTIONS = (
 )
 # The seconds that a browser may take to respond.
 LIMIT = 120
+# A page waits until something holds, or for half a minute; and until its worker has no question left.
+WAITS = """
+  const tick = () => new Promise(it => setTimeout(it, 10));
+  globalThis.until = async holds => {
+    for (const end = performance.now() + 30_000; !(await holds()) && performance.now() < end;) await tick();
+  };
+  globalThis.rested = async () => { await tick(); await until(() => waiting.size === 0); };
+"""
 
 
 def found():
@@ -24,16 +32,10 @@ def found():
     return next(filter(shutil.which, NAMES), None)
 
 
-@contextlib.contextmanager
 def started():
-    """A browser, or None where there is none that starts."""
-    browser = Browser(found())
-    with contextlib.ExitStack() as stack:
-        try:
-            stack.enter_context(browser)
-        except (OSError, EOFError):
-            browser = None
-        yield browser
+    """A browser, or None where there is none. One that does not start is a fault."""
+    name = found()
+    return Browser(name) if name else contextlib.nullcontext()
 
 
 class Browser:
@@ -43,8 +45,6 @@ class Browser:
         self.name, self.number, self.held, self.events = name, 0, b"", []
 
     def __enter__(self):
-        if self.name is None:
-            raise FileNotFoundError("there is no browser")
         self.folder = tempfile.mkdtemp(prefix="norigully-")
         theirs, self.to = os.pipe()
         self.of, theirs_too = os.pipe()
@@ -63,6 +63,7 @@ class Browser:
             self.session = self.ask("Target.attachToTarget", targetId=target, flatten=True)["sessionId"]
             for domain in ("Page", "Network", "Runtime", "Log"):
                 self.ask(f"{domain}.enable")
+            self.ask("Performance.enable", timeDomain="threadTicks")
         except (OSError, EOFError):
             self.__exit__()
             raise
@@ -122,7 +123,7 @@ class Browser:
     def open(self, address):
         """Opens a page, and waits until it has read its run."""
         self.show(address, "typeof ready === 'object'")
-        self.value("ready")
+        self.value(f"ready.then(() => {{ {WAITS} }})")
 
     def value(self, script):
         """The value of a script in the page, once it is there."""
@@ -137,7 +138,12 @@ class Browser:
         for kind in ("keyDown" if text else "rawKeyDown", "keyUp"):
             of_kind = text if kind == "keyDown" else {}
             self.ask("Input.dispatchKeyEvent", type=kind, key=key, code=key, windowsVirtualKeyCode=number, **of_kind)
-        self.value("new Promise(it => setTimeout(it, 100))")
+        self.value("rested()")
+
+    def seconds(self):
+        """The processor time that the page has had."""
+        metrics = {it["name"]: it["value"] for it in self.ask("Performance.getMetrics")["metrics"]}
+        return metrics["TaskDuration"]
 
     def allow_scripts(self, are_allowed):
         """Whether pages that are opened from here on may run scripts of their own."""

@@ -19,8 +19,9 @@ ALIKE, TEXTS = 30, ("a letter", "dots", "a letter and a dot", "base64")
 # Of what takes fewer seconds than that, the clock and what does not grow are the most; a page has more of that.
 LITTLE, OF_A_PAGE = 0.05, 0.5
 COUNT, COUNT_OF_A_PAGE, TIMES = 1500, 500, 3
-# Other work on the machine makes a processor second dearer: what takes too long is measured again, so often at most.
-TRIES = 3
+# Other work on the machine makes a processor second dearer: what takes too long is measured again, so often at most,
+# and the least of both counts.
+TRIES = 9
 CONVERTERS = ("--junit", "--libtest")
 # In a suite there are at most a hundred in one another.
 DEEP = 90
@@ -139,8 +140,11 @@ def taken(word, name, program, count):
 
 def compared(most, little, *cases):
     """The times of two cases, and whether the second takes at most so many times as long as the first, or little."""
+    found = [[], []]
     for _ in range(TRIES):
-        first, second = (taken(*it) for it in cases)
+        for it, case in zip(found, cases):
+            it.append(taken(*case))
+        first, second = map(min, found)
         if holds := second <= most * max(first, little):
             break
     return first, second, holds

@@ -158,7 +158,7 @@ def known_as(crate, name):
     names = names_of(crate)
     if name in names or not names:
         return [name]
-    *_, owner, own = ["", *name.split("::")]
+    owner, own = ["", *name.split("::")][-2:]
     return [it for it in names if re.fullmatch(rf"(?:\w+::)*{re.escape(owner)}(?:\+[^:]*)?::{own}", it)]
 
 

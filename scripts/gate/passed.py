@@ -22,7 +22,10 @@ LEFT = (".git", "out", "target", "__pycache__", "my-run", "Cargo.lock")
 RARELY_READ = ("*.md", "scripts/check-*", "crates/*/mistakes/*", "crates/*/must-fail/*", "mistakes/*")
 BY_PATTERN = {"check-docs": "*", TESTS: "*", "check-run": "scripts/check-*"}
 # The tools that scripts take where they are there.
-TOOLS = ("bash", "cargo", "cc", "chromium", "chromium-headless-shell", "google-chrome", "pdftotext", "rustc", "setpriv")
+TOOLS = (
+    *("bash", "cargo", "cc", "chromium", "chromium-headless-shell", "google-chrome", "mypy", "pdftotext", "pyflakes3"),
+    *("rustc", "setpriv"),
+)
 # How many are kept.
 MOST = 99
 

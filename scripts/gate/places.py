@@ -5,6 +5,7 @@ scripts compare at least is in least.txt, by the functions that their `main` cal
 import ast
 import os
 import re
+import shutil
 import sys
 from pathlib import Path
 
@@ -16,8 +17,8 @@ UNTRIED, LEAST = TOP / "scripts/gate/untried.txt", TOP / "scripts/gate/least.txt
 COMPARES = re.compile(r"\.expect\w*$|\bchecks\.count$")
 # The kind of a line that counts all that a script compares.
 ALL = "all"
-# Of check-checks itself and of what it does: they fail where a slip is not seen.
-OWN = ("scripts/check-checks", "scripts/gate/checks.py")
+# Of check-checks and check-tests themselves and of what they do: they fail where a slip is not seen.
+OWN = ("scripts/check-checks", "scripts/check-tests", "scripts/gate/checks.py")
 
 
 def note_failure():
@@ -109,10 +110,11 @@ def failed(noted, found):
 
 
 def untried():
-    """The places that are not tried, each with the reason: lines of a script, a function, numbers, and why."""
+    """The places that are not tried, each with the reason: lines of a script, a function, numbers, the command without
+    which they are not, and why."""
     found = {}
     for line in UNTRIED.read_text().splitlines():
         where, _, why = line.partition(": ")
-        script, owner, *numbers = where.split()
-        found.update({f"{script} {owner} {it}": why for it in numbers})
+        script, owner, *numbers, _, command = where.split()
+        found.update({} if shutil.which(command) else {f"{script} {owner} {it}": why for it in numbers})
     return found

@@ -18,9 +18,11 @@ CONTROL = re.compile("[\x00-\x1f\x7f-\x9f\u2028\u2029]")
 GRACE = 10.0
 TICK = 0.02
 # The signals that came, and the standard descriptors that were closed.
-CAME, CLOSED = [], []
+CAME: list[int] = []
+CLOSED: list[int] = []
 # Those that end a script, and an entry for each part of it under way that none cuts.
-ENDING, UNCUT = (signal.SIGINT, signal.SIGTERM, signal.SIGHUP, signal.SIGQUIT), []
+ENDING = (signal.SIGINT, signal.SIGTERM, signal.SIGHUP, signal.SIGQUIT)
+UNCUT: list[int] = []
 
 
 class Bad(Exception):

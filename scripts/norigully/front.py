@@ -25,7 +25,7 @@ PAGE, SUMMARY, ANNOTATIONS = "--page", "--summary", "--annotations"
 CONVERTERS = {"--junit": "norigully.junit", "--libtest": "norigully.libtest_json"}
 # Lines by which cargo and libtest are known.
 LIBTEST = re.compile(rb'^\{\s*("type"\s*:\s*"suite"|"reason"\s*:\s*"compiler-)', re.M)
-CARGO = re.compile(rb"^( +(Compiling|Finished|Running) .*[\])]|running \d+ tests?)\r?$", re.M)
+CARGO = re.compile(rb"^( *(Compiling|Finished|Running) .*[\])]|running \d+ tests?)\r?$", re.M)
 # The word that leaves the lines out by which GitHub takes no command.
 UNSTOPPED = "--no-stop-commands"
 # The statuses of a program that printed a whole report.

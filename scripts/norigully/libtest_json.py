@@ -15,7 +15,7 @@ DIED = "process didn't exit successfully: "
 ACCUSED = re.compile(r"error: (?:doc)?test failed, to rerun pass ")
 ENDED_BY = re.compile(r" \((?:signal: (\d{1,9})|exit status: (\d{1,9}))\b", re.A)
 OWN = re.compile(r'\{\s*"type"\s*:\s*"(?:suite|test)"')
-DECODE = json.JSONDecoder().scan_once
+DECODE = json.JSONDecoder().scan_once  # type: ignore[attr-defined]  # not documented: it says where a value ends
 ENDS = ("ok", "failed", "ignored", "timeout")
 # libtest warns of a test after this time.
 SLOW_AFTER = 60

@@ -43,7 +43,8 @@ def settings_of(words):
     """The lines of `config` that the words ask for, and the words without those."""
     lines, rest, at = [], [], 0
     while at < len(words) and words[at].startswith("-") and words[at] != "-":
-        word, key, values = words[at], *SETTINGS.get(words[at], (None, None))
+        word = words[at]
+        key, values = SETTINGS.get(word, (None, None))
         value = "1" if values is None else (words[at + 1 :] or [None])[0]
         size = 2 if values or (word in (*WITH_VALUE, "-o", "--title", "--choices")) else 1
         if key is None:
@@ -89,7 +90,7 @@ def options_of(program, words):
         if is_last and not (program == "follow" and (is_option(options, word) or word in OF_RUN)):
             options.file, at = word, at + 1
         elif word in ("--level", "--store"):
-            if at + 1 == len(words) or word in options.given or (word == "--level" and words[at + 1] not in LEVELS):
+            if word in options.given or (word == "--level" and words[at + 1] not in LEVELS):
                 return None
             options.store_at = len(options.given) + 1 if word == "--store" else options.store_at
             options.given += words[at : at + 2]
