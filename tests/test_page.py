@@ -367,7 +367,8 @@ class Made(unittest.TestCase):
         facts["Took"] = "5.0 s"
         facts = "".join(f"<div><dt>{name}</dt> <dd>{value}</dd></div>" for name, value in facts.items())
         self.assertIn(f">{facts}</", found)
-        self.assertIn("<pre>\nlevel pass\na p never immediate\na f never immediate\na g never immediate\n</pre>", found)
+        text = "level pass\na p never immediate\na f never immediate\na g never immediate\n"
+        self.assertIn(f'<pre id="text">\n{text}</pre>', found)
         for name in ("about", "reports", "table"):
             self.assertRegex(found, f'\n?<script type="text/plain" id="{name}">[A-Za-z0-9+/]+=*</script>\n+<')
 

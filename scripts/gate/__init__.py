@@ -2,4 +2,4 @@
 imports from here."""
 
 # It says first which Python is needed.
-import norigully  # noqa: F401
+__import__("norigully")
