@@ -93,11 +93,17 @@ def status_of(command, kind):
 
 def check_block(checks, room, number, commands, missing):
     """The commands of a block, one after another: first that of the tool, and then those that read what it wrote."""
+    # The file of an earlier run is removed first.
+    removes = commands.pop(0) if commands[0].startswith("rm ") else None
     tool = tool_of(commands[0])
     checks.expect(tool in TOOLS, f"no command is known that begins as {commands[0]}")
     for kind in (RED, GREEN) if tool in TOOLS else ():
         typed = Typed(room, f"block {number} {kind}", kind)
         typed.put_tests(tool)
+        if removes:
+            typed.put_file(commands[1])
+            left = [typed.ran(removes), *typed.folder.rglob("*.xml")]
+            checks.expect(left[0].returncode == 0 and not left[1:], f"{removes}: {left}")
         is_here = typed.ran(TOOLS[tool][0]).returncode == 0
         if not is_here:
             missing.add(tool)
@@ -184,6 +190,8 @@ def check_recipes(checks, room):
         checks.expect(made.returncode == 0, f"./build {words}: {made}")
     blocks = [it for it in blocks_of(documents()) if "[" not in it[0]]
     checks.expect(len(blocks) > 5, f"the documents have {len(blocks)} blocks of commands")
+    removing = [it for it in blocks if it[0].startswith("rm ") or "> run." in it[0] or "|" in it[0]]
+    checks.expect(removing == blocks, "a block of commands leaves the file of an earlier run")
     for number, commands in enumerate(blocks):
         check_block(checks, room, number, commands, missing)
     if shutil.which("curl"):
