@@ -15,15 +15,18 @@ TOOLS = {
     "pytest": ("pytest --version", "pytest"),
     "gotestsum": ("gotestsum --version && go version", "gotestsum"),
     "ctest": ("ctest --version", "ctest"),
-    # It fetches its plugins.
-    "mvn test": ("false", None),
+    # Debian's has its plugins in a folder; another one would fetch them.
+    "mvn test": ("mvn --version && ls /usr/share/maven-repo/org/apache/maven/plugins/maven-surefire-plugin/2.22.3", "mvn"),
     "cargo nextest": ("cargo nextest --version", None),
     "cargo test": ("cargo --version", None),
     "scripts/run-tests": ("cargo --version", None),
 }
 LICENCES = ("LICENSE-APACHE", "LICENSE-MIT", "NOTICE")
 # What else is done before a command.
-BEFORE = {"ctest": "cmake -DRUN_{}=1 ."}
+BEFORE = {
+    "ctest": "cmake -DRUN_{}=1 .",
+    "mvn test": "mkdir -p src/test/java && mv {}/*.java src/test/java && rm -r red green",
+}
 RED, GREEN = "red", "green"
 # What is in the place of the file of a tool that is not here.
 GREEN_TEXT = {
@@ -74,11 +77,12 @@ class Typed:
             (folder / "src/lib.rs").write_text(RUST[self.kind])
 
     def put_file(self, command):
-        """The file that a tool would have written, which is not here, by the command that reads it."""
+        """Makes the file that a tool would have written, by the command that reads it, and returns where that is."""
         file = self.folder / command.split()[-1].replace("*", "a")
         file.parent.mkdir(parents=True, exist_ok=True)
         text = (REAL / f"nextest{file.suffix}" if file.suffix == ".xml" else REAL / "libtest.json").read_text()
         file.write_text(text if self.kind == RED else GREEN_TEXT[file.suffix])
+        return file
 
     def ran(self, command, **more):
         words = ["bash", "-o", "pipefail", "-c", command]
@@ -101,9 +105,8 @@ def check_block(checks, room, number, commands, missing):
         typed = Typed(room, f"block {number} {kind}", kind)
         typed.put_tests(tool)
         if removes:
-            typed.put_file(commands[1])
-            left = [typed.ran(removes), *typed.folder.rglob("*.xml")]
-            checks.expect(left[0].returncode == 0 and not left[1:], f"{removes}: {left}")
+            left, ended = typed.put_file(commands[1]), typed.ran(removes)
+            checks.expect(ended.returncode == 0 and not left.exists(), f"{removes}: {ended}")
         is_here = typed.ran(TOOLS[tool][0]).returncode == 0
         if not is_here:
             missing.add(tool)
