@@ -27,7 +27,8 @@ SUITES, RED = ("testsuite", "testsuites"), ("failure", "error")
 ATTEMPTS = ("rerunFailure", "rerunError", "flakyFailure", "flakyError")
 ANOTHER = re.compile(rb"(?=<\?xml\s)|(?<=</testsuites>)\s*(?=<)|(?<=</testsuite>)\s*(?=<testsuites)")
 # How cargo, and the text of an older rustdoc, say that something failed.
-CARGO = re.compile(r"error: (?:(?:doc)?test|bench) failed, to rerun |\s*process didn.t exit successfully: |test result: FAILED")
+CARGO = r"error: (?:(?:doc)?test|bench) failed, to rerun |\s*process didn.t exit successfully: |test result: FAILED"
+CARGO = re.compile(CARGO)
 # What is left out, and said, may have been a failure.
 SAYS_SO = re.compile(r"'(?:failure|error|test\w+|\w+Failure|\w+Error)'")
 NEXT = re.compile(r"\s+(Running .*\)|Doc-tests \S+)$")
@@ -72,9 +73,9 @@ def number(value):
 
 def claim(suite, excused):
     """How many failures a suite counts, but for those that its tool fails no run for."""
-    around = [suite, *suite.iterancestors()]
-    errors = 0 if any(it.xpath(OF_QTEST) for it in [*around, *suite.iter(*SUITES)]) else number(suite.get("errors"))
-    if any(it.get("name") == "cpplint" for it in [*around, *suite.iter(*SUITES)]) and suite.find(".//failure") is not None:
+    suites = [suite, *suite.iterancestors(), *suite.iter(*SUITES)]
+    errors = 0 if any(it.xpath(OF_QTEST) for it in suites) else number(suite.get("errors"))
+    if any(it.get("name") == "cpplint" for it in suites) and suite.find(".//failure") is not None:
         return 0
     return number(suite.get("failures")) + errors - len(excused)
 
@@ -99,8 +100,8 @@ def verdict_of_xml(text):
 
 
 def verdict_of_json(text):
-    """The tests that each suite has, or that end in it if these are more: some may have begun beside them. And whether an event, or cargo, says that
-    something failed. What is said within a suite that ends was printed by a test."""
+    """The tests that each suite has, or that end in it if these are more: some may have begun beside them. And whether
+    an event, or cargo, says that something failed. What is said within a suite that ends was printed by a test."""
     counts, is_red, is_within, is_said = [[0, 0, 0]], False, False, False
     for line in text.decode("utf-8", "replace").splitlines():
         event = {}
@@ -126,7 +127,8 @@ def verdict_of_json(text):
 def ours(text, is_xml):
     said = []
     try:
-        made = junit.scene_of([("run", text)], said.append) if is_xml else libtest_json.scene_of(text.splitlines(True), "run")
+        lines = text.splitlines(True)
+        made = junit.scene_of([("run", text)], said.append) if is_xml else libtest_json.scene_of(lines, "run")
         lines = b"".join(made).decode("utf-8", "replace").split("\n")
     except Bad as error:
         return Ours(0, 2, str(error), "")
@@ -158,10 +160,10 @@ VALUES = ["", "0", "1", "2", "7", "-1", "1.0", " 1 ", "1,234", "many", "99999999
 VALUES += ["PASS", "run", "notrun", "skipped", "error", "todo", "WARN", "cpplint", "nose2-junit", "TodoTestSucceeded"]
 VALUES += ["undefined", "test failure with exit code 0", "test abort", "execution failure", "SKIP_X", "x\ny"]
 CARGO_SAYS = (
-    *(b"error: test failed, to rerun pass `--lib`\n", b"error: doctest failed, to rerun pass `--doc`\n", b"warning: x\n"),
-    *(b"     Running unittests src/lib.rs (target/debug/deps/d-0123456789abcdef)\n", b"   Doc-tests d\n", b"Caused by:\n"),
+    *(b"error: test failed, to rerun pass `--lib`\n", b"error: doctest failed, to rerun pass `--doc`\n", b"\n"),
+    *(b"     Running unittests src/lib.rs (target/debug/deps/d-0123456789abcdef)\n", b"   Doc-tests d\n"),
     *(b"  process didn't exit successfully: `/t/x` (exit status: 1)\n", b"test result: FAILED. 0 passed; 1 failed;\n"),
-    *(b'{"reason":"build-finished","success":false}\n', b'{"reason":"build-finished","success":true}\n', b"\n"),
+    *(b'{"reason":"build-finished","success":false}\n', b'{"reason":"build-finished","success":true}\n'),
 )
 
 
@@ -226,8 +228,9 @@ def lost(text, marks):
     """The first failure whose text is in no line, and that is not said to be left out; None where a test is skipped, of
     which no text is shown."""
     found = ours(text, True)
-    for mark, names in marks.items() if found.status != 2 and "\nskip\t" not in found.lines else ():
-        if mark not in found.lines and not any(f"'{it}'" in found.said for it in names) and "more names" not in found.said:
+    is_shown = found.status != 2 and "\nskip\t" not in found.lines and "more names" not in found.said
+    for mark, names in marks.items() if is_shown else ():
+        if mark not in found.lines and not any(f"'{it}'" in found.said for it in names):
             return f"the text of {' in '.join(map(str, names))} is in no line"
     return None
 

@@ -10,13 +10,14 @@ from gate.run_checks import PATIENCE, ran
 from norigully import TOP
 
 TESTS, REAL = CASES / "real/tools", CASES / "real"
+PLUGINS = "/usr/share/maven-repo/org/apache/maven/plugins"
 # The tools of these commands: what runs only where the tool is, and the tests there, or None for those of Cargo.
 TOOLS = {
     "pytest": ("pytest --version", "pytest"),
     "gotestsum": ("gotestsum --version && go version", "gotestsum"),
     "ctest": ("ctest --version", "ctest"),
     # Debian's has its plugins in a folder; another one would fetch them.
-    "mvn test": ("mvn --version && ls /usr/share/maven-repo/org/apache/maven/plugins/maven-surefire-plugin/2.22.3", "mvn"),
+    "mvn test": (f"mvn --version && ls {PLUGINS}/maven-surefire-plugin/2.22.3", "mvn"),
     "cargo nextest": ("cargo nextest --version", None),
     "cargo test": ("cargo --version", None),
     "scripts/run-tests": ("cargo --version", None),
@@ -91,8 +92,9 @@ class Typed:
 
 def status_of(command, kind):
     """What the pages say of the status of a command: that of its run, but for pages and summaries."""
-    is_report = re.search(r"(?:norigully|\./run) --(?:junit|libtest|follow)", command)
-    return 100 if is_report and kind == RED else 0
+    rows = ("xargs", 123), ("do go test", 1), (r"(?:norigully|\./run) --(?:junit|libtest|follow)|^scripts/run-tests", 100)
+    found = [status for part, status in rows if re.search(part, command)]
+    return found[0] if found and kind == RED else 0
 
 
 def check_block(checks, room, number, commands, missing):

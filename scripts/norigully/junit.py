@@ -59,8 +59,8 @@ NOT_RUN = {
     *("untested", "filtered", "excluded", "inconclusive"),
 }
 GOOD = NOT_RUN | {
-    *("", "run", "pass", "passed", "ok", "success", "successful", "succeeded", "complete", "completed", "done", "fixed"),
-    *("finished", "executed", "true", "xfail", "xfailed", "expected", "flaky", "focused", "warning", "warned", "0"),
+    *("", "run", "pass", "passed", "ok", "success", "successful", "succeeded", "complete", "completed", "done"),
+    *("fixed", "finished", "executed", "true", "xfail", "xfailed", "expected", "flaky", "focused", "warning", "warned", "0"),
     *("bpass", "bfail", "bxpass", "bxfail"),
 }
 STATES, PARTED = ("status", "result"), re.compile(r"[\s_-]+")
@@ -178,8 +178,8 @@ class Tree:
 
     def read_property(self, attributes):
         # What Qt 6 writes is as that of others.
-        is_of_suite = self.within[-2] in INSIDE[None]
-        if is_of_suite and attributes.get("name") == "QTestVersion" and attributes.get("value", "").startswith(("4.", "5.")):
+        version = attributes.get("value", "") if attributes.get("name") == "QTestVersion" else ""
+        if self.within[-2] in INSIDE[None] and version.startswith(("4.", "5.")):
             self.suites[-1].tool = QTEST
 
     def end(self, _tag):

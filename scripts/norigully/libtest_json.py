@@ -28,7 +28,7 @@ class Reader:
         self.binary_ids, self.suites, self.run, self.slow = {}, 0, WholeRun(), set()
         self.binary, self.total, self.began = "unknown", 0, {}
         self.nanos, self.ignored, self.is_of_go = 0, 0, False
-        # Whether a suite is under way, whether a test of it has failed, whether its binary is said to have, and how that
+        # Whether a suite is under way, whether a test of it has failed, whether its binary is said to have, and how it
         # ended.
         self.is_within, self.has_failed, self.accused, self.ended = False, False, False, None
         # The tests that the suites have, and those under way without the ones that ended.
