@@ -28,7 +28,11 @@ OF_RUN = ("--no-color", "--no-stop-commands")
 FIRST, ONLY = "the first word where it is used", "used alone"
 ALONE = {**dict.fromkeys(("--help", "-h", "--version", "-V"), ONLY)}
 ALONE |= dict.fromkeys(
-    ("--follow", "--recorded", "--page", "--summary", "--annotations", "--junit", "--libtest"), FIRST
+    (
+        *("--follow", "--recorded", "--page", "--summary", "--annotations", "--failed", "--to-junit"),
+        *("--junit", "--libtest"),
+    ),
+    FIRST,
 )
 # The files in the folder of a recorded run.
 FILES_OF_RUN = ("run.scene", "outputs")
