@@ -18,8 +18,8 @@ from pathlib import Path
 sys.dont_write_bytecode = True
 TOP = Path(__file__).resolve().parent.parent.parent
 sys.path[:0] = [str(TOP), str(TOP / "scripts")]
-import junitparser  # noqa: E402
-from lxml import etree  # noqa: E402
+import junitparser  # type: ignore[import]  # noqa: E402
+from lxml import etree  # type: ignore[import]  # noqa: E402
 from norigully import junit, libtest_json  # noqa: E402
 from norigully.entry import Bad  # noqa: E402
 
@@ -27,8 +27,9 @@ SUITES, RED = ("testsuite", "testsuites"), ("failure", "error")
 ATTEMPTS = ("rerunFailure", "rerunError", "flakyFailure", "flakyError")
 ANOTHER = re.compile(rb"(?=<\?xml\s)|(?<=</testsuites>)\s*(?=<)|(?<=</testsuite>)\s*(?=<testsuites)")
 # How cargo, and the text of an older rustdoc, say that something failed.
-CARGO = r"error: (?:(?:doc)?test|bench) failed, to rerun |\s*process didn.t exit successfully: |test result: FAILED"
-CARGO = re.compile(CARGO)
+CARGO = re.compile(
+    r"error: (?:(?:doc)?test|bench) failed, to rerun |\s*process didn.t exit successfully: |test result: FAILED"
+)
 # What is left out, and said, may have been a failure.
 SAYS_SO = re.compile(r"'(?:failure|error|test\w+|\w+Failure|\w+Error)'")
 NEXT = re.compile(r"\s+(Running .*\)|Doc-tests \S+)$")

@@ -8,7 +8,7 @@ import tempfile
 from pathlib import Path
 
 from norigully import TOP
-from tests import test_junit, test_libtest_json
+from tests import test_junit, test_libtest_json  # type: ignore[import]
 
 # So many mutants, two of three of XML, in so many parts.
 MUTANTS, PARTS = 30_000, 8
