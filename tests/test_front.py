@@ -268,7 +268,7 @@ class Calls(InFolder):
             mock.patch("norigully.front.become", lambda typed, words, find: calls.append(("become", words))),
             mock.patch("norigully.front.make_page", lambda words, find: calls.append(("page", words))),
             mock.patch("norigully.front.write_beside", lambda made, words: calls.append((made, words))),
-            mock.patch("norigully.front.with_scene", lambda typed, made, option, words: has_files and [option, *words]),
+            mock.patch("norigully.front.with_scene", lambda typed, made, option, words: has_files and [f"of{option}", *words]),
             mock.patch("norigully.entry.write", lambda text: calls.append(text)),
         ):
             front.do("./run", words.split(), lambda: "kit\n", None)
@@ -282,16 +282,16 @@ class Calls(InFolder):
             ("--follow --store f", "become --follow --store f"),
             ("--recorded d", "become --recorded d"),
             ("--follow --follow", "become --follow --follow"),
-            ("--junit f", "become --follow --junit f"),
-            ("--libtest f", "become --follow --libtest f"),
-            ("--follow --junit f", "become --follow --junit f"),
-            ("--junit --follow f", "become --follow --junit f"),
-            ("--junit --counter --follow f", "become --follow --junit --counter --follow f"),
+            ("--junit f", "become --follow of--junit f"),
+            ("--libtest f", "become --follow of--libtest f"),
+            ("--follow --junit f", "become --follow of--junit f"),
+            ("--junit --follow f", "become --follow of--junit f"),
+            ("--junit --counter --follow f", "become --follow of--junit --counter --follow f"),
             ("--page f", "page f"),
-            ("--page --junit f", "page --junit f"),
-            ("--page --junit --follow f", "page --junit --follow f"),
+            ("--page --junit f", "page of--junit f"),
+            ("--page --junit --follow f", "page of--junit --follow f"),
             ("--summary f", "--summary f"),
-            ("--summary --libtest f", "--summary --libtest f"),
+            ("--summary --libtest f", "--summary of--libtest f"),
             ("--annotations --follow --junit f", "--annotations --follow --junit f"),
         ):
             with self.subTest(words=words):
