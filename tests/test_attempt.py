@@ -100,7 +100,8 @@ class Times(unittest.TestCase):
     def test_slow(self):
         """It is slow once more after each period, and ended at the timeout, by a signal that it may take."""
         made, calls = process(
-            "trap 'sleep 0.3; exit 3' TERM; while :; do sleep 0.01; done", Ticks(), slow=20, timeout=50, grace_period=10**9
+            *("trap 'sleep 0.3; exit 3' TERM; while :; do sleep 0.01; done", Ticks()),
+            **{"slow": 20, "timeout": 50, "grace_period": 10**9},
         )
         self.assertEqual([(taken // 10, is_late) for taken, is_late in calls], [(2, False), (4, False), (5, True)])
         self.assertEqual((made.result(), made.child.returncode), ("tmout", 3))

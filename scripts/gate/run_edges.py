@@ -320,29 +320,15 @@ def check_stopped_commands(checks, room):
     hostile.write_bytes(text.replace(b"\tnever\tnever\t", b"\timmediate\timmediate\t"))
     plain, github = ran([room.programs["report"], hostile]).stdout, {**room.without_kit, "GITHUB_ACTIONS": "true"}
     checks.expect(plain.count(b"::add-mask") > 1, "that is hostile")
-    tokens = set()
     for words, status in ([], 0), (["--follow"], 100):
         result = ran([run, *words, hostile], env=github)
         found = re.fullmatch(STOPPED, result.stdout, re.S)
-        holds = result.returncode == status and found and found[2] == plain
-        checks.expect(holds, f"{words} on GitHub: {result}")
-        tokens.add(found and found[1])
-        result = ran([run, *words, "--no-stop-commands", hostile], env=github)
-        checks.expect_run(f"{words} --no-stop-commands on GitHub", result, status, plain)
-        with open(room.folder / "kept", "wb") as kept:
-            ran([run, *words, hostile], env=github, stdout=kept)
-        checks.expect((room.folder / "kept").read_bytes() == plain, f"{words} into a file on GitHub")
-    checks.expect(len(tokens) == 2, "the same token twice")
+        checks.expect(result.returncode == status and found and found[2] == plain, f"{words} on GitHub: {result}")
+    result = ran([run, "--no-stop-commands", hostile], env=github)
+    checks.expect_run("--no-stop-commands on GitHub", result, 0, plain)
     plain = ran([run, "--summary", hostile], env=room.without_kit).stdout
     found = re.fullmatch(STOPPED, ran([run, "--summary", hostile], env=github).stdout, re.S)
     checks.expect(found and found[2] == plain and b"    ::add-mask" in plain, "a summary on GitHub")
-    result = ran([run, "--summary", "--no-stop-commands", hostile], env=github)
-    checks.expect_run("a summary with commands on GitHub", result, 0, plain)
-    with open(room.folder / "kept", "wb") as kept:
-        ran([run, "--summary", hostile], env=github, stdout=kept)
-    checks.expect((room.folder / "kept").read_bytes() == plain, "a summary into a file on GitHub")
-    result = ran([run, "--annotations", hostile], env=github)
-    checks.expect(result.stdout.startswith(b"::error "), f"annotations on GitHub: {result}")
     cut = ran([run, "--follow"], env=github, stdin=None, input=SCENE[:200])
     closed = re.search(rb"\n::[0-9a-f]{32}::\n$", cut.stdout)
     checks.expect(cut.returncode in (2, 3) and closed, f"a run that is cut off, on GitHub: {cut}")

@@ -162,7 +162,7 @@ RECORDED = "scripts/norigully/recorded.py"
 # report of the next one is wanted.
 RECORDS_OTHERWISE = (
     *FEWER,
-    line("scripts/check-follow", "\nPATIENCE = 20", "\nPATIENCE = 1"),
+    line("scripts/check-follow", "\nPATIENCE = 120", "\nPATIENCE = 1"),
     line("scripts/check-replay", "[*io.BytesIO(scene)][:number]", "[*io.BytesIO(scene)][: number + 1]"),
     line(SCENE, "x([0-9a-fA-F]{2})", "x([0-9a-f]{2})"),
     line(RECORDED, 'rb"\\\\@0*([0-9]', 'rb"\\\\@([0-9]'),
