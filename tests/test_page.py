@@ -330,7 +330,7 @@ class Made(unittest.TestCase):
         self.program.chmod(0o755)
 
     def made(self, *words):
-        page.main([*words, "-o", f"{self.folder}/page", str(self.scene)], lambda name: str(self.program))
+        page.main([*words, "-o", f"{self.folder}/page", str(self.scene)], lambda: str(self.program))
         return (self.folder / "page").read_bytes()
 
     def test_reports(self):
@@ -395,16 +395,16 @@ class Made(unittest.TestCase):
         (folder / "run.scene").write_bytes(b"run\tid\tci\t1\t1\t-\n" + DONE + b"done\tcut")
         words = ["-o", f"{self.folder}/page", "--recorded", str(folder)]
         with self.assertRaisesRegex(Bad, f"^cannot read {folder}$"):
-            page.main(words, lambda name: str(self.program))
+            page.main(words, lambda: str(self.program))
         (folder / "outputs").touch()
         for status in (0, 3, 4, 100):
-            self.write(f'#!/bin/sh\necho "$3" "$(wc -l < "$4/run.scene")" "$(cat "$4/outputs")"\nexit {status}\n')
-            page.main(words, lambda name: str(self.program) if name == "replay" else "no")
+            self.write(f'#!/bin/sh\necho "$4" "$(wc -l < "$5/run.scene")" "$(cat "$5/outputs")" "$1"\nexit {status}\n')
+            page.main(words, lambda: str(self.program))
             found = (self.folder / "page").read_text()
-            self.assertTrue("pass 2 \n" in found and "<dd>ci</dd>" in found)
+            self.assertTrue("pass 2  --recorded\n" in found and "<dd>ci</dd>" in found)
         self.write("#!/bin/sh\nexit 1\n")
         with self.assertRaisesRegex(Bad, "^replay ended with status 1$"):
-            page.main(words, lambda name: str(self.program))
+            page.main(words, lambda: str(self.program))
 
     def test_output(self):
         reads, writes = os.pipe()

@@ -18,7 +18,7 @@ from norigully.programs import note_sources, program, sum_of_sources
 
 CRATES = TOP / "crates"
 CASES = TOP / "cases"
-REPORT, FOLLOW, REPLAY = program("report"), program("follow"), program("replay")
+REPORT, NORIGULLY = program("report"), program("norigully")
 
 
 def need_program(program, makes="./build makes it"):

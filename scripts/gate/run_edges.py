@@ -37,7 +37,7 @@ def check_unblocked(checks, room, run, many, report):
         comm, until = pathlib.Path("/proc", str(child.pid), "comm"), time.monotonic() + PATIENCE
         # The program has begun, and has no byte to read, or no room to write.
         while child.poll() is None and time.monotonic() < until:
-            if comm.read_text() == f"{name}\n" and not has_room(name, reads):
+            if comm.read_text() == "norigully\n" and not has_room(name, reads):
                 break
             time.sleep(0.1)
         time.sleep(0.5)
@@ -290,9 +290,9 @@ def check_hints(checks, room, run):
 def check_kept(checks, room):
     """A checkout that cannot be written is told before the proofs; where that is so after them, they are kept."""
     copy, environment = room.sources("not to be written"), room.with_stand_in("for that", f"stand-in logic {kit.LOGIC}")
-    out, how = copy / "crates/replay/out", {"env": environment}
+    out, how = copy / "crates/norigully/out", {"env": environment}
     out.write_text("in the way\n")
-    said = f"build: cannot write {out}/replay: File exists\n".encode()
+    said = f"build: cannot write {out}/norigully: File exists\n".encode()
     checks.expect_line("./build in such a checkout", ran([copy / "build"], **how), 1, said)
     out.unlink()
     tool = pathlib.Path(environment["PATH"], "rt")

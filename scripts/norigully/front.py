@@ -17,8 +17,8 @@ from norigully import VERSION, entry, print_help_if_asked
 from norigully.entry import ERROR, INPUT, OUTPUT, WRONG, Bad, NotBuilt, NotWritten, is_same_file
 from norigully.words import options_of, settings_of, usage, why_wrong
 
-# The first words that name another program than `report`.
-PROGRAMS = {"--follow": "follow", "--recorded": "replay"}
+# What the program does by its first word: with none of these it reports a file.
+MODES = {"--follow": "follow", "--recorded": "replay"}
 # The first words that make something else of a run than its report, and those of files of other tools, of which a
 # scene is made.
 PAGE, SUMMARY, FAILED = "--page", "--summary", "--failed"
@@ -246,15 +246,15 @@ def do(typed, words, kit_line, find):
 
 def become(typed, words, find):
     """Becomes the program that the words name, unless they are wrong."""
-    name = PROGRAMS.get(words[0] if words else None, "report")
-    words = words[name != "report" :]
+    name = MODES.get(words[0] if words else None, "report")
+    first, words = words[: name != "report"], words[name != "report" :]
     options = options_of(name, words)
     file = (options.file or "") if options else ""
     is_file = options and (not file.startswith("-") or file == "-" or os.path.lexists(file))
     if not is_file and (why := why_wrong(name, words) or (None if options else usage(name))):
         fault(typed, f"{why} ({typed} --help)", WRONG)
     check_files(name, options)
-    words, program = words_for(name, options), find(name)
+    words, program = [*first, *words_for(name, options)], find()
     if follows_pipe(name, options):
         # Ctrl-C is for the producer, and so is Ctrl-\: it then writes how its run ends, and that is reported.
         signal.signal(signal.SIGINT, signal.SIG_IGN)
@@ -267,7 +267,7 @@ def become(typed, words, find):
     if (looks or token) and (child := os.fork()):
         sys.exit(ended(child, typed, looks, token))
     try:
-        os.execv(program, [name, *words])
+        os.execv(program, ["norigully", *words])
     except OSError as error:
         raise NotBuilt(f"cannot run {os.path.realpath(program)}: {error.strerror}") from error
 

@@ -61,17 +61,14 @@ MODULES = (
     *("scene_lines.py", "junit.py", "held_lines.py", "xml_characters.py", "libtest_json.py", "cargo.py"),
     *("ci_summary.py", "failed_tests.py", "to_junit.py", "recorded.py"),
 )
+# What the program is called beside it.
+PROGRAM = "norigully-program"
 HERE = pathlib.Path(__file__).parent
 MAIN = "from norigully.installed import main\n\nmain()\n"
 
 
-def beside(name):
-    """What a program is called beside it."""
-    return f"norigully-{name}"
-
-
 def write(target):
-    """Writes the `norigully` that ./build installs: one file, which runs the programs that are beside it. The same
+    """Writes the `norigully` that ./build installs: one file, which runs the program that is beside it. The same
     sources give the same bytes, whatever Python and file system they are on."""
     from norigully import page
 
@@ -86,10 +83,10 @@ def write(target):
     target.chmod(0o755)
 
 
-def program_of(name):
-    """Where a program is."""
-    return pathlib.Path(sys.argv[0]).resolve().parent / beside(name)
+def program():
+    """Where the program is."""
+    return pathlib.Path(sys.argv[0]).resolve().parent / PROGRAM
 
 
 def main():
-    start("norigully", own_doc(__name__), str, program_of)
+    start("norigully", own_doc(__name__), str, program)

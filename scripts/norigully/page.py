@@ -81,7 +81,8 @@ class Run:
 
     def __init__(self, asked, folder, find):
         self.name = "replay" if asked.is_recorded else "report"
-        self.asked, self.program, self.folder = asked, find(self.name), folder
+        self.asked, self.folder = asked, folder
+        self.program = [find(), *["--recorded"][: asked.is_recorded]]
         self.words = folder / "changed"
         self.lines = folder / "lines"
         self.changed = self.words / FILES_OF_RUN[0] if asked.is_recorded else self.words
@@ -116,7 +117,7 @@ class Run:
 
     def begin(self, level, stack):
         """Begins a report, which ends with the stack."""
-        words = [self.program, "--color", "--level", level, str(self.words)]
+        words = [*self.program, "--color", "--level", level, str(self.words)]
         printed, said = (stack.enter_context(tempfile.TemporaryFile(dir=self.folder)) for _ in range(2))
         how = {"stdin": subprocess.DEVNULL, "stdout": printed, "stderr": said}
         return stack.enter_context(entry.started(words, **how)), printed, said

@@ -15,7 +15,7 @@ import pathlib
 from norigully import TOP, entry, kept, kit
 from norigully.crate_list import lines_of, sources_of, with_those_below
 
-PROGRAMS = ("report", "follow", "replay")
+PROGRAMS = ("report", "norigully")
 # How many are kept for other checkouts, those last used.
 MOST = 9
 

@@ -5,7 +5,7 @@ use Rattle.report_words.specs.Names.{drawn_given_line}
 use Rattle.std.specs.Prelude.{pos, Bool, true, false, not, ◌&&◌, None, Some, [], codes, if◌then◌else◌}
 use Rattle.run_model.specs.Names.{Written, UnitKind}
 use Rattle.run_model.specs.declared.status.ExecutionResultDescription.{ExecutionResultDescription}
-use Rattle.run_model.specs.declared.status.ExecutionResultDescription.{TheVariants as outcome}
+use Rattle.run_model.specs.declared.status.ExecutionResultDescription.TheVariants as outcome
 use Rattle.run_model.specs.declared.status.FailureDescription.{FailureDescription}
 use Rattle.run_model.specs.declared.status.FailureDescription.TheVariants.{ExitCode, Abort}
 use Rattle.report_words.specs.declared.theme.ThemeCharacters.{ThemeCharacters}
@@ -15,7 +15,8 @@ use Rattle.text_parts.specs.declared.settings.Settings.{Settings}
 use Rattle.unit_report.specs.UnitOutput.{OutputLayout, execution_output}
 use Rattle.unit_report.specs.declared.unit_output.header.OutputHeader.{OutputHeader}
 use Rattle.unit_report.specs.declared.unit_output.header.OutputHeader.TheVariants.{Bars}
-use Rattle.unit_report.specs.declared.unit_output.header.OutputName.{OutputName, TheVariants as name}
+use Rattle.unit_report.specs.declared.unit_output.header.OutputName.{OutputName}
+use Rattle.unit_report.specs.declared.unit_output.header.OutputName.TheVariants as name
 use Rattle.text_parts.specs.Words.{info_line_start}
 use Rattle.text_parts.specs.FreeWords.{free-info_line_start}
 use Rattle.run_model.specs.declared.status.LeakTimeoutResult.TheVariants as leak

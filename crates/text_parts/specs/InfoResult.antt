@@ -5,9 +5,11 @@ use Rattle.report_words.proofs.lemmas.FreeWords.{free-signed}
 use Rattle.run_names.specs.declared.abort.AbortDescription.{AbortDescription}
 use Rattle.run_names.specs.declared.abort.AbortDescription.TheVariants.{UnixSignal, WindowsNtStatus, WindowsJobObject}
 use Rattle.run_model.specs.declared.status.ExecutionResultDescription.{ExecutionResultDescription}
-use Rattle.run_model.specs.declared.status.ExecutionResultDescription.{TheVariants as outcome}
-use Rattle.run_model.specs.declared.status.LeakTimeoutResult.{LeakTimeoutResult, TheVariants as leak}
-use Rattle.run_model.specs.declared.status.SlowTimeoutResult.{SlowTimeoutResult, TheVariants as slow}
+use Rattle.run_model.specs.declared.status.ExecutionResultDescription.TheVariants as outcome
+use Rattle.run_model.specs.declared.status.LeakTimeoutResult.{LeakTimeoutResult}
+use Rattle.run_model.specs.declared.status.LeakTimeoutResult.TheVariants as leak
+use Rattle.run_model.specs.declared.status.SlowTimeoutResult.{SlowTimeoutResult}
+use Rattle.run_model.specs.declared.status.SlowTimeoutResult.TheVariants as slow
 use Rattle.run_model.specs.declared.status.FailureDescription.{FailureDescription}
 use Rattle.run_model.specs.declared.status.FailureDescription.TheVariants.{ExitCode, Abort}
 use Rattle.report_words.specs.Parts.{Parts, Fixed, Open, Count, Pass, Fail, Skip, words, toned, Toned, Verbatim, ◌⧺◌}

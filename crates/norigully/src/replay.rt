@@ -1,46 +1,27 @@
-//! The program `replay`: it prints nextest's console report of a recorded run. It reads only the output that the report
-//! shows.
-//!
-//! Its exit status is that of the run, as with `follow`: 0 for a success, 100 for a failure, 4 if no test ran, and 3
-//! for a run that did not end. An error is one line on standard error and a status.
-#![tactic(auto)]
+//! A recorded run. Only the output that the report shows is read.
+
+ghost use Rattle.std.specs.Prelude.{◌≡◌, Err, None};
+ghost use Rattle.command_line.specs.Args.{options_of, texts};
+ghost use Rattle.command_line.specs.declared.fault.Fault.TheVariants.{Usage};
 
 use command_line::args::{Options, words};
-use command_line::fault::{Fault, ReportProgram};
+use command_line::fault::Fault;
 use recorded::{Metered, RecordedOutputs, RecordedRun};
 use scene_follower::follow::RunOutcome;
-use scene_follower::process::{
-    arguments, create_store, fill_standard_descriptors, print_error, report_fault,
-};
+use scene_follower::process::create_store;
 use std::fs::{self, File, Metadata};
 use std::io::{self, ErrorKind};
 use std::path::Path;
-use std::process::ExitCode;
 use writers::write_str::RetryInterrupted;
 
-fn main(rt: HostRuntime) -> ExitCode {
-    fill_standard_descriptors(&rt);
-    let status = match arguments(&rt) {
-        Ok(args) => match run(&rt, args.as_slice()) {
-            Ok(outcome) => end(&rt, outcome),
-            Err(fault) => report_fault(&rt, ReportProgram::Replay, fault),
-        },
-        Err(fault) => report_fault(&rt, ReportProgram::Replay, fault),
-    };
-    ExitCode::from(status)
-}
-
-// The exit status of the run. If the run did not end, it also prints a line.
-fn end(rt: &HostRuntime, outcome: RunOutcome) -> u8 {
-    if outcome == RunOutcome::NotEnded {
-        print_error(rt, "replay: the run did not end");
-    }
-    outcome.status()
-}
-
-// Runs the program on its command line. Both files of the run are opened before the file of the records is created or
-// emptied.
-fn run<'a>(rt: &HostRuntime, args: &'a [String]) -> Result<RunOutcome, Fault<'a>> {
+/// Replays the run in the folder that the words name last. Both its files are opened before the file of the records is
+/// created or emptied.
+pub(crate) fn replay_folder<'a>(
+    rt: &HostRuntime,
+    args: &'a [String],
+) -> Result<RunOutcome, Fault<'a>>
+    ensures usage { options_of (texts args.now) ≡ None → result ≡ Err Usage }
+{
     let Some(options) = words(args) else {
         return Err(Fault::Usage);
     };

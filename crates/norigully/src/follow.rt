@@ -1,44 +1,25 @@
-//! The program `follow`: it reads the lines of a scene as they come, and prints nextest's console report of each before
-//! it reads more.
-//!
-//! Its exit status is that of the run: 0 for a success, 100 for a failure, 4 if no test ran, and 3 for a run that did
-//! not end, so that a producer that died does not look like a success. An error is one line on standard error and a
-//! status.
-#![tactic(auto)]
+//! The lines of a scene, reported as they come: each before more is read.
+
+ghost use Rattle.std.specs.Prelude.{◌≡◌, ◌⊎◌, Err, None};
+ghost use Rattle.command_line.specs.Args.{options_or_input, texts};
+ghost use Rattle.command_line.specs.declared.fault.Fault.TheVariants.{OutOfMemory, Usage};
 
 use command_line::args::{Options, args_or_input};
-use command_line::fault::{Fault, ReportProgram};
+use command_line::fault::Fault;
 use scene_follower::follow::{RunOutcome, follow_scene};
-use scene_follower::process::{
-    arguments, create_store, fill_standard_descriptors, print_error, report_fault,
-};
+use scene_follower::process::create_store;
 use std::fs::{self, File, Metadata};
 use std::io::{self, Read};
-use std::process::ExitCode;
 use writers::write_str::RetryInterrupted;
 
-fn main(rt: HostRuntime) -> ExitCode {
-    fill_standard_descriptors(&rt);
-    let status = match arguments(&rt) {
-        Ok(mut args) => match run(&rt, &mut args) {
-            Ok(outcome) => end(&rt, outcome),
-            Err(fault) => report_fault(&rt, ReportProgram::Follow, fault),
-        },
-        Err(fault) => report_fault(&rt, ReportProgram::Follow, fault),
-    };
-    ExitCode::from(status)
-}
-
-// The exit status of the run. If the run did not end, it also prints a line.
-fn end(rt: &HostRuntime, outcome: RunOutcome) -> u8 {
-    if outcome == RunOutcome::NotEnded {
-        print_error(rt, "follow: the run did not end");
-    }
-    outcome.status()
-}
-
-// Runs the program on its command line.
-fn run<'a>(rt: &HostRuntime, args: &'a mut Vec<String>) -> Result<RunOutcome, Fault<'a>> {
+/// Follows the scene that the words name, or standard input.
+pub(crate) fn follow_file<'a>(
+    rt: &HostRuntime,
+    args: &'a mut Vec<String>,
+) -> Result<RunOutcome, Fault<'a>>
+    ensures usage { options_or_input (texts args.old.items) ≡ None
+        → (result ≡ Err Usage) ⊎ (result ≡ Err OutOfMemory) }
+{
     let Some(options) = args_or_input(rt.alloc(), args)? else {
         return Err(Fault::Usage);
     };
