@@ -248,9 +248,10 @@ class Converted(InFolder):
     def test_words(self):
         made = front.SUMMARY
         self.assertIsNone(front.with_scene("./run", front.PAGE, "--junit", ["--title", "a"]))
+        unknown = self.fault(front.with_scene, "./run", None, "--junit", ["--bogus", "f"])
+        self.assertEqual(unknown, (2, "./run: unknown option --bogus (./run --help)\n"))
         for made, words, why in (
             (made, ["--title", "a"], r"--summary takes no --title \(./run --help\)"),
-            (None, ["--bogus", "f"], r"unknown option --bogus \(./run --help\)"),
             (None, ["--store", str(self.file), str(self.file)], f"cannot write {self.file}"),
             (front.PAGE, ["-o", str(self.file), str(self.file)], f"cannot write {self.file}"),
             (made, ["missing"], "cannot read missing: No such file or directory"),

@@ -21,6 +21,7 @@ import time
 from norigully import TOP, kit
 from gate.checks import CASES
 from norigully.entry import ENDING
+from norigully.installed import PROGRAM
 from gate.run_checks import BUILDS, PATIENCE, SCENE, ran, shimmed, with_output
 
 
@@ -82,14 +83,14 @@ def check_places(checks, room, build, bare):
     checks.expect(not (folder / "no folder").exists(), "--archive and a link that leads nowhere: a folder is made")
     said = f"build: cannot write {folder}/pipe/x\\r: File exists\n".encode()
     checks.expect_line("--archive and a CR", ran([build, "--archive", folder / "pipe/x\r"], **bare), 1, said)
-    os.mkfifo(folder / "norigully-follow")
-    said = f"build: cannot write {folder}/norigully-follow: it is no regular file\n".encode()
+    os.mkfifo(folder / PROGRAM)
+    said = f"build: cannot write {folder / PROGRAM}: it is no regular file\n".encode()
     checks.expect_line("--install and a pipe", ran([build, "--install", folder], **bare), 1, said)
     checks.expect(not (folder / "norigully").exists(), "--install and a pipe: something is written")
-    (folder / "norigully-follow").unlink()
+    (folder / PROGRAM).unlink()
     (folder / "norigully").write_text("an older one\n")
     before = sorted(folder.iterdir())
-    # There is room for `norigully`, and for none of the programs.
+    # There is room for `norigully`, and not for the program.
     full = {"preexec_fn": lambda: resource.setrlimit(resource.RLIMIT_FSIZE, (300_000, 300_000))}
     said = f"build: cannot write {folder}: File too large\n".encode()
     unwritten = with_output(ran([build, "--install", folder], **bare, **full))
@@ -147,7 +148,9 @@ def check_cache(checks, room):
     for place, variable in (cache, "XDG_CACHE_HOME"), (room.folder / "barred", "TMPDIR"):
         place.mkdir(exist_ok=True)
         env = {**environment, variable: str(place)}
-        barred = ran(shimmed(NOEXEC.format(place=str(place)), run, "--follow", room.scene), env=env)
+        barred = ran(shimmed(NOEXEC.format(place=str(place)), *words), env=env)
+        # The next one is to be built.
+        shutil.rmtree(own)
         what = f"{variable} on a mount without programs"
         checks.expect_line(what, barred, 1, f"run: no program can run in {place}".encode())
         checks.expect(f" noexec: let {variable} name another folder\n".encode() in barred.stderr, f"{what}: {barred}")

@@ -188,7 +188,7 @@ def with_scene(typed, made, converter, words):
     files = words[at:]
     # An option that nobody knows is named before its value is taken for a file.
     if (made is None) and (why := why_wrong("report", [*words[:at], "-"])):
-        raise Bad(f"{why} ({typed} --help)")
+        fault(typed, f"{why} ({typed} --help)", WRONG)
     for option, to in zip(words[:at], words[1:at]):
         if option in ("--store", "-o") and any(is_same_file(to, INPUT if it == "-" else it) for it in files):
             raise Bad(f"cannot write {to}")
