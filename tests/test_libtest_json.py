@@ -45,7 +45,11 @@ ENDS = (
     ([begun(2), test("a"), RUNNING.format("b"), begun(), *[test("b")] * 2], [PASSED, *["b b pass "] * 2], 4),
     # A binary that failed, and no test in it did.
     ([*GREEN, ACCUSED], [PASSED, FAILED], 2),
-    ([*GREEN, RUNNING.format("x"), ACCUSED, DIED.format("exit status: 7")], [PASSED, f"x [no test] fail:7 {NO_TEST}"], 2),
+    (
+        [*GREEN, RUNNING.format("x"), ACCUSED, DIED.format("exit status: 7")],
+        [PASSED, f"x [no test] fail:7 {NO_TEST}"],
+        2,
+    ),
     ([*GREEN, "error: bench failed, to rerun pass `--bench own`"], [PASSED, FAILED], 2),
     ([*GREEN, "   Doc-tests x", "test result: FAILED. 0 passed;"], [PASSED, f"x::doc [no test] fail:101 {NO_TEST}"], 2),
     ([begun(), test("a"), ENDED % "failed"], [PASSED, FAILED], 2),
