@@ -114,6 +114,12 @@ class Libtest(unittest.TestCase):
                 lines_of(given)
             self.assertEqual(str(found.exception), why)
 
+    def test_utf_16(self):
+        for encoding in ("utf-16-le", "utf-16-be"):
+            with self.subTest(encoding=encoding), self.assertRaises(Bad) as found:
+                b"".join(scene_of(f"\ufeff{begun()}\n".encode(encoding).splitlines(True), "f"))
+            self.assertEqual(str(found.exception), "f: it is UTF-16, as PowerShell's > writes it, and not UTF-8")
+
     def test_texts(self):
         for text in TEXTS:
             with self.subTest(text=text[:60]):

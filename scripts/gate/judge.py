@@ -120,8 +120,7 @@ def verdict_of_json(text):
         is_said |= bool(not event and CARGO.match(line))
         if NEXT.match(line):
             is_red, is_within = is_red or is_said, False
-    least = sum(max(count, ended) for count, ended, _ in counts)
-    return Verdict(least, least + sum(begun for _, _, begun in counts), is_red or is_said)
+    return Verdict(sum(max(it[:2]) for it in counts), sum(map(sum, counts)), is_red or is_said)
 
 
 def ours(text, is_xml):
