@@ -46,6 +46,9 @@ ENDS = {
     b'<testcase><system-out><![CDATA[ ]]\x1b[0m></system-out></testcase><!-- ]]></system-out></testcase>'
     b'<testcase><failure/></testcase><testcase><system-out><![CDATA[--><testcase><system-out><![CDATA[ ]]></system-out>'
     b'</testcase>': ["pass", "fail:101", "pass"],
+    b'<testsuite failures="1"><testsuite name="s" failures="7"><testcase><error/></testcase></testsuite></testsuite>': [
+        *("fail:101", "fail:101")
+    ],
     # Documents one after another.
     b'<testsuite ><testcase/></testsuite><?xml version="1.0"?><testsuite><testcase><error/></testcase></testsuite>': [
         *("pass", "fail:101")
@@ -170,11 +173,22 @@ LEFT_OUT = {
     b"".join(b"<a%d/>" % it for it in range(10)): "1 element '" + "', 1 element '".join(f"a{it}" for it in range(8))
     + "', and 2 more names",
 }
+# What is around a character that is left out, and what is read of it.
+CDATA = b"<testcase><system-out><![CDATA[%b]]></system-out></testcase>"
+JOINED = {
+    CDATA % b"a]]\x1b[0m>b": "a]] >b",
+    CDATA % b"a]\x1b[0m]>b": "a] ]>b",
+    CDATA % b"a]&amp#27;[0m\x07]>b": "a] ]>b",
+    CDATA % b"[a]\x1b[0m b": "[a] b",
+    CDATA % b"<!--\x07&#27;[1m": "<!--&#27;[1m",
+    b"<testcase><system-out>&#38;#27;<!-- -\x07->&#7; --> a&#7;</system-out></testcase>": "&#27; a",
+}
+SUITE = b"<testsuite>%b</testsuite>"
 
 
 def lines_of(text, said=None, name="f"):
     """The lines of the scene of this, in a suite where it is none. What is said is put into a list."""
-    text = text if text.startswith((b"<testsuite ", b"<testsuites", b"<?xml")) else b"<testsuite>%b</testsuite>" % text
+    text = text if text.startswith((b"<testsuite ", b"<testsuites", b"<?xml")) else SUITE % text
     made = b"".join(scene_of([(name, text)], ([] if said is None else said).append))
     return made.decode().split("\n")[:-1]
 
@@ -266,6 +280,21 @@ class Texts(unittest.TestCase):
         said = []
         scene_of([(name, b"<testsuite><x/></testsuite>") for name in "abc"], said.append)
         self.assertEqual(said, ["a and 2 more: left out: 3 elements 'x'"])
+
+    def test_pieces(self):
+        """Whatever pieces a pipe gives, they are one text."""
+        for given in (*ENDS, *SHOWN, *LEFT_OUT, *JOINED):
+            whole = given if given.startswith((b"<testsuite ", b"<testsuites", b"<?xml")) else SUITE % given
+            wanted = b"".join(scene_of([("f", whole)], (said := []).append)), said
+            for size in (1, 3, 100):
+                pieces = [whole[at : at + size] for at in range(0, len(whole), size)]
+                with self.subTest(given=given, size=size):
+                    self.assertEqual((b"".join(scene_of([("f", iter(pieces))], (said := []).append)), said), wanted)
+
+    def test_what_does_not_come_together(self):
+        for given, wanted in JOINED.items():
+            with self.subTest(given=given):
+                self.assertEqual(lines_of(given)[1].split("\t")[13], wanted)
 
     def test_encodings(self):
         # The bytes of these characters are those of a control and of a space.

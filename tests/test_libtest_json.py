@@ -45,7 +45,11 @@ ENDS = (
     ([begun(2), test("a"), RUNNING.format("b"), begun(), *[test("b")] * 2], [PASSED, *["b b pass "] * 2], 4),
     # A binary that failed, and no test in it did.
     ([*GREEN, ACCUSED], [PASSED, FAILED], 2),
-    ([*GREEN, RUNNING.format("x"), ACCUSED, DIED.format("exit status: 7")], [PASSED, f"x [no test] fail:7 {NO_TEST}"], 2),
+    (
+        [*GREEN, RUNNING.format("x"), ACCUSED, DIED.format("exit status: 7")],
+        [PASSED, f"x [no test] fail:7 {NO_TEST}"],
+        2,
+    ),
     ([*GREEN, "error: bench failed, to rerun pass `--bench own`"], [PASSED, FAILED], 2),
     ([*GREEN, "   Doc-tests x", "test result: FAILED. 0 passed;"], [PASSED, f"x::doc [no test] fail:101 {NO_TEST}"], 2),
     ([begun(), test("a"), ENDED % "failed"], [PASSED, FAILED], 2),
@@ -109,6 +113,12 @@ class Libtest(unittest.TestCase):
             with self.subTest(given=given), self.assertRaises(Bad) as found:
                 lines_of(given)
             self.assertEqual(str(found.exception), why)
+
+    def test_utf_16(self):
+        for encoding in ("utf-16-le", "utf-16-be"):
+            with self.subTest(encoding=encoding), self.assertRaises(Bad) as found:
+                b"".join(scene_of(f"\ufeff{begun()}\n".encode(encoding).splitlines(True), "f"))
+            self.assertEqual(str(found.exception), "f: it is UTF-16, as PowerShell's > writes it, and not UTF-8")
 
     def test_texts(self):
         for text in TEXTS:

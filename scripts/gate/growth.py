@@ -1,21 +1,23 @@
-"""How the time of a converter, a summary, annotations and a page grows: over inputs of ten shapes, once and four times
-as long."""
+"""How the time of a converter, a summary, annotations and a page grows: over inputs of many shapes, once and four
+times as long; and how much memory a converter takes."""
 
 import base64
 import functools
 import io
+import os
 import random
 import resource
+import subprocess
 import tempfile
 import time
 from pathlib import Path
 
-from norigully import ci_summary, junit, libtest_json, page
+from norigully import TOP, ci_summary, junit, libtest_json, page
 
 # Four times the input takes at most this many times as long. With the square of the length it would take 16 times.
 MOST = 6
 # And the annotations of a long text, in which places are looked for, take at most so many times as long as its summary.
-ALIKE, TEXTS = 30, ("a letter", "dots", "a letter and a dot", "base64")
+ALIKE, TEXTS = 30, ("a letter", "dots", "a letter and a dot", "base64", "places in a long line")
 # Of what takes fewer seconds than that, the clock and what does not grow are the most; a page has more of that.
 LITTLE, OF_A_PAGE = 0.05, 0.5
 COUNT, COUNT_OF_A_PAGE, TIMES = 1500, 500, 3
@@ -60,6 +62,9 @@ SHAPES = {
     "dots": lambda count: failed(b"." * 80 * count),
     "a letter and a dot": lambda count: failed(b"a." * 40 * count),
     "base64": lambda count: failed(noise(count)),
+    "places in a long line": lambda count: failed(b"x.a:1 " * 13 * count),
+    "a long message": lambda count: case(b'<failure message="%b"/>' % (b"a" * 80 * count)),
+    "colours": lambda count: case(b"<failure>%b</failure>" % many(b"\x1b[31m%d]&#27;[m]]", count)),
     "many properties": lambda count: case(
         b"<properties>%b</properties><failure/>" % many(b'<property name="p%d" value="v"/>', count)
     ),
@@ -86,9 +91,16 @@ JSON_SHAPES = {
     "a letter and a dot": lambda count: json_failed(b"a." * 40 * count),
     "base64": lambda count: json_failed(noise(count)),
     "many lines of text": lambda count: BEGUN + b"{\n" * count + b"     Running unittests a\n" * count,
+    "a long line of cargo's": lambda count: BEGUN + b"     Running " + b"a" * 80 * count,
+    "many ends in a line": lambda count: BEGUN + b"process didn't exit successfully: " * 3 * count,
+    "an object in objects": lambda count: BEGUN + b"{" * 80 * count,
     "many attributes": lambda count: BEGUN + b'{"type":"test","event":"ok","name":"a"%b}\n' % many(b',"a%d":1', count),
     "many reruns": lambda count: BEGUN + FAILED * count,
 }
+
+# A converter takes at most so many KB of memory for a file of so many bytes.
+MEMORY, BYTES = 48_000, 48 << 20
+COMMENT = b"<!-- \x1b[31m%b -->\n" % (b"x" * 4000)
 
 
 def convert(text):
@@ -164,8 +176,23 @@ def check_text(name, program, checks):
     checks.expect(holds, f"{name}: {summary:.2f} s for a summary, and {annotations:.2f} s for annotations")
 
 
+def check_memory(checks):
+    """A file, and what comes through a pipe, is not kept in memory."""
+    with tempfile.TemporaryDirectory() as folder:
+        file = Path(folder, "run.xml")
+        with open(file, "wb") as made:
+            made.writelines([b"<testsuite>", *[COMMENT] * (BYTES // len(COMMENT)), b"</testsuite>"])
+        for words in ([file], ["-"]):
+            with open(file, "rb") as given, open("/dev/null", "wb") as to:
+                how = {"stdin": given, "stdout": to, "stderr": to}
+                with subprocess.Popen([TOP / "scripts/scene-of-junit", *words], **how) as child:
+                    _, status, usage = os.wait4(child.pid, 0)
+                    child.returncode = status
+            checks.expect(status == 0 and usage.ru_maxrss < MEMORY, f"{words}: {usage.ru_maxrss} KB, status {status}")
+
+
 def check_all(program, checks):
     words = [*CONVERTERS, "--summary", "--annotations", "--page"]
     calls = [(word, name) for word in words for name in (JSON_SHAPES if word == "--libtest" else SHAPES)]
     calls = [functools.partial(check_growth, *it, program) for it in calls]
-    checks.side_by_side([*calls, *(functools.partial(check_text, name, program) for name in TEXTS)])
+    checks.side_by_side([check_memory, *calls, *(functools.partial(check_text, name, program) for name in TEXTS)])

@@ -121,8 +121,7 @@ def verdict_of_json(text):
         is_said |= bool(not event and CARGO.match(line))
         if NEXT.match(line):
             is_red, is_within = is_red or is_said, False
-    least = sum(max(count, ended) for count, ended, _ in counts)
-    return Verdict(least, least + sum(begun for _, _, begun in counts), is_red or is_said)
+    return Verdict(sum(max(it[:2]) for it in counts), sum(map(sum, counts)), is_red or is_said)
 
 
 def ours(text, is_xml):
@@ -133,11 +132,10 @@ def ours(text, is_xml):
         lines = b"".join(made).decode("utf-8", "replace").split("\n")
     except Bad as error:
         return Ours(0, 2, str(error), "")
-    done = [it.split("\t") for it in lines if it.startswith("done\t")]
+    done, skipped = ([it.split("\t") for it in lines if it.startswith(f"{word}\t")] for word in ("done", "skip"))
     red = sum(it[-8] not in ("pass", "leak", "tmpass") for it in done)
-    made = sum(it[3] in ("[no test]", "[suite]") for it in done)
     total = int(lines[0].split("\t")[3])
-    tests = max(total, len(done)) - made + sum(it.startswith("skip\t") for it in lines)
+    tests = max(total, len(done)) + len(skipped) - sum(it[3] in ("[no test]", "[suite]") for it in done + skipped)
     return Ours(tests, 100 if red or total > len(done) else 0 if done else 4, " ".join(said), "\n".join(lines))
 
 

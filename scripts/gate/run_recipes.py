@@ -92,8 +92,8 @@ class Typed:
 
 def status_of(command, kind):
     """What the pages say of the status of a command: that of its run, but for pages and summaries."""
-    rows = ("xargs", 123), ("do go test", 1), (r"(?:norigully|\./run) --(?:junit|libtest|follow)|^scripts/run-tests", 100)
-    found = [status for part, status in rows if re.search(part, command)]
+    is_report = r"(?:norigully|\./run) --(?:junit|libtest|follow)|^scripts/run-tests"
+    found = [it for part, it in (("xargs", 123), ("do go test", 1), (is_report, 100)) if re.search(part, command)]
     return found[0] if found and kind == RED else 0
 
 

@@ -34,6 +34,7 @@ CONVERTERS = {"--junit": "norigully.junit", "--libtest": "norigully.libtest_json
 # Lines by which cargo and libtest are known.
 LIBTEST = re.compile(rb'^\{\s*("type"\s*:\s*"suite"|"reason"\s*:\s*"compiler-)', re.M)
 CARGO = re.compile(rb"^( *(Compiling|Finished|Running) .*[\])]|running \d+ tests?)\r?$", re.M)
+UTF_16 = "this is UTF-16, as PowerShell's > writes it, and a scene and --libtest's JSON are UTF-8"
 # The word that leaves the lines out by which GitHub takes no command.
 UNSTOPPED = "--no-stop-commands"
 # The statuses of a program that printed a whole report.
@@ -81,6 +82,8 @@ def looks_like(path):
             text = os.pread(file.fileno(), 4096, file.tell()).removeprefix(codecs.BOM_UTF8).lstrip()
     except OSError:
         return None
+    if text.startswith((codecs.BOM_UTF16_LE, codecs.BOM_UTF16_BE)):
+        return UTF_16
     if text.startswith(b"{") and b'"Action"' in text.split(b"\n")[0]:
         return "this is of `go test -json`: --junit reads what `gotestsum --junitfile run.xml` makes of it"
     if LIBTEST.search(text):

@@ -3,16 +3,15 @@
 import html
 import os
 import re
-import stat
 import uuid
 import xml.etree.ElementTree as tree
 from collections import Counter
 from xml.parsers import expat
 
-from norigully.entry import Bad, pieces_of, unread
+from norigully.entry import Bad, pieces_of
 from norigully.held_lines import held
 from norigully.scene_lines import RUN_ID, UNKNOWN_FAILURE, Attempt, WholeRun, nanos
-from norigully.xml_characters import PIECE, has_unfit, without_unfit
+from norigully.xml_characters import without_unfit
 
 # How nextest's types of failures begin. The signal of an abort is in its message; no other message counts, since it has
 # the words of a test.
@@ -28,8 +27,8 @@ COUNT = re.compile(r"\s*\+?(\d{1,18}|\d{1,3}(?:,\d{3}){1,5})(?:\.0*)?\s*", re.A)
 NOTHING_CAPTURED = re.compile(r"^-{33} Captured (?:Log|Out|Err) -{33}\n\s*(?=\Z|-{33} Captured )", re.M)
 # Node writes the duration of its run in a comment.
 DURATION = re.compile(r"\s*duration_ms (\d+(?:\.\d+)?)\s*", re.A)
-# Where another document begins behind one.
-JUNK, ANOTHER = 9, re.compile(rb"<(?:\?xml|testsuites?)\b")
+# So much is read at a time; and where another document begins behind one.
+PIECE, JUNK, ANOTHER = 1 << 20, 9, re.compile(rb"<(?:\?xml|testsuites?)\b")
 FAILED, FAILURES = ("failure", "error"), ("failures", "errors")
 FLAKY = ("flakyFailure", "flakyError")
 RERUN = ("rerunFailure", "rerunError")
@@ -60,7 +59,8 @@ NOT_RUN = {
 }
 GOOD = NOT_RUN | {
     *("", "run", "pass", "passed", "ok", "success", "successful", "succeeded", "complete", "completed", "done"),
-    *("fixed", "finished", "executed", "true", "xfail", "xfailed", "expected", "flaky", "focused", "warning", "warned", "0"),
+    *("fixed", "finished", "executed", "true", "xfail", "xfailed", "expected", "flaky", "focused", "warning", "warned"),
+    "0",
     *("bpass", "bfail", "bxpass", "bxfail"),
 }
 STATES, PARTED = ("status", "result"), re.compile(r"[\s_-]+")
@@ -258,57 +258,60 @@ class Tree:
         raise Bad(f"{self.file}: a document type, which JUnit XML has no use for")
 
 
-def read(file, text, scene):
-    """Reads the XML of a file, whose bytes or descriptor these are, and returns how often what was left out. libtest
-    writes a document for each binary, one after another."""
-    left_out, at, lines_before = Counter(), 0, 0
-    if isinstance(text, int):
-        # It is read twice, unless something is to be left out: so little of it is kept.
-        given, text = text, lambda at, size: os.pread(given, size, at)
-        if has_unfit(text):
-            return read(file, joined(pieces_from(text)), scene)
-    else:
-        whole = memoryview(without_unfit(text, left_out))
-        text = lambda at, size: whole[at : at + size]  # noqa: E731
-    while at is not None:
-        at, lines_before = read_one(file, text, at, scene, left_out, lines_before)
+class Source:
+    """What is read of a file, some of it at a time."""
+
+    def __init__(self, pieces):
+        self.pieces, self.kept = pieces, b""
+
+    def take(self, size):
+        """So many bytes, or fewer at the end."""
+        parts, count = [self.kept], len(self.kept)
+        while count < size and (piece := next(self.pieces, None)) is not None:
+            parts.append(piece)
+            count += len(piece)
+        text = b"".join(parts)
+        self.kept = text[size:]
+        return text[:size]
+
+
+def read(file, pieces, scene):
+    """Reads the XML of a file, of which these are the bytes, and returns how often what was left out. libtest writes a
+    document for each binary, one after another."""
+    left_out, lines = Counter(), 0
+    source = Source(without_unfit(pieces, left_out))
+    while lines is not None:
+        lines = read_one(file, source, scene, left_out, lines)
     return left_out
 
 
-def pieces_from(text):
-    at = 0
-    while piece := text(at, PIECE):
-        yield piece
-        at += len(piece)
-
-
-def read_one(file, text, begin, scene, left_out, lines_before):
-    """Reads the document from this place on, and returns the place of the one behind it, or None, and the number of
-    lines before that."""
+def read_one(file, source, scene, left_out, lines):
+    """Reads a document that begins behind so many lines, and returns how many there are before the next; or None."""
     target, parser = Tree(file, scene), expat.ParserCreate(None, "}")
     parser.buffer_text, parser.buffer_size = True, 1 << 16
     parser.StartElementHandler, parser.EndElementHandler = target.start, target.end
     parser.CharacterDataHandler, parser.CommentHandler = target.builder.data, target.comment
     parser.StartDoctypeDeclHandler = target.doctype
-    at, size, behind = begin, PIECE, None
+    at, size, before, piece = 0, PIECE, b"", b""
     try:
-        while piece := text(at, size):
+        while piece := source.take(size):
             parser.Parse(piece, False)
-            at += len(piece)
+            at, before = at + len(piece), piece
             # An older expat begins anew at each piece of a long word.
-            size = max(PIECE, at - begin - max(0, parser.CurrentByteIndex))
+            size = max(PIECE, at - max(0, parser.CurrentByteIndex))
         parser.Parse(b"", True)
+        lines = None
     except expat.ExpatError as error:
-        behind = begin + parser.ErrorByteIndex
-        if error.code != JUNK or not ANOTHER.match(text(behind, LONGEST)):
-            raise Bad(f"{file}: line {lines_before + error.lineno}: {expat.ErrorString(error.code)}") from error
-        lines_before += error.lineno - 1
+        behind = (before + piece)[parser.ErrorByteIndex - at - len(piece) :] + source.take(LONGEST)
+        if error.code != JUNK or not ANOTHER.match(behind):
+            raise Bad(f"{file}: line {lines + error.lineno}: {expat.ErrorString(error.code)}") from error
+        lines, source.kept = lines + error.lineno - 1, behind + source.kept
     except (LookupError, ValueError, OverflowError) as error:
         # The encoding that it names, of which Python says what is wrong.
         raise Bad(f"{file}: {error}") from error
     scene.end_file(os.path.basename(file), target.suites[0].sums, target.accused)
     left_out.update(target.left_out)
-    return behind, lines_before
+    return lines
 
 
 def first(element, *names):
@@ -561,7 +564,7 @@ class Scene:
         """A file that counts more failures than its tests have is that of a run that failed: of the suites that do, and
         of the file itself. So is one whose counts are no numbers, unless a test of it failed anyway."""
         file = self.files[-1]
-        lost = file.lost(counts)
+        lost = max(file.lost(counts), sum(count for _, count, *_ in accused))
         for suite, count, *wrote in accused:
             if count := min(count, lost):
                 self.no_test(suite, f"The suite counts {number_of(count)} that no test in it has.\n", wrote)
@@ -594,11 +597,11 @@ class Scene:
 
 
 def scene_of(texts, say=lambda _: None):
-    """The lines of the scene of these texts, each by the name of its file; some at a time, once all are read. What was
-    left out is said in one line."""
+    """The lines of the scene of these texts, each its bytes by the name of its file; some at a time, once all are read.
+    What was left out is said in one line."""
     scene, left_out, files = Scene(), Counter(), []
-    for file, text in texts:
-        if found := read(file, text, scene):
+    for file, pieces in texts:
+        if found := read(file, [pieces] if isinstance(pieces, bytes) else pieces, scene):
             left_out += found
             files.append(file)
     if files:
@@ -617,31 +620,7 @@ def convert(words, say=lambda _: None):
     for number, word in enumerate(words):
         if word.startswith("-") and word != "-":
             raise Bad(f"{word} is behind a FILE, and options come before it" if number else f"unknown option {word}")
-    return scene_of(((name_to_say(it), text) for it in words or ["-"] for text in texts_of(it)), say)
-
-
-def texts_of(path):
-    """The descriptor of a file, or all bytes of what is none, such as a pipe; to join the pieces would take twice the
-    memory."""
-    try:
-        opened = None if path == "-" else os.open(path, os.O_RDONLY | os.O_NONBLOCK)
-    except OSError as error:
-        raise Bad(unread(path, error)) from error
-    try:
-        if opened is not None and stat.S_ISREG(os.fstat(opened).st_mode):
-            yield opened
-            return
-    finally:
-        if opened is not None:
-            os.close(opened)
-    yield joined(pieces_of(path))
-
-
-def joined(pieces):
-    found = bytearray()
-    for piece in pieces:
-        found += piece
-    return found
+    return scene_of(((name_to_say(it), pieces_of(it)) for it in words or ["-"]), say)
 
 
 def name_to_say(path):

@@ -1,5 +1,6 @@
 """libtest's JSON, among what else `cargo test` prints, and the scene of it."""
 
+import codecs
 import json
 import re
 
@@ -198,6 +199,8 @@ def whole(count):
 def read(lines, name):
     reader = Reader()
     for number, line in enumerate(lines, 1):
+        if number == 1 and line.startswith((codecs.BOM_UTF16_LE, codecs.BOM_UTF16_BE)):
+            raise Bad(f"{name}: it is UTF-16, as PowerShell's > writes it, and not UTF-8")
         try:
             reader.line(line.decode("utf-8", "replace").rstrip("\r\n"))
         except (ValueError, KeyError, TypeError, IndexError, AttributeError, RecursionError) as error:
