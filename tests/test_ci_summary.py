@@ -292,27 +292,26 @@ class Annotations(unittest.TestCase):
 
 class Made(unittest.TestCase):
     def test_words(self):
-        for words in ([], ["a", "b"], ["-x"], ["--summary"]):
-            with self.subTest(words=words), self.assertRaisesRegex(
-                Bad, "^--summary needs a FILE, which is the last word$"
-            ):
-                made_of("--summary", words)
+        needs = "needs a FILE, which is the last word"
+        for words, why in ([], needs), (["a", "b"], needs), (["-x"], "takes no -x"), (["--summary"], "takes no --summary"):
+            with self.subTest(words=words), self.assertRaisesRegex(Bad, f"^--summary {why}$"):
+                made_of("--summary", words, None)
 
     def test_files(self):
         with tempfile.NamedTemporaryFile() as file:
             file.write("".join(scene(("b", failed()))).encode() + b"<a>\n")
             file.flush()
             with self.assertRaisesRegex(Bad, f"^{file.name}: line 4: no line of a scene$"):
-                made_of("--summary", [file.name])
+                made_of("--summary", [file.name], None)
             file.truncate(0)
             file.seek(0)
             file.write("".join(scene(("b", failed()))).encode())
             file.flush()
-            self.assertEqual(made_of("--summary", [file.name]), markdown(scene(("b", failed()))))
-            self.assertEqual(made_of("--annotations", [file.name]), annotations(scene(("b", failed()))))
+            for word, wanted in ("--summary", markdown), ("--annotations", annotations):
+                self.assertEqual("".join(made_of(word, [file.name], None)), wanted(scene(("b", failed()))))
         of_input = mock.patch("norigully.entry.lines_of", lambda path: [b"<\n"])
         with of_input, self.assertRaisesRegex(Bad, "^standard input: "):
-            made_of("--summary", ["-"])
+            made_of("--summary", ["-"], None)
 
 
 if __name__ == "__main__":

@@ -247,8 +247,9 @@ class Converted(InFolder):
 
     def test_words(self):
         made = front.SUMMARY
-        self.assertIsNone(front.with_scene("./run", made, "--junit", ["--title", "a"]))
+        self.assertIsNone(front.with_scene("./run", front.PAGE, "--junit", ["--title", "a"]))
         for made, words, why in (
+            (made, ["--title", "a"], r"--summary takes no --title \(./run --help\)"),
             (None, ["--bogus", "f"], r"unknown option --bogus \(./run --help\)"),
             (None, ["--store", str(self.file), str(self.file)], f"cannot write {self.file}"),
             (front.PAGE, ["-o", str(self.file), str(self.file)], f"cannot write {self.file}"),
@@ -267,7 +268,7 @@ class Calls(InFolder):
         with (
             mock.patch("norigully.front.become", lambda typed, words, find: calls.append(("become", words))),
             mock.patch("norigully.front.make_page", lambda words, find: calls.append(("page", words))),
-            mock.patch("norigully.front.write_beside", lambda made, words: calls.append((made, words))),
+            mock.patch("norigully.front.write_beside", lambda typed, made, words: calls.append((made, words))),
             mock.patch(
                 "norigully.front.with_scene", lambda typed, made, option, words: has_files and [f"of{option}", *words]
             ),
@@ -295,6 +296,8 @@ class Calls(InFolder):
             ("--summary f", "--summary f"),
             ("--summary --libtest f", "--summary of--libtest f"),
             ("--annotations --follow --junit f", "--annotations --follow --junit f"),
+            ("--failed go --junit f", "--failed go of--junit f"),
+            ("--to-junit f", "--to-junit f"),
         ):
             with self.subTest(words=words):
                 found = self.do(words)
@@ -324,9 +327,9 @@ class Calls(InFolder):
             with mock.patch(
                 "norigully.front.token_for", lambda stops, token=token: token if stops == (not more) else "no"
             ):
-                with self.subTest(made=made, more=more), mock.patch("norigully.entry.write") as write:
-                    front.write_beside(made, [*more, str(self.scene)])
-            text = write.call_args[0][0]
+                with self.subTest(made=made, more=more), mock.patch("norigully.entry.write_all") as write:
+                    front.write_beside("./run", made, [*more, str(self.scene)])
+            text = "".join(write.call_args[0][0])
             self.assertTrue(text.startswith(begins) and text.count("::t") == 2 * ("::t" in begins), text)
             self.assertEqual(text[-6:], "\n::t::\n"[-6:] if "::t" in begins else text[-6:])
 

@@ -368,7 +368,7 @@ class Made(unittest.TestCase):
         facts = "".join(f"<div><dt>{name}</dt> <dd>{value}</dd></div>" for name, value in facts.items())
         self.assertIn(f">{facts}</", found)
         text = "".join(f"a {it} never immediate\n" for it in "pfgh")
-        self.assertIn(f"<pre>\nlevel pass\n{text}</pre>", found)
+        self.assertIn(f'<pre id="text">\nlevel pass\n{text}</pre>', found)
         for name in ("about", "reports", "table"):
             self.assertRegex(found, f'\n?<script type="text/plain" id="{name}">[A-Za-z0-9+/]+=*</script>\n+<')
 

@@ -68,6 +68,12 @@ TOOLS = {
         usual(3),
         takes_long=True,
     ),
+    "boost": Tool(
+        "g++ /usr/include/boost/test",
+        "g++ -DRUN_{} test.cpp -o test && ./test --logger=JUNIT,all,run.xml",
+        usual(201, expected=(0, 100)),
+        takes_long=True,
+    ),
     "doctest": Tool(
         "g++ /usr/include/doctest",
         "g++ -DRUN_{} test.cpp -o test && ./test --reporters=junit --out=run.xml",

@@ -461,11 +461,17 @@ def check_no_script(checks, folder, browser):
         browser.allow_scripts(False)
         browser.show(f"file://{file}")
         is_shown = "document.querySelector('#layout').checkVisibility()"
-        found = browser.value(f"[document.querySelector('noscript pre').textContent, {is_shown}]")
+        found = browser.value(f"[document.querySelector('#text').textContent, {is_shown}]")
         text = run([REPORT, CASES / scene]).stdout.decode()
         text = re.sub(r"[\x00-\x08\x0b-\x1f\x7f]", "", STYLE.sub("", text))
         checks.expect(found == [text, False], f"{scene} without scripts: {found[0][:300]!r} {text[:300]!r}")
         browser.allow_scripts(True)
+    # A browser that has not read the run yet shows the same.
+    silent = browser.ask("Page.addScriptToEvaluateOnNewDocument", source="window.Worker = class { postMessage() {} };")
+    browser.show(f"file://{file}")
+    browser.ask("Page.removeScriptToEvaluateOnNewDocument", **silent)
+    shown = browser.value("['text', 'layout'].map(it => document.getElementById(it).checkVisibility())")
+    checks.expect(shown == [True, False], f"the text and the rest before the run is read: {shown}")
 
 
 def paper_scene():

@@ -151,6 +151,13 @@ def check_cache(checks, room):
         what = f"{variable} on a mount without programs"
         checks.expect_line(what, barred, 1, f"run: no program can run in {place}".encode())
         checks.expect(f" noexec: let {variable} name another folder\n".encode() in barred.stderr, f"{what}: {barred}")
+    limited = ran(["/bin/bash", "-c", 'ulimit -v 2000000; exec "$0" "$@"', *words], env=environment)
+    checks.expect_line("ulimit -v", limited, 3, b"run: the limit of memory is 2000000 KB (ulimit -v), ")
+    for most in range(6, 12):
+        page = ["/bin/bash", "-c", f'ulimit -n {most}; exec "$0" --page "$@"', *words]
+        (temporary := room.folder / "temporary").mkdir(exist_ok=True)
+        ended = ran(page, env={**environment, "TMPDIR": str(temporary)})
+        checks.expect(not [*temporary.iterdir()], f"ulimit -n {most}: left {[*temporary.iterdir()]}: {ended}")
 
 
 def check_homeless(checks, room):
@@ -187,7 +194,7 @@ from norigully import entry
 def hit():
     os.kill(os.getpid(), signal.SIGTERM)
 def work():
-    with entry.Folder(dir={place!r}) as made:
+    with entry.folder(dir={place!r}) as made:
         for number in range(9):
             pathlib.Path(made, str(number)).touch()
         removes = os.unlink

@@ -10,20 +10,24 @@ from gate.run_checks import PATIENCE, ran
 from norigully import TOP
 
 TESTS, REAL = CASES / "real/tools", CASES / "real"
+PLUGINS = "/usr/share/maven-repo/org/apache/maven/plugins"
 # The tools of these commands: what runs only where the tool is, and the tests there, or None for those of Cargo.
 TOOLS = {
     "pytest": ("pytest --version", "pytest"),
     "gotestsum": ("gotestsum --version && go version", "gotestsum"),
     "ctest": ("ctest --version", "ctest"),
-    # It fetches its plugins.
-    "mvn test": ("false", None),
+    # Debian's has its plugins in a folder; another one would fetch them.
+    "mvn test": (f"mvn --version && ls {PLUGINS}/maven-surefire-plugin/2.22.3", "mvn"),
     "cargo nextest": ("cargo nextest --version", None),
     "cargo test": ("cargo --version", None),
     "scripts/run-tests": ("cargo --version", None),
 }
 LICENCES = ("LICENSE-APACHE", "LICENSE-MIT", "NOTICE")
 # What else is done before a command.
-BEFORE = {"ctest": "cmake -DRUN_{}=1 ."}
+BEFORE = {
+    "ctest": "cmake -DRUN_{}=1 .",
+    "mvn test": "mkdir -p src/test/java && mv {}/*.java src/test/java && rm -r red green",
+}
 RED, GREEN = "red", "green"
 # What is in the place of the file of a tool that is not here.
 GREEN_TEXT = {
@@ -74,11 +78,12 @@ class Typed:
             (folder / "src/lib.rs").write_text(RUST[self.kind])
 
     def put_file(self, command):
-        """The file that a tool would have written, which is not here, by the command that reads it."""
+        """Makes the file that a tool would have written, by the command that reads it, and returns where that is."""
         file = self.folder / command.split()[-1].replace("*", "a")
         file.parent.mkdir(parents=True, exist_ok=True)
         text = (REAL / f"nextest{file.suffix}" if file.suffix == ".xml" else REAL / "libtest.json").read_text()
         file.write_text(text if self.kind == RED else GREEN_TEXT[file.suffix])
+        return file
 
     def ran(self, command, **more):
         words = ["bash", "-o", "pipefail", "-c", command]
@@ -87,17 +92,23 @@ class Typed:
 
 def status_of(command, kind):
     """What the pages say of the status of a command: that of its run, but for pages and summaries."""
-    is_report = re.search(r"(?:norigully|\./run) --(?:junit|libtest|follow)", command)
-    return 100 if is_report and kind == RED else 0
+    rows = ("xargs", 123), ("do go test", 1), (r"(?:norigully|\./run) --(?:junit|libtest|follow)|^scripts/run-tests", 100)
+    found = [status for part, status in rows if re.search(part, command)]
+    return found[0] if found and kind == RED else 0
 
 
 def check_block(checks, room, number, commands, missing):
     """The commands of a block, one after another: first that of the tool, and then those that read what it wrote."""
+    # The file of an earlier run is removed first.
+    removes = commands.pop(0) if commands[0].startswith("rm ") else None
     tool = tool_of(commands[0])
     checks.expect(tool in TOOLS, f"no command is known that begins as {commands[0]}")
     for kind in (RED, GREEN) if tool in TOOLS else ():
         typed = Typed(room, f"block {number} {kind}", kind)
         typed.put_tests(tool)
+        if removes:
+            left, ended = typed.put_file(commands[1]), typed.ran(removes)
+            checks.expect(ended.returncode == 0 and not left.exists(), f"{removes}: {ended}")
         is_here = typed.ran(TOOLS[tool][0]).returncode == 0
         if not is_here:
             missing.add(tool)
@@ -142,11 +153,23 @@ def on_gitlab(typed, text):
     return ended.returncode == 0
 
 
+def on_jenkins(typed, text):
+    """Whether a pipeline of Jenkins passes: the commands of its stages up to one that fails, and all of `post`. What it
+    keeps must be there."""
+    passes = True
+    for part, is_always in zip(text.split("  post {\n"), (False, True)):
+        for block, line in re.findall(r"^ *sh (?:'''\n(.*?)'''|'(.*?)')$", part, re.M | re.S):
+            if passes or is_always:
+                passes = typed.ran(f"set -e\n{block or line}", JOB_NAME="main").returncode == 0 and passes
+    kept = re.findall(r"^ *(?:archiveArtifacts|junit) '(.*)'$", text, re.M)
+    return passes and len(kept) == 2 and all((typed.folder / it).is_file() for it in kept)
+
+
 def check_jobs(checks, room, missing):
     """The jobs of CI services fail where a test or the tool does, and leave a page in any case."""
-    jobs = re.findall(r"^```yaml\n(.*?)^```$", documents(), re.M | re.S)
-    checks.expect(len(jobs) == 2, f"the documents have {len(jobs)} jobs")
-    for text, job in zip(jobs, (on_github, on_gitlab)):
+    jobs = re.findall(r"^```(?:yaml|groovy)\n(.*?)^```$", documents(), re.M | re.S)
+    checks.expect(len(jobs) == 3, f"the documents have {len(jobs)} jobs")
+    for text, job in zip(jobs, (on_github, on_gitlab, on_jenkins)):
         for kind in (RED, GREEN, LOW):
             typed, what = Typed(room, f"{job.__name__} {kind}", kind), f"{job.__name__}, {kind}: the job"
             typed.env["NORIGULLY"] = (room.folder / "norigully.tar").as_uri()
@@ -159,7 +182,7 @@ def check_jobs(checks, room, missing):
             passes, page = job(typed, text), typed.folder / "run.html"
             checks.expect(passes == (kind == GREEN), f"{what} {'passes' if passes else 'fails'}")
             checks.expect(page.is_file() and page.stat().st_size > 9999, f"{what} has no page")
-            is_summed = job is on_gitlab or (typed.folder / "summary").is_file()
+            is_summed = job is not on_github or (typed.folder / "summary").is_file()
             checks.expect(is_summed, f"{what} has no summary")
 
 
@@ -184,6 +207,8 @@ def check_recipes(checks, room):
         checks.expect(made.returncode == 0, f"./build {words}: {made}")
     blocks = [it for it in blocks_of(documents()) if "[" not in it[0]]
     checks.expect(len(blocks) > 5, f"the documents have {len(blocks)} blocks of commands")
+    removing = [it for it in blocks if it[0].startswith("rm ") or "> run." in it[0] or "|" in it[0]]
+    checks.expect(removing == blocks, "a block of commands leaves the file of an earlier run")
     for number, commands in enumerate(blocks):
         check_block(checks, room, number, commands, missing)
     if shutil.which("curl"):

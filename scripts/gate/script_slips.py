@@ -196,7 +196,7 @@ NOTHING_IS_PROVED = (
 # Calls of people and CI services: what they write over, keep, leave, wait for, end and say is not as it should be.
 FRONT, KEPT, INSTALLED = (f"scripts/norigully/{it}.py" for it in ("front", "kept", "installed"))
 ENTRY, ATTEMPT, SHARED = (f"scripts/norigully/{it}.py" for it in ("entry", "attempt", "__init__"))
-UNPROVED, FIND, PROGRESS = (f"scripts/norigully/{it}.py" for it in ("unproved_program", "find_program", "progress"))
+UNPROVED, FIND, PROGRESS = (f"scripts/norigully/{it}.py" for it in ("unproved_build", "find_program", "progress"))
 CALLS_ARE_WRONG = (
     line("scripts/check-run-tests", "LIMIT, PATIENCE = 30, 300", "LIMIT, PATIENCE = 30, 20"),
     line(FRONT, 'fault(name, f"cannot write {store}", WRONG)', 'open(store, "a").write("more")'),

@@ -1,6 +1,6 @@
-"""Definitions of specs/ that a definition reaches: each with its file and line, in the order of a reader who goes from
-the top down. A file is read by its columns: what begins a line at its left edge declares a name or is an equation of
-the one above, and lines below it that are indented go on with it."""
+"""Definitions of specs/ that a definition reaches: each with its file and line, in an order to read them in. A file is
+read by its columns: what begins a line at its left edge declares a name or is an equation of the one above, and lines
+below it that are indented go on with it."""
 
 import functools
 import re
@@ -16,6 +16,13 @@ WORD = re.compile(r'"(?:[^"\\]|\\.)*"|[^\s(){},.;"]+')
 HEAD = re.compile(r"(?:(?:pub|abbrev|unfoldable|opaque|instance) )*(?:(record|data) )?([^\s:({]+)(?=( :)?)")
 # What carries a proof, which a reader need not see: of a module of proofs, or with a proof as its value.
 LEMMA = re.compile(r"\bunfolding\b|^\s*= refl$|∙ ap ")
+# What is read first of what a law reaches: what a report is, then the text of each kind of event, and last the text of
+# a response, which is the longest.
+REPORT, EVENTS, LAST = (
+    ("Rattle.console_reporter.specs.Report", "report"),
+    ("Rattle.console_reporter.specs.Report", "event_parts"),
+    ("Rattle.info_text.specs.Response", "info_response_text"),
+)
 
 
 def split(names):
@@ -102,35 +109,65 @@ def bare(lines):
     return [it for it in kept if it]
 
 
+def crate_of(place):
+    return place[0].path.relative_to(CRATES).parts[0]
+
+
 def is_lemma(file, name):
     text = "\n".join(bare(file.defined[name]))
     return "proofs" in file.path.parts or re.match(r"(free|ends)-", name) is not None or bool(LEMMA.search(text))
 
 
 class Reached:
-    """All definitions that one reaches: itself, then those that its own lines name, in their order, and so on, each by
-    its file and name. Lemmas are those that carry a proof, and are not followed; made are types of this repository
+    """All definitions that one reaches, itself too: each by its file and name, and below it those that its own lines
+    name, in their order. Lemmas are those that carry a proof, and are not followed; made are types of this repository
     that the kit makes of sources; other names are the kit's."""
 
     def __init__(self, module, name):
-        self.found, self.lemmas, self.made, self.of_kit = [], [], set(), set()
-        waiting, own = [place_of(module, name)], {it.name for it in CRATES.iterdir()}
-        seen = {(it.path, name) for it, name in waiting}
+        self.first, self.below, self.lemmas, self.made, self.of_kit = place_of(module, name), {}, set(), set(), set()
+        waiting, own = [self.first], {it.name for it in CRATES.iterdir()}
         while waiting:
-            file, name = waiting.pop(0)
-            if self.found and is_lemma(file, name):
-                self.lemmas.append((file, name))
+            file, name = place = waiting.pop()
+            if place in self.below or place in self.lemmas:
                 continue
-            self.found.append((file, name))
+            if place != self.first and is_lemma(file, name):
+                self.lemmas.add(place)
+                continue
+            self.below[place] = found = []
             for word in WORD.findall("\n".join(bare(file.defined[name]))):
                 for it in (word, f"◌{word}◌"):
-                    place = (file, it) if it in file.defined else it in file.taken and place_of(*file.taken[it])
-                    if place and (place[0].path, place[1]) not in seen:
-                        seen.add((place[0].path, place[1]))
-                        waiting.append(place)
-                    elif it in file.taken and not place:
+                    if to := (file, it) if it in file.defined else it in file.taken and place_of(*file.taken[it]):
+                        found.append(to)
+                    elif it in file.taken:
                         last = end_of(*file.taken[it])
                         (self.made if last[0].split(".")[1] in own else self.of_kit).add(last)
+            waiting += found
+
+    def in_order(self):
+        """The definitions as one reads them: the law, what a report is, each kind of event with all that it needs and
+        that was not read before, the rest of the law in the same way, and last responses."""
+        last, report = place_of(*LAST), self.of_crate(place_of(*REPORT))
+        found = dict.fromkeys([self.first, *report])
+        for start in (place_of(*EVENTS), *report, *self.of_crate(self.first)):
+            self.read(start, found, last)
+        self.read(last, found, None)
+        return [*found]
+
+    def of_crate(self, start):
+        """A definition and those of its crate that it reaches, the nearest first."""
+        found = [start] if start in self.below else []
+        for it in found:
+            new = (to for to in self.below[it] if to in self.below and crate_of(to) == crate_of(start))
+            found += (to for to in dict.fromkeys(new) if to not in found)
+        return found
+
+    def read(self, start, found, last):
+        """Adds a definition and, one after another, what it names with all below that."""
+        if start in self.below and start != last:
+            found.setdefault(start)
+            for it in self.below[start]:
+                if it not in found:
+                    self.read(it, found, last)
 
 
 def sizes(found):

@@ -6,10 +6,11 @@ import json
 import re
 
 from norigully import TOP, kept
+from norigully.crate_list import lines_of
 
-RECORD = TOP / "docs/PROOF.md"
+RECORD = "docs/PROOF.md"
 BLOCK = re.compile(r"^```kit\n(.*?)^```$", re.M | re.S)
-LIBRARIES = "statements of the kit's libraries, loaded as the kit has them:"
+LIBRARIES, MISSING = "statements of the kit's libraries, loaded as the kit has them:", "not said here:"
 # What a proof says of its own size. What else its last line has may be what it rests on.
 OWN = ("logic", "functions", "tests", "sum")
 # Of how many crates it is kept what the kit said, for those whose proofs an earlier run kept.
@@ -35,6 +36,9 @@ class Trust:
         """Reads a line of `rt ci`, which heads what it says of a crate by `== NAME`."""
         if line.startswith("== "):
             self.crate, self.lines, self.loaded = line[3:].strip(), [], []
+        elif line.startswith("rt: "):
+            # A check that was killed for memory is made once more.
+            self.lines, self.loaded = [], []
         elif found := re.match(r"logic \S+: (libraries=\d+ files=\d+ sum=\w{16})", line):
             self.lines.append(f"logic: {found[1]}, loaded as the kit has it")
         elif found := re.match(r"statements (\w+): modules loaded=(\d+) checked=(\d+)", line):
@@ -50,6 +54,7 @@ class Trust:
         """Keeps what was said of a crate, by the sum of all that its proof rests on."""
         if name in self.said:
             self.before.keep(sum_of, json.dumps(self.said[name]).encode())
+            self.before.shrink()
 
     def take(self, name, sum_of):
         """Takes what an earlier run read of a crate, whose proof is kept."""
@@ -71,7 +76,7 @@ class Trust:
         for (first, *more), names in groups.items():
             told += [f"{', '.join(names)}: {first}", *(f"  {it}" for it in more)]
         if missing := self.names - self.said.keys():
-            told += folded("not said here:", sorted(missing))
+            told += folded(MISSING, sorted(missing))
         return "".join(f"{it}\n" for it in told)
 
 
@@ -86,15 +91,28 @@ def folded(first, names):
 
 
 def why_other(text):
-    """Why what the kit said is not what the document has, or None. Of what was not said here nothing is compared but
-    that each line is there."""
-    found = BLOCK.search(RECORD.read_text())
+    """Why what the kit said is not what the document has, or None. Where it was said of some crates alone, of each of
+    these the document must say the same."""
+    found = BLOCK.search((TOP / RECORD).read_text())
     recorded = found[1] if found else ""
     if text == recorded:
         return None
-    if "\nnot said here" in text:
-        here = text.partition("\nnot said here")[0].splitlines()
-        wrong = [it for it in here if it not in recorded.splitlines() and not it.startswith((LIBRARIES, "  "))]
-        return f"{RECORD}: its block has no line `{wrong[0]}`" if wrong else None
+    _, is_missing, names = text.partition(f"\n{MISSING}")
+    if is_missing:
+        said = (it for it in lines_of() if it not in names.split())
+        other = [it for it in said if rests_of(it, text) != rests_of(it, recorded)]
+        return f"{RECORD}: its block ```kit does not say what the kit says of {', '.join(other)}" if other else None
     wrong = [it for it in recorded.splitlines() if it not in text.splitlines()]
     return f"{RECORD}: its block ```kit is not what the kit says{f': it has `{wrong[0]}`' if wrong else ''}"
+
+
+def rests_of(name, text):
+    """All words of such a block that are of a crate."""
+    words, is_of = set(), False
+    for line in text.splitlines():
+        if not line.startswith(" "):
+            names = line.partition(": ")[0].split(", ")
+            is_of = name in names or not {*names} & lines_of().keys() and not line.startswith((LIBRARIES, MISSING))
+            line = line.partition(": ")[2] if name in names or names == ["all crates"] else line
+        words.update(line.split() if is_of else ())
+    return words

@@ -7,6 +7,7 @@ import re
 from norigully import entry
 from norigully.entry import Bad
 from norigully.page_scene import FIELDS_BEFORE, FIELDS_OF_AN_ATTEMPT, PASSED, SLOWEST, number_of, plain, spoken
+from norigully.recorded import RecordedRun
 
 # Of a run so many failures are shown, of each stream of one so many lines at its beginning and at its end, and so many
 # characters of a line and of a name.
@@ -94,21 +95,25 @@ class Summary:
             raise Bad(wrong) from error
 
     def read_test(self, number, fields):
-        last, count = fields[-FIELDS_OF_AN_ATTEMPT:], len(fields) - FIELDS_BEFORE
+        count = len(fields) - FIELDS_BEFORE
         if count <= 0 or count % FIELDS_OF_AN_ATTEMPT:
             raise ValueError
-        names, was_retried = fields[2:4], count > FIELDS_OF_AN_ATTEMPT
-        if last[0] in PASSED and not was_retried:
-            pass
-        elif last[0] in PASSED and fields[6] != b"fail":
-            self.flakes += 1
-            if len(self.flaky) < MOST:
-                self.flaky.append(Failure(names, *attempts_in(fields)[:-1]))
-        else:
-            self.fail(Failure(names, *attempts_in(fields)[: -1 if last[0] in PASSED else None]))
+        names, attempts = fields[2:4], attempts_in(fields)
+        has_passed = attempts[-1][0] in PASSED
+        self.take(names, attempts, not has_passed or (len(attempts) > 1 and fields[6] == b"fail"))
+        last = attempts[-1]
         heapq.heappush(self.slowest, (number_of(last[1]), -number, " ".join(map(plain, names))))
         if len(self.slowest) > SLOWEST:
             heapq.heappop(self.slowest)
+
+    def take(self, names, attempts, has_failed):
+        """Takes a test."""
+        if has_failed:
+            self.fail(Failure(names, *attempts[: -1 if attempts[-1][0] in PASSED else None]))
+        elif len(attempts) > 1:
+            self.flakes += 1
+            if len(self.flaky) < MOST:
+                self.flaky.append(Failure(names, *attempts[:-1]))
 
     def fail(self, failure):
         self.failed += 1
@@ -224,11 +229,19 @@ def property_of(text):
     return message_of(UNSEEN.sub("", text)).replace(":", "%3A").replace(",", "%2C")
 
 
-def made_of(word, words):
+def made_of(word, words, _say):
     """What the first word asks for, of a scene."""
-    if len(words) != 1 or (words[0].startswith("-") and words[0] != "-"):
-        raise Bad(f"{word} needs a FILE, which is the last word")
-    summary = Summary("standard input" if words[0] == "-" else words[0])
-    for number, line in enumerate(entry.lines_of(words[0]), 1):
-        summary.read(number, line)
-    return "".join(summary.markdown() if word == "--summary" else summary.annotations())
+    summary = read_run(Summary, word, words)
+    return summary.markdown() if word == "--summary" else summary.annotations()
+
+
+def read_run(kind, word, words):
+    """What the lines of a run say: of a scene, or of a recorded run behind `--recorded`."""
+    is_recorded, files = words[:1] == ["--recorded"], words[words[:1] == ["--recorded"] :]
+    if len(files) != 1 or (files[0].startswith("-") and files[0] != "-"):
+        is_option = files and files[0].startswith("-") and files[0] != "-"
+        raise Bad(f"{word} takes no {files[0]}" if is_option else f"{word} needs a FILE, which is the last word")
+    found = kind("standard input" if files[0] == "-" else files[0])
+    for number, line in enumerate(RecordedRun(files[0]).scene() if is_recorded else entry.lines_of(files[0]), 1):
+        found.read(number, line)
+    return found

@@ -6,9 +6,7 @@ import os
 import re
 import select
 import signal
-import subprocess
 import sys
-import tempfile
 import time
 
 NOT_BUILT, WRONG, FAILED = 1, 2, 3
@@ -114,21 +112,23 @@ def uncut():
             raise Signal
 
 
-class Folder(tempfile.TemporaryDirectory):
+@contextlib.contextmanager
+def folder(**how):
     """A temporary folder, of which a signal leaves nothing, nor does a process that can open no more files: to remove
     it takes two."""
+    # ./run imports this each time, and mostly makes no folder.
+    import tempfile
 
-    def __init__(self, *words, **how):
-        super().__init__(*words, **how)
-        self.spare = []
+    made, spare = tempfile.TemporaryDirectory(**how), []
+    try:
         with contextlib.suppress(OSError):
-            self.spare += [os.open("/", os.O_RDONLY) for _ in range(2)]
-
-    def cleanup(self):
+            spare += [os.open("/", os.O_RDONLY) for _ in range(2)]
+        yield made.name
+    finally:
         with uncut():
-            while self.spare:
-                os.close(self.spare.pop())
-            super().cleanup()
+            for it in spare:
+                os.close(it)
+            made.cleanup()
 
 
 def fill_standard_descriptors():
@@ -219,6 +219,8 @@ def is_same_file(path, other):
 @contextlib.contextmanager
 def started(command, **how):
     """A process that ends with all that it started where this is left by a fault or a signal."""
+    import subprocess
+
     child = None
     try:
         # A signal that comes before it has begun comes behind that.

@@ -9,11 +9,9 @@ import importlib
 import itertools
 import os
 import re
-import secrets
 import signal
 import stat
 import sys
-import tempfile
 
 from norigully import VERSION, entry, print_help_if_asked
 from norigully.entry import ERROR, INPUT, OUTPUT, WRONG, Bad, NotBuilt, NotWritten, is_same_file
@@ -23,7 +21,15 @@ from norigully.words import options_of, settings_of, usage, why_wrong
 PROGRAMS = {"--follow": "follow", "--recorded": "replay"}
 # The first words that make something else of a run than its report, and those of files of other tools, of which a
 # scene is made.
-PAGE, SUMMARY, ANNOTATIONS = "--page", "--summary", "--annotations"
+PAGE, SUMMARY, FAILED = "--page", "--summary", "--failed"
+# The module of each, and the options that it takes.
+MADE = {
+    PAGE: ("page", ("-o", "--title", "--choices")),
+    SUMMARY: ("ci_summary", ()),
+    "--annotations": ("ci_summary", ()),
+    FAILED: ("failed_tests", ()),
+    "--to-junit": ("to_junit", ()),
+}
 CONVERTERS = {"--junit": "norigully.junit", "--libtest": "norigully.libtest_json"}
 # Lines by which cargo and libtest are known.
 LIBTEST = re.compile(rb'^\{\s*("type"\s*:\s*"suite"|"reason"\s*:\s*"compiler-)', re.M)
@@ -159,20 +165,25 @@ def make_page(words, find):
         raise NotWritten(*error.args) from error
 
 
-def write_beside(made, words):
-    """Writes a summary, in which GitHub takes no line for a command where it goes to the log, or annotations, which are
-    commands."""
-    text = importlib.import_module("norigully.ci_summary").made_of(made, [it for it in words if it != UNSTOPPED])
-    token = token_for(UNSTOPPED not in words) if made != ANNOTATIONS else None
-    entry.write(f"::stop-commands::{token}\n{text}::{token}::\n" if token else text)
+def write_beside(typed, made, words):
+    """Writes a summary, in which GitHub takes no line for a command where it goes to the log, or what else is made."""
+    if "--recorded" in words[:-1]:
+        importlib.import_module("norigully.recorded").quick_sums()
+    say = functools.partial(entry.fault, typed, status=0)
+    made_of = importlib.import_module(f"norigully.{MADE[made][0]}").made_of
+    pieces = made_of(made, [it for it in words if it != UNSTOPPED], say)
+    token = token_for(UNSTOPPED not in words) if made == SUMMARY else None
+    entry.write_all([f"::stop-commands::{token}\n", *pieces, f"::{token}::\n"] if token else pieces)
 
 
 def with_scene(typed, made, converter, words):
     """The words with - in place of the files of another tool, of which standard input is the scene from here on; None
     where they name no file."""
-    settings, words = settings_of(words)
+    settings, words = ([], words) if made else settings_of(words)
     at = 0
     while at < len(words) and words[at].startswith("-") and words[at] != "-":
+        if made and words[at] not in (*MADE[made][1], UNSTOPPED):
+            raise Bad(f"{made} takes no {words[at]} ({typed} --help)")
         at += 2 if words[at] in ("--level", "--store", "-o", "--title", "--choices") else 1
     files = words[at:]
     # An option that nobody knows is named before its value is taken for a file.
@@ -183,6 +194,8 @@ def with_scene(typed, made, converter, words):
             raise Bad(f"cannot write {to}")
     if not files:
         return None
+    import tempfile
+
     say = functools.partial(entry.fault, typed, status=0)
     lines = importlib.import_module(CONVERTERS[converter]).convert(files, say)
     lines = itertools.chain(settings, lines)
@@ -206,8 +219,10 @@ def do(typed, words, kit_line, find):
         about = f"norigully {VERSION}, the console reporter of nextest-runner 0.129.0 with a proof\n"
         entry.write(about + kit_line())
         return
-    made = words[0] if words and words[0] in (PAGE, SUMMARY, ANNOTATIONS) else None
+    made = words[0] if words and words[0] in MADE else None
     words = words[made is not None :]
+    # The tool for which the names are.
+    tool, words = (words[:1], words[1:]) if made == FAILED else ([], words)
     # Results of other tools are followed in any case: the status is that of their run.
     if made is None and words[:1] == ["--follow"] and words[1:2] and words[1] in CONVERTERS:
         del words[0]
@@ -223,7 +238,7 @@ def do(typed, words, kit_line, find):
         if made == PAGE:
             make_page(words, find)
         else:
-            write_beside(made, words)
+            write_beside(typed, made, [*tool, *words])
     except Bad as error:
         looks = looks_like(words[-1]) if words and words[-1] != "-" else None
         raise Bad(f"{error}: {looks}" if looks else str(error)) from error
@@ -262,7 +277,7 @@ def token_for(stops_commands):
     GitHub takes no line for a command, and a test may print one. None elsewhere."""
     kinds = stat.S_ISFIFO, stat.S_ISSOCK, stat.S_ISCHR
     is_log = os.environ.get("GITHUB_ACTIONS") and any(it(os.fstat(OUTPUT).st_mode) for it in kinds)
-    return secrets.token_hex(16) if is_log and stops_commands else None
+    return os.urandom(16).hex() if is_log and stops_commands else None
 
 
 def ended(child, typed, what, token):

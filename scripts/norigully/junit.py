@@ -1,5 +1,6 @@
 """JUnit XML, as the tools write it that docs/REAL_RUNS.md lists, and the scene of it."""
 
+import html
 import os
 import re
 import stat
@@ -31,10 +32,11 @@ DURATION = re.compile(r"\s*duration_ms (\d+(?:\.\d+)?)\s*", re.A)
 JUNK, ANOTHER = 9, re.compile(rb"<(?:\?xml|testsuites?)\b")
 FAILED, FAILURES = ("failure", "error"), ("failures", "errors")
 FLAKY = ("flakyFailure", "flakyError")
-EARLIER = (*FLAKY, "rerunFailure", "rerunError")
+RERUN = ("rerunFailure", "rerunError")
+EARLIER = (*FLAKY, *RERUN)
 STREAMS = ("system-out", "system-err")
 # What may be in each element; text may be in all.
-IN_SUITES = {"testsuite", "testcase", "properties", *STREAMS, *FAILED}
+IN_SUITES = {"testsuites", "testsuite", "testcase", "properties", *STREAMS, *FAILED}
 INSIDE = {
     None: {"testsuites", "testsuite"},
     **dict.fromkeys(("testsuites", "testsuite"), IN_SUITES),
@@ -50,21 +52,27 @@ ATTRIBUTES = {
     *("skip", "tag", "doctest_version"),
 }
 MAY_FAIL = "TEST_CASE tagged with !mayfail"
-# By what `status` or `result` a test without an element has not failed. Any other word is that of a failure: none is
-# green that nobody knows.
-GOOD = {
-    *("", "run", "pass", "passed", "ok", "success", "successful", "succeeded", "complete", "completed", "done", "fixed"),
-    *("finished", "executed", "true", "skip", "skipped", "ignored", "pending", "todo", "disabled", "notrun", "suppressed"),
-    *("untested", "xfail", "xfailed", "0"),
+# What `status` or `result` says of a test that did not run, and of one that passed, without spaces and hyphens. Any
+# other word is that of a failure: none is green that nobody knows. QTest's BLACKLIST has those with a `b` in front.
+NOT_RUN = {
+    *("skip", "skipped", "ignored", "pending", "todo", "disabled", "notrun", "norun", "notexecuted", "suppressed"),
+    *("untested", "filtered", "excluded", "inconclusive"),
 }
-# By which of them it did not run.
-NOT_RUN = ("disabled", "notrun", "skipped")
+GOOD = NOT_RUN | {
+    *("", "run", "pass", "passed", "ok", "success", "successful", "succeeded", "complete", "completed", "done"),
+    *("fixed", "finished", "executed", "true", "xfail", "xfailed", "expected", "flaky", "focused", "warning", "warned", "0"),
+    *("bpass", "bfail", "bxpass", "bxfail"),
+}
+STATES, PARTED = ("status", "result"), re.compile(r"[\s_-]+")
 # Tools that say something in another way than all others, as their files name them.
 QTEST, DOCTEST, CPPLINT, NOSE2 = "QTest", "doctest", "cpplint", "nose2-junit"
 # What fails a run of nose2, and what fails none of prove.
 UNEXPECTED, TODO_PASSED = "test passes unexpectedly", "TodoTestSucceeded"
 # What is said of a test of which there is a time and no more: so pytest leaves one in which it was interrupted.
 INTERRUPTED = "The file has no name of this test, as pytest leaves one in which it was interrupted."
+# What QTest 5 writes of a message in a test, and Node of an error after the end of one.
+MESSAGE = re.compile(r' message="(.*)" type="\w+" ', re.DOTALL)
+LATE = re.compile(r" (Error|Warning): .* generated asynchronous activity after the test ended\.", re.DOTALL)
 # Suites in suites: more are no test results.
 DEEPEST = 100
 # Of what was left out so many names are said, and so much of each.
@@ -103,7 +111,7 @@ class Suite(Failures):
         """The failures and errors of all suites in it where it counts none itself. The errors of QTest are messages,
         and so is all that cpplint counts, of which a failure has those of a file."""
         failures, errors = self.counts if any(self.counts) else self.sums
-        return [0, 0] if self.tool == CPPLINT else [failures, 0 if self.tool == QTEST else errors]
+        return [0, 0] if self.tool == CPPLINT and self.has_failed else [failures, 0 if self.tool == QTEST else errors]
 
 
 class Tree:
@@ -170,7 +178,8 @@ class Tree:
 
     def read_property(self, attributes):
         # What Qt 6 writes is as that of others.
-        if attributes.get("name") == "QTestVersion" and attributes.get("value", "").startswith(("4.", "5.")):
+        version = attributes.get("value", "") if attributes.get("name") == "QTestVersion" else ""
+        if self.within[-2] in INSIDE[None] and version.startswith(("4.", "5.")):
             self.suites[-1].tool = QTEST
 
     def end(self, _tag):
@@ -228,12 +237,22 @@ class Tree:
         around.sums = [*map(int.__add__, around.sums, counted)]
         around.elements.update(suite.elements)
         around.tests, around.found = around.tests + suite.tests, around.found + suite.found
-        self.left_out.update(("element", it.tag) for it in wrote if suite.has_failed)
+        if suite.tool != QTEST:
+            self.left_out.update(("element", it.tag) for it in wrote if suite.has_failed)
         element.clear()
 
     def comment(self, text):
-        if self.open and (found := DURATION.fullmatch(text)):
+        if not self.open:
+            return
+        if found := DURATION.fullmatch(text):
             self.scene.files[-1].took = int(nanos(found[1])) // 1000
+        elif self.within[-1] == "testcase" and self.suites[-1].tool == QTEST and (found := MESSAGE.fullmatch(text)):
+            # What QTest's messages say is in their test as comments, and once more in what the suite wrote.
+            self.builder.start("system-err", {})
+            self.builder.data(f"{html.unescape(found[1])}\n")
+            self.builder.end("system-err")
+        elif self.within[-1] in INSIDE[None] and LATE.match(text):
+            self.scene.files[-1].late.append(text.strip())
 
     def doctype(self, *_):
         raise Bad(f"{self.file}: a document type, which JUnit XML has no use for")
@@ -399,11 +418,11 @@ def not_started(case):
 def is_skipped(case):
     """Whether a test did not run: it has an element that says so, or the state by which ctest and GoogleTest say it.
     One that failed, too, has failed, unless it may."""
-    is_stated = case.get("status") in NOT_RUN or case.get("result") == "skipped"
+    is_stated = any(state_of(case, it) in NOT_RUN for it in STATES)
     if not len(case):
         return is_stated
     skipped = first(case, "skipped")
-    if first(case, *FAILED) is not None:
+    if first(case, *FAILED, *RERUN) is not None:
         return may_fail(skipped)
     return not_started(case) is None and (skipped is not None or is_stated)
 
@@ -422,6 +441,8 @@ class File(Failures):
         self.nanos, self.longest = 0, 0
         # Its counts that are no numbers.
         self.unread = []
+        # What Node says of errors after the end of a test, which fail its run.
+        self.late = []
 
     def suite(self, attributes):
         self.times.append(int(nanos(seconds_of(attributes))))
@@ -437,13 +458,18 @@ class File(Failures):
             tree.SubElement(case, "skipped")
         elif tool == NOSE2 and skipped is not None and skipped.get("message") == UNEXPECTED:
             skipped.tag = "failure"
-        elif first(case, "skipped", *FAILED) is None and (stated := stated_failure(case)):
+        elif not any(it.tag in ("skipped", *FAILED) and not is_passed_todo(it) for it in case) and (
+            stated := stated_failure(case)
+        ):
             tree.SubElement(case, "failure", message=f"The file says {stated} of this test, and no more.")
         found = [it.tag for it in case if it.tag in (*FAILED, *EARLIER)]
+        if tool == QTEST and case.get("result") in ("bfail", "bxpass"):
+            # QTest counts what is named in its BLACKLIST, and does not fail for it.
+            found = found or ["failure"]
         if tool != CPPLINT and (skipped is None or skipped.get("message") != MAY_FAIL):
             Failures.add(self, found)
             Failures.add(suite, found)
-        for it in [it for it in case if tool == DOCTEST and it.get("type") == "WARN" or is_passed_todo(it)]:
+        for it in [it for it in case if tool == DOCTEST and is_warning(it) or is_passed_todo(it)]:
             case.remove(it)
         if case.keys() == ["time"] and not len(case):
             tree.SubElement(case, "failure", message=INTERRUPTED)
@@ -469,10 +495,19 @@ def tool_of(attributes):
 
 def stated_failure(case):
     """The attribute by which a test has failed, as it is in the file; None where there is none."""
-    for name in ("status", "result"):
-        if (value := case.get(name)) and value.strip().lower() not in GOOD:
-            return f'{name}="{value[:LONGEST]}"'
+    for name in STATES:
+        if state_of(case, name) not in GOOD:
+            return f'{name}="{case.get(name)[:LONGEST]}"'
     return None
+
+
+def state_of(case, name):
+    return PARTED.sub("", value.lower()) if (value := case.get(name)) else ""
+
+
+def is_warning(element):
+    """Whether a failure is none for doctest."""
+    return element.tag == "failure" and element.get("type") == "WARN"
 
 
 def is_passed_todo(element):
@@ -535,6 +570,8 @@ class Scene:
             self.no_test(file.name or name, f"The file counts {number_of(lost)} that no test in it has.\n")
         elif file.unread and not file.tests and not accused:
             self.no_test(file.name or name, f"The file has {', '.join(file.unread[:SAID])}, which is no count.\n")
+        elif file.late and not file.tests and not accused:
+            self.no_test(file.name or name, "\n".join([*file.late[:SAID], ""]))
 
     def no_test(self, binary, said, wrote=(None, None)):
         out, err = wrote

@@ -140,7 +140,7 @@ class Kept:
         """Keeps these bytes. No other run meets half of them."""
         with self.opened() as at, contextlib.suppress(OSError):
             if at:
-                with entry.Folder(dir=at) as made:
+                with entry.folder(dir=at) as made:
                     new = pathlib.Path(made, name)
                     with open(new, "xb", opener=lambda path, flags: os.open(path, flags, mode)) as file:
                         file.write(found)

@@ -5,7 +5,6 @@ import functools
 import os
 import pathlib
 import shutil
-import subprocess
 import sys
 
 # Proofs hold for every kit of this logic, whatever its own name is (`rt version` prints both).
@@ -27,6 +26,8 @@ def identity():
 
 def version():
     """What `rt version` prints, as `rattle-kit-13f logic dac8208d650f15bf`; None where there is no `rt`."""
+    import subprocess
+
     if not shutil.which("rt"):
         return None
     ran = subprocess.run(["rt", "version"], stdin=subprocess.DEVNULL, capture_output=True, text=True, errors="replace")

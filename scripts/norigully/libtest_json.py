@@ -11,8 +11,8 @@ from norigully.scene_lines import UNKNOWN_FAILURE, Attempt, WholeRun, nanos, sig
 HASHED = re.compile(r"(.{1,255})-[0-9a-f]{16}(?:\.exe)?")
 DOC_TESTS = re.compile(r"\s*Doc-tests (\S+)")
 DIED = "process didn't exit successfully: "
-# What cargo says of a binary that failed, once that has ended.
-ACCUSED = re.compile(r"error: (?:doc)?test failed, to rerun pass ")
+# What cargo says of a binary that failed, once that has ended, or one of the older doc tests says itself.
+ACCUSED = re.compile(r"error: (?:(?:doc)?test|bench) failed, to rerun |test result: FAILED")
 ENDED_BY = re.compile(r" \((?:signal: (\d{1,9})|exit status: (\d{1,9}))\b", re.A)
 OWN = re.compile(r'\{\s*"type"\s*:\s*"(?:suite|test)"')
 DECODE = json.JSONDecoder().scan_once  # type: ignore[attr-defined]  # not documented: it says where a value ends
@@ -28,8 +28,13 @@ class Reader:
         self.binary_ids, self.suites, self.run, self.slow = {}, 0, WholeRun(), set()
         self.binary, self.total, self.began = "unknown", 0, {}
         self.nanos, self.ignored, self.is_of_go = 0, 0, False
-        # Whether a suite is under way, whether a test of it has failed, and how a binary ended that is said to have.
-        self.is_within, self.has_failed, self.accused = False, False, None
+        # Whether a suite is under way, whether a test of it has failed, whether its binary is said to have, and how it
+        # ended.
+        self.is_within, self.has_failed, self.accused, self.ended = False, False, False, None
+        # The tests that the suites have, and those under way without the ones that ended.
+        self.counted, self.left = 0, 0
+        # What the compiler says of each target that it could not build.
+        self.unbuilt = {}
 
     def line(self, line):
         if (event := event_in(line)) is not None:
@@ -38,35 +43,30 @@ class Reader:
             self.begin(self.binary_ids.get(binary[0], binary[1]))
         elif doc := DOC_TESTS.match(line):
             self.begin(f"{doc[1]}::doc")
-        elif ACCUSED.match(line) and not self.is_within:
-            self.accused = UNKNOWN_FAILURE
+        elif ACCUSED.match(line):
+            self.accused = True
         elif DIED in line:
-            ended = None
+            self.ended = UNKNOWN_FAILURE
             for ended in ENDED_BY.finditer(line, line.index(DIED)):
-                pass
-            if ended:
-                self.died(signal_result(int(ended[1])) if ended[1] else f"fail:{ended[2]}")
-
-    def died(self, result):
-        """Where a test ends its process, each test that had begun is said to have ended so: which one did it is not
-        known."""
-        if self.accused and not self.began:
-            self.accused = result
-        for place in self.began:
-            self.done(place, result, None, "")
-        self.began = {}
+                self.ended = signal_result(int(ended[1])) if ended[1] else f"fail:{ended[2]}"
 
     def begin(self, binary):
-        """The next binary. The one before may have failed without a test that did: it has a harness of its own, or it
-        ended before its first test or behind its last."""
+        """The next binary."""
         self.settle()
         self.binary, self.is_within, self.has_failed = binary, False, False
 
     def settle(self):
-        if self.accused and not self.has_failed:
+        """What the binary before came to. Where a test ended its process, each that had begun is said to have ended so:
+        which one did it is not known. It may have failed without a test that did: it has a harness of its own, or it
+        ended before its first test or behind its last."""
+        for place in self.began if self.ended else ():
+            self.end_one()
+            self.done(place, self.ended, None, "")
+        if (self.accused or self.ended) and not self.has_failed:
             self.total += 1
-            self.done((self.binary, "[no test]"), self.accused, None, "It failed, and no test in it has.\n")
-        self.accused = None
+            why = "It failed, and no test in it has.\n"
+            self.done((self.binary, "[no test]"), self.ended or UNKNOWN_FAILURE, None, why)
+        self.began, self.accused, self.ended = {}, False, None
 
     def place(self, name):
         """The binary and the test of an event: nextest's JSON has both in the name."""
@@ -83,25 +83,45 @@ class Reader:
             self.binary_ids[file_in(text_of(event, "executable"))] = binary_id(package, target)
         elif kind == "suite" and what == "started":
             self.suites += 1
-            self.total += whole(event["test_count"])
+            if not self.is_within:
+                self.settle()
+            count = whole(event["test_count"])
+            self.total, self.counted = self.total + count, self.counted + count
+            self.left = count + (self.left if self.is_within else 0)
             self.began, self.is_within, self.has_failed = {}, True, False
         elif kind == "suite":
-            self.is_within = False
+            if self.is_within:
+                # What was said before was printed by a test.
+                self.is_within, self.accused, self.ended, self.began = False, False, None, {}
             if what == "failed":
-                self.accused = UNKNOWN_FAILURE
+                self.accused = True
                 self.settle()
             self.nanos += int(nanos(event.get("exec_time")))
         elif kind == "test":
             self.test(self.place(text_of(event, "name")), what, event)
+        elif event.get("reason") == "compiler-message" and event["message"]["level"].startswith("error"):
+            target = binary_id(package_of(text_of(event, "package_id")), event["target"])
+            self.unbuilt.setdefault(target, []).append(text_of(event["message"], "rendered"))
+        elif event.get("reason") == "build-finished" and event.get("success") is False:
+            # Then cargo starts no test. Another run of it may be before.
+            self.begin("cargo")
+            for target, said in (self.unbuilt or {"cargo": ["It could not be built.\n"]}).items():
+                self.suites, self.total = self.suites + 1, self.total + 1
+                self.done((target, "[no test]"), UNKNOWN_FAILURE, None, "".join(said))
+            self.unbuilt = {}
         elif "Action" in event and "Package" in event:
             self.is_of_go = True
         elif kind == "bench":
             # One that ended well; its time is none of a test.
-            self.done(self.place(text_of(event, "name")), "pass", None, "")
+            place = self.place(text_of(event, "name"))
+            self.began.pop(place, None)
+            self.end_one()
+            self.done(place, "pass", None, "")
 
     def test(self, place, what, event):
         if what == "started":
-            self.began[place] = True
+            if self.is_within:
+                self.began[place] = True
             return
         if what not in ENDS:
             raise ValueError(what)
@@ -112,12 +132,19 @@ class Reader:
             self.run.slow(*place, 1, 1, SLOW_AFTER)
             return
         self.began.pop(place, None)
+        self.end_one()
         if what == "ignored":
             self.total -= 1
             self.ignored += 1
             self.run.skip(*place)
         else:
             self.done(place, "pass" if what == "ok" else UNKNOWN_FAILURE, event.get("exec_time"), "\n".join(wrote))
+
+    def end_one(self):
+        """Counts a test that ended. One more than its suite has makes good for none that another suite lost."""
+        self.left -= 1
+        if self.left < 0:
+            self.total, self.left = self.total + 1, 0
 
     def done(self, place, result, seconds, wrote):
         self.has_failed |= result != "pass"
@@ -181,7 +208,7 @@ def read(lines, name):
         if reader.is_of_go:
             why = "it is of `go test -json`, of which `gotestsum --junitfile run.xml` makes what --junit reads"
         raise Bad(f"{name}: no suite of tests in it: {why}")
-    if reader.total < 0:
+    if reader.ignored > reader.counted:
         raise Bad(f"{name}: more tests are ignored than its suites have")
     return reader
 

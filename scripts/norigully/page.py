@@ -280,7 +280,7 @@ def main(words, find):
         raise Bad(f"usage: page {USAGE}")
     if asked.to is not None and (not can_be_written(asked.to) or any(is_same_file(asked.to, it) for it in asked.files)):
         raise Bad(f"cannot write {asked.to}")
-    with entry.Folder(prefix="norigully-") as folder:
+    with entry.folder(prefix="norigully-") as folder:
         made = Path(folder, "page")
         with open(made, "wb") as file:
             make(Run(asked, Path(folder), find), file)

@@ -38,10 +38,9 @@ def sum_of_sources(name, top=TOP):
         folder, files = sources_of(crate, top)
         for file in files:
             # Each ./run does this: a path object a file would take as long as the rest.
-            with open(f"{folder}/{file}", "rb") as source:
+            with open(f"{folder}/{file}", "rb", buffering=0) as source:
                 text = source.read()
-            found.update(f"{file} {len(text)}\n".encode())
-            found.update(text)
+            found.update(f"{file} {len(text)}\n".encode() + text)
     return found.hexdigest()
 
 
@@ -91,7 +90,7 @@ def put_all(files):
     stays."""
     folder = next(iter(files)).parent
     folder.mkdir(parents=True, exist_ok=True)
-    with entry.Folder(dir=folder) as made:
+    with entry.folder(dir=folder) as made:
         for to, (text, mode) in files.items():
             check_place(to)
             new = pathlib.Path(made, to.name)

@@ -225,7 +225,7 @@ class WholeRun(Run):
     TOTAL, PIECE = "\0", 1 << 20
 
     def __init__(self):
-        self.kept, self.counts, self.texts = tempfile.SpooledTemporaryFile(16 * self.PIECE), {}, {}
+        self.kept, self.counts, self.texts = None, {}, {}
         # The last lines, and their characters.
         self.last, self.size = [], 0
         self.count_as("initial", self.TOTAL)
@@ -237,6 +237,7 @@ class WholeRun(Run):
             self.keep()
 
     def keep(self):
+        self.kept = self.kept or tempfile.SpooledTemporaryFile(16 * self.PIECE)
         self.kept.write(encoded("".join(self.last)))
         self.last, self.size = [], 0
 
@@ -254,10 +255,11 @@ class WholeRun(Run):
         # Statistics leave out what is 0, and are `-` where all is.
         changes = {self.TOTAL: str(total)} if total else {f"initial={self.TOTAL} ": "", f"initial={self.TOTAL}": "-"}
         self.keep()
-        self.kept.seek(0)
-        while piece := self.kept.read(self.PIECE):
-            if not piece.endswith(b"\n"):
-                piece += self.kept.readline()
-            for pattern, number in changes.items():
-                piece = piece.replace(pattern.encode(), number.encode())
-            yield piece
+        with self.kept:
+            self.kept.seek(0)
+            while piece := self.kept.read(self.PIECE):
+                if not piece.endswith(b"\n"):
+                    piece += self.kept.readline()
+                for pattern, number in changes.items():
+                    piece = piece.replace(pattern.encode(), number.encode())
+                yield piece

@@ -2,7 +2,6 @@
 the programs' own."""
 
 import os
-from dataclasses import dataclass, field
 
 from norigully.entry import Bad
 
@@ -29,7 +28,11 @@ OF_RUN = ("--no-color", "--no-stop-commands")
 FIRST, ONLY = "the first word where it is used", "used alone"
 ALONE = {**dict.fromkeys(("--help", "-h", "--version", "-V"), ONLY)}
 ALONE |= dict.fromkeys(
-    ("--follow", "--recorded", "--page", "--summary", "--annotations", "--junit", "--libtest"), FIRST
+    (
+        *("--follow", "--recorded", "--page", "--summary", "--annotations", "--failed", "--to-junit"),
+        *("--junit", "--libtest"),
+    ),
+    FIRST,
 )
 # The files in the folder of a recorded run.
 FILES_OF_RUN = ("run.scene", "outputs")
@@ -58,18 +61,15 @@ def settings_of(words):
     return lines, rest + words[at:]
 
 
-@dataclass
 class Options:
     """What words ask of a program: the options before the file, and the file, which is the folder for `replay`; None
     where `follow` reads standard input without an option that says so."""
 
-    program: str
-    given: list = field(default_factory=list)
-    store_at: int | None = None
-    file: str | None = None
-    # ./run gives the programs colours on a terminal, and stops GitHub's commands, unless asked not to.
-    wants_color: bool = True
-    stops_commands: bool = True
+    # No dataclass: each ./run would import `inspect` for it.
+    def __init__(self, program):
+        self.program, self.given, self.store_at, self.file = program, [], None, None
+        # ./run gives the programs colours on a terminal, and stops GitHub's commands, unless asked not to.
+        self.wants_color = self.stops_commands = True
 
     @property
     def reads_input(self):

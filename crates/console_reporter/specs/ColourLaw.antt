@@ -9,7 +9,8 @@ use Rattle.console_reporter.specs.{Stored.stored_at, PlainCalls.ArePlain, PlainC
 abbrev pub in_colour : Bool → Configuration → Configuration
 in_colour b config = record config { builder = record config.builder { should_colorize = b } }
 
--- the visible text in colour is alike the text without colour: the text of each call, and the whole report
+-- what is visible of the text in colour equals the text without colour, except for spaces at ends of lines: for each
+-- call, and for the whole report
 pub record IsEqualInColour (config : Configuration) (calls : List ReportCall) : Type 0 where
   pub at_each : (position : ℕ)
       → IsEqualButEndSpaces (visible (text_at (in_colour true config) calls position))
@@ -17,7 +18,7 @@ pub record IsEqualInColour (config : Configuration) (calls : List ReportCall) : 
   pub whole : IsEqualButEndSpaces (visible (report (in_colour true config) (reverse calls)))
       (report (in_colour false config) (reverse calls))
 
--- this holds if no given text holds an escape character
+-- the law of colour holds if no given text holds an escape character
 abbrev pub ColourLaw : Configuration → List ReportCall → Type 0
 ColourLaw config calls = IsPlainConfiguration config → ArePlain true calls → IsEqualInColour config calls
 

@@ -21,8 +21,8 @@ pub record EndsWell {W S : Type 0} (m : Meaning W) (n : Meaning S) (config : Con
       ⊎ ((stop.fault ≡ StoreIo) × (n.failures new.1 ≡ successor (n.failures old.1)))
       ⊎ ((stop.fault ≡ Memory)
       × (m.may_refuse old.0 ⊎ MayGrowAt config calls stop.position ⊎ n.may_refuse old.1)))
-  -- so if neither a writer nor the reporter itself asks for memory, and either no device can fail or none has failed
-  -- once more, it succeeds: the whole report and all records were accepted and delivered
+  -- so if neither a writer nor the reporter itself asks for memory, and no device fails, it succeeds: the whole report
+  -- and all records were accepted and delivered
   pub ok : (m.may_refuse old.0 → ⊥) → (n.may_refuse old.1 → ⊥) → ((i : ℕ) → MayGrowAt config calls i → ⊥)
       → NeverFails m ⊎ (m.failures new.0 ≡ m.failures old.0) → NeverFails n ⊎ (n.failures new.1 ≡ n.failures old.1)
       → (result ≡ Ok tt) × m.accepts old.0 (report config (reverse calls)) new.0 × m.is_delivered new.0

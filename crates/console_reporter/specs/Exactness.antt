@@ -11,7 +11,7 @@ use Rattle.run_model.specs.declared.{output_event.LoadOutput.TheVariants.Load, c
 use Rattle.console_reporter.specs.{Uninterrupted.AreUninterrupted, Uninterrupted.EndsRun, Configuration.Configuration}
 use Rattle.console_reporter.specs.{Report.report_texts, Stored.records}
 
--- a combined output, without errors, highlight and result of its own
+-- a combined output without errors, a highlight or a result of its own
 abbrev pub combined : Text → Written
 combined t = Output None (Combined t) None None
 

@@ -34,7 +34,7 @@ pub use Rattle.reporter_state.specs.declared.{faults.WriteEventError.WriteEventE
 pub use Rattle.run_text.specs.{NotSeen.not_seen_text, PlainRuns.IsPlainPrefix}
 unfoldable pub use Rattle.run_text.specs.Start.{profile_text, run_id_line, run_started_text, starting_line}
 unfoldable pub use Rattle.run_text.specs.Start.{test_counts_text}
-unfoldable pub use Rattle.run_text.specs.{Header.replay_header_text, RunId.id_text, RunId.run_id_text}
+unfoldable pub use Rattle.run_text.specs.{Header.replay_header_text, RunId.id_text, Words.run_id_text}
 unfoldable pub use Rattle.run_text.specs.SetupScript.{failed_script_output, setup_script_finished_text}
 unfoldable pub use Rattle.run_text.specs.SetupScript.{setup_script_line, setup_script_slow_text}
 unfoldable pub use Rattle.run_text.specs.Summary.{initial_count_text, run_counts_text, run_finished_text, summary_line}

@@ -4,7 +4,7 @@ use Rattle.{styled_text.specs.Names.Meaning, styled_text.specs.Names.WriteFault}
 use Rattle.{store_text.specs.declared.config.StoreConfig.StoreConfig}
 use Rattle.{console_reporter.specs.declared.imp.store.Store.Store}
 
--- the store did not change its writer and what it keeps, or is absent before and after
+-- the store changed neither its writer nor what it keeps, or is absent before and after
 abbrev pub IsSameStore : {S : Type 0} → Option (Store S) → Option (Store S) → Type 0
 IsSameStore None None = Unit {0}
 IsSameStore None (Some b) = ⊥

@@ -9,7 +9,7 @@ pub record IsPlainReport (config : Configuration) (calls : List ReportCall) : Ty
   pub at_each : (position : ℕ) → HasNoEscape (text_at config calls position)
   pub whole : HasNoEscape (report config (reverse calls))
 
--- this holds without colour if no given text holds one, except captured outputs, which may hold anything
+-- the law of plain reports, without colour: it holds if no given text but a captured output holds an escape character
 abbrev pub PlainLaw : Configuration → List ReportCall → Type 0
 PlainLaw config calls = config.builder.should_colorize ≡ false → IsPlainConfiguration config → ArePlain false calls
     → IsPlainReport config calls

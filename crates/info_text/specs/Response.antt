@@ -1,43 +1,26 @@
 -- The response of a unit that is asked for its state.
-use Rattle.std.specs.Prelude.{◌≡◌, ℕ, ◌+◌, ◌-◌, ◌==◌, Bool, true, false, ◌&&◌, ◌||◌, Option, None, Some, [], ◌++◌}
-use Rattle.std.specs.Prelude.{length, codes, nat_lt, if◌then◌else◌, refl}
-use Rattle.styled_text.specs.Names.{decimal, HasNoEscape, plain, Text, spaces}
-use Rattle.styled_text.{proofs.lemmas.Closed.spaces_free, proofs.lemmas.Widths.free_both}
+use Rattle.std.specs.Prelude.{◌≡◌, ℕ, ◌+◌, Bool, true, false, ◌&&◌, ◌||◌, Option, None, Some, codes, nat_lt}
+use Rattle.std.specs.Prelude.{if◌then◌else◌}
 use Rattle.report_words.specs.Names.{Styles, Parts, Fixed, Line, Lines, Open, Count, none, words, Word, Verbatim}
-use Rattle.report_words.specs.Names.{number, ◌⧺◌, choice, indented_line, drawn_given_line, hbar_text}
+use Rattle.report_words.specs.Names.{number, ◌⧺◌, choice, indented_line, drawn_given_line}
 use Rattle.run_model.specs.Names.{has_valid_output, has_errors, has_loaded_output, UnitKind, Written}
-use Rattle.run_model.specs.{declared.info.InfoResponse.TheVariants.SetupScript}
-use Rattle.run_model.specs.{declared.info.InfoResponse.TheVariants.Test}
+use Rattle.run_model.specs.declared.info.InfoResponse.TheVariants.{SetupScript, Test}
 use Rattle.text_parts.specs.Names.{InfoResponse, SetupScriptInfoResponse, TestInfoResponse, UnitState, RetryData}
-use Rattle.text_parts.specs.Names.{ThemeCharacters, OutputLayout, execution_output, instance_end, Script, shown_script}
-use Rattle.{text_parts.specs.declared.instance.CountedInstance.CountedInstance}
-use Rattle.{text_parts.specs.declared.settings.Settings.Settings, report_words.proofs.lemmas.FreeWords.free-hbar_text}
-use Rattle.{report_words.proofs.lemmas.FreeWords.free-if}
+use Rattle.text_parts.specs.Names.{OutputLayout, execution_output, instance_end, Script, shown_script}
+use Rattle.text_parts.specs.declared.instance.CountedInstance.{CountedInstance}
+use Rattle.text_parts.specs.declared.settings.Settings.{Settings}
 use Rattle.run_model.specs.declared.info.UnitState.TheVariants.{Running, Exiting, Terminating, Exited}
 use Rattle.run_model.specs.declared.info.UnitState.TheVariants.{DelayBeforeNextAttempt}
-use Rattle.{unit_report.proofs.lemmas.UnitColourPairs.ends-execution_output}
-use Rattle.{unit_report.specs.declared.unit_output.header.OutputHeader.TheVariants.Label}
-use Rattle.{info_text.specs.State.state_text, info_text.specs.declared.state.InfoUnit.InfoUnit}
+use Rattle.unit_report.proofs.lemmas.UnitColourPairs.{ends-execution_output}
+use Rattle.unit_report.specs.declared.unit_output.header.OutputHeader.TheVariants.{Label}
+use Rattle.info_text.specs.State.{state_text}
+use Rattle.info_text.specs.declared.state.InfoUnit.{InfoUnit}
+use Rattle.info_text.specs.Words.{number_padding, separator}
+use Rattle.info_text.specs.FreeWords.{free-number_padding, free-separator}
 use Rattle.run_names.specs.declared.unit.UnitKind.TheVariants as unit
 use Rattle.unit_report.specs.declared.unit_output.header.OutputName.TheVariants as name
 
--- a bar of eight characters before each response but the first
-unfoldable pub separator : ThemeCharacters → ℕ → Text
-separator theme index = if index == 0 then [] else hbar_text theme.is_unicode 8 ++ plain (codes "\n")
-
-pub free-separator : (theme : ThemeCharacters) (index : ℕ) → HasNoEscape (separator theme index)
-unfolding separator plain
-free-separator theme index = free-if (index == 0) [] _ refl
-    (free_both (hbar_text theme.is_unicode 8) (codes "\n") (free-hbar_text theme.is_unicode 8) refl)
-
--- the spaces after the number of a response, which is as wide as the word before a state, if it has room
-abbrev pub number_padding : ℕ → ℕ → Text
-number_padding place total = spaces (8 - (length (decimal place) + length (decimal total) + 3))
-
-pub free-number_padding : (place total : ℕ) → HasNoEscape (number_padding place total)
-free-number_padding place total = spaces_free (8 - (length (decimal place) + length (decimal total) + 3))
-
--- which response of how many it is, counted from 1
+-- the number of the response, from 1, and how many there are
 unfoldable pub response_number : ℕ → ℕ → Fixed Open
 response_number place total =
     words (codes "\n* ")

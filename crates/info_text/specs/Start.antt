@@ -1,4 +1,4 @@
--- All units are asked for their state, and no further responses are waited for.
+-- The first and the last line of the responses of units that are asked for their state.
 use Rattle.{std.specs.Prelude.ℕ, std.specs.Prelude.◌==◌, std.specs.Prelude.codes, info_text.specs.Seconds.seconds_part}
 use Rattle.text_parts.specs.Names.{RunStats, ThemeCharacters, bar_line, failure_tone, progress_message}
 use Rattle.report_words.specs.Parts.{Fixed, Line, Lines, Count, Skip, none, words, toned, number, ◌⧺◌, choice}
@@ -23,6 +23,6 @@ missing_line missing = toned Skip (codes "info") ⧺ words (codes ": missing ") 
 unfoldable pub missing_note : ℕ → Fixed Lines
 missing_note missing = choice (missing == 0) none (missing_line missing)
 
--- no further responses are waited for
+-- no more responses are expected
 unfoldable pub info_finished_text : ThemeCharacters → ℕ → Fixed Line
 info_finished_text theme missing = missing_note missing ⧺ bar_line theme

@@ -1,56 +1,27 @@
 -- The state of a unit, in the lines of its response.
-use Rattle.std.specs.Prelude.{ℕ, Bool, false, Option, None, Some, [], ◌++◌, codes, nat_le, if◌then◌else◌, refl}
-use Rattle.styled_text.specs.Names.{decimal, is_some, option_map, HasNoEscape, seconds, plain, Text}
-use Rattle.run_model.specs.{Names.terminate_reason_text, Names.NextestRunMode, Names.Nanos}
-use Rattle.run_model.specs.{declared.info.UnitTerminateMethod.TheVariants.Signal}
-use Rattle.text_parts.specs.Names.{UnitState, UnitTerminateMethod, UnitTerminateReason, UnitTerminatingState}
-use Rattle.text_parts.specs.Names.{ExecutionResultDescription, RetryData, unit_part, info_text}
+use Rattle.std.specs.Prelude.{ℕ, Bool, false, Option, None, Some, codes, nat_le, if◌then◌else◌}
+use Rattle.styled_text.specs.Names.{is_some, Text}
+use Rattle.run_model.specs.Names.{terminate_reason_text, NextestRunMode, Nanos}
+use Rattle.run_model.specs.declared.info.UnitTerminateMethod.TheVariants.{Signal}
+use Rattle.text_parts.specs.Names.{UnitState, UnitTerminateMethod, UnitTerminatingState, ExecutionResultDescription}
+use Rattle.text_parts.specs.Names.{unit_part, info_text}
 use Rattle.run_model.specs.declared.info.UnitState.TheVariants.{Running, Exiting, Terminating, Exited}
 use Rattle.run_model.specs.declared.info.UnitState.TheVariants.{DelayBeforeNextAttempt}
-use Rattle.{styled_text.proofs.lemmas.Closed.decimal_free, styled_text.proofs.lemmas.Widths.free_both}
-use Rattle.{report_words.proofs.lemmas.FreeWords.free-seconds, info_text.specs.Seconds.seconds_between}
-use Rattle.{info_text.specs.Seconds.seconds_part, info_text.specs.declared.state.InfoUnit.InfoUnit}
+use Rattle.info_text.specs.Seconds.{seconds_part}
+use Rattle.info_text.specs.declared.state.InfoUnit.{InfoUnit}
 use Rattle.report_words.specs.Parts.{Parts, Fixed, Line, Lines, Open, Tone, Count, Fail, Pass, Skip, none, words}
 use Rattle.report_words.specs.Parts.{Verbatim, toned, Toned, number, given, ◌⧺◌, choice, loosely, openly, plainly}
-use Rattle.run_model.specs.declared.info.UnitTerminateReason.TheVariants as terminate
-
--- which attempt it is, if that is shown
-unfoldable pub attempt_text : Option RetryData → Text
-attempt_text None = []
-attempt_text (Some r) =
-    plain (codes "(attempt ")
-    ++ (plain (decimal r.attempt)
-    ++ (plain (codes "/") ++ (plain (decimal r.total_attempts) ++ plain (codes ") "))))
-
-pub free-attempt_text : (attempt : Option RetryData) → HasNoEscape (attempt_text attempt)
-unfolding attempt_text plain
-free-attempt_text None = refl
-free-attempt_text (Some r) =
-    free_both (decimal r.attempt) (codes "/" ++ (decimal r.total_attempts ++ codes ") ")) (decimal_free r.attempt)
-    (free_both (decimal r.total_attempts) (codes ") ") (decimal_free r.total_attempts) refl)
+use Rattle.info_text.specs.Words.{attempt_text, marked_slow_end, nanos_of, taken_end}
+use Rattle.info_text.specs.FreeWords.{free-attempt_text, free-marked_slow_end, free-taken_end, free-terminate_reason}
 
 -- how the line of a state begins
 unfoldable pub status_start : InfoUnit → Fixed Open
 status_start u = toned Count (codes "status") ⧺ words (codes ": ") ⧺ Verbatim (attempt_text u.attempt)
     (free-attempt_text u.attempt)
 
--- how it begins with the word for the unit
+-- the words at the start of a line about this unit
 unfoldable pub unit_start : NextestRunMode → InfoUnit → Fixed Open
 unit_start mode u = status_start u ⧺ unit_part mode u.kind ⧺ words (codes " ")
-
--- when the unit was marked as slow, if it was, and the end of the line
-unfoldable pub marked_slow_end : Option ℕ → Text
-marked_slow_end None = plain (codes "\n")
-marked_slow_end (Some after) = seconds_between (codes " (marked slow after ") after (codes "s)\n")
-
-pub free-marked_slow_end : (mark : Option ℕ) → HasNoEscape (marked_slow_end mark)
-unfolding marked_slow_end plain
-free-marked_slow_end None = refl
-free-marked_slow_end (Some after) = free_both (seconds 3 after) (codes "s)\n") (free-seconds 3 after) refl
-
--- the number of nanoseconds, if there is a duration
-abbrev pub nanos_of : Option Nanos → Option ℕ
-nanos_of mark = option_map (λ (n : Nanos). n.0) mark
 
 -- the style of a running unit: with errors that of failures, if it is slow that of skipped tests
 abbrev pub running_tone : Bool → Bool → Tone
@@ -65,24 +36,14 @@ running_line mode u pid taken mark =
     ⧺ number Count pid
     ⧺ Verbatim (marked_slow_end (nanos_of mark)) (free-marked_slow_end (nanos_of mark))
 
--- the words for a unit of which it is not known how it ended
+-- the words for a unit if it is not known how it ended
 unfoldable pub unknown_info : Fixed Open
 unknown_info = toned Fail (codes "failed") ⧺ words (codes " with unknown status")
 
--- how a unit ended, as far as known; the flag says that it was slow
+-- how a unit ended, if that is known; the flag says that it was slow
 abbrev pub tentative_info : Bool → Option ExecutionResultDescription → Parts false Open
 tentative_info is_slow None = plainly unknown_info
 tentative_info is_slow (Some result) = info_text is_slow result
-
--- how long a unit took, and the end of the line
-unfoldable pub taken_end : ℕ → Option Nanos → Text
-taken_end taken mark = seconds_between (codes " after ") taken (codes "s") ++ marked_slow_end (nanos_of mark)
-
-pub free-taken_end : (taken : ℕ) (mark : Option Nanos) → HasNoEscape (taken_end taken mark)
-unfolding taken_end plain
-free-taken_end taken mark =
-    free_both (seconds 3 taken ++ codes "s") (marked_slow_end (nanos_of mark))
-    (free_both (seconds 3 taken) (codes "s") (free-seconds 3 taken) refl) (free-marked_slow_end (nanos_of mark))
 
 -- a process that has ended
 unfoldable pub exited_text : NextestRunMode → InfoUnit → ExecutionResultDescription → ℕ → Option Nanos
@@ -118,12 +79,6 @@ unfoldable pub exiting_line : NextestRunMode → InfoUnit → Option ExecutionRe
     → Parts false Open
 exiting_line mode u result taken mark = unit_start mode u ⧺ tentative_info (is_some mark) result ⧺ Verbatim
     (taken_end taken mark) (free-taken_end taken mark)
-
--- why a process is ended
-pub free-terminate_reason : (x : UnitTerminateReason) → HasNoEscape (terminate_reason_text x)
-free-terminate_reason terminate.Timeout = refl
-free-terminate_reason terminate.Signal = refl
-free-terminate_reason terminate.Interrupt = refl
 
 unfoldable pub terminating_line : NextestRunMode → InfoUnit → UnitTerminatingState → Fixed Line
 terminating_line mode u x =

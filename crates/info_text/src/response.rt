@@ -4,9 +4,9 @@ ghost use Rattle.std.specs.Prelude.{◌≡◌, ◌+◌, false};
 ghost use Rattle.{text_parts.specs.Names.layout_of, text_parts.specs.Names.script_of, report_words.specs.Parts.paint};
 ghost use Rattle.{styled_text.specs.Names.indent, styled_text.specs.Names.Puts, styled_text.specs.Names.spaces};
 ghost use Rattle.info_text.specs.Response.{HasAnswerOutput, HasValidOutput, answer, answering_script, answering_test};
-ghost use Rattle.info_text.specs.Response.{info_layout, info_response_text, is_delay, number_padding, script_answer};
-ghost use Rattle.info_text.specs.Response.{script_unit, separator, test_answer, test_unit, told_attempt, unit_answer};
-ghost use Rattle.info_text.specs.Response.{valid_output};
+ghost use Rattle.info_text.specs.Response.{info_layout, info_response_text, is_delay, script_answer, script_unit};
+ghost use Rattle.info_text.specs.Response.{test_answer, test_unit, told_attempt, unit_answer, valid_output};
+ghost use Rattle.info_text.specs.Words.{number_padding, separator};
 
 use crate::state::{InfoUnit, write_state};
 use report_text::helpers::{ThemeCharacters, decimal_char_width};
@@ -66,7 +66,7 @@ struct Separator(ThemeCharacters, usize);
 impl WriteText for Separator {
     ghost text = { λ s. separator s.0 s.1 };
 
-    #[tactic(auto, unfolding(crate::specs::Response::separator))]
+    #[tactic(auto, unfolding(crate::specs::Words::separator))]
     fn write_to<W: WriteStr>(&self, w: &mut W) -> Result<(), WriteFault> {
         if self.1 == 0 {
             return Ok(());

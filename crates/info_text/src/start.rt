@@ -1,4 +1,4 @@
-//! All units are asked for their state, and no further responses are waited for.
+//! The first and the last line of the responses of units that are asked for their state.
 
 ghost use Rattle.{writers.specs.Writer.Puts, report_words.specs.Parts.paint, info_text.specs.Start.info_finished_text};
 ghost use Rattle.{info_text.specs.Start.info_started_text};

@@ -3,10 +3,10 @@
 ghost use Rattle.{styled_text.specs.Names.is_some, styled_text.specs.Names.Puts, report_words.specs.Parts.paint};
 ghost use Rattle.{report_words.specs.Parts.style_of};
 ghost use Rattle.std.specs.Prelude.{◌≡◌, ◌++◌};
-ghost use Rattle.info_text.specs.State.{attempt_text, delay_note, exited_text, exiting_line, exiting_note};
-ghost use Rattle.info_text.specs.State.{marked_slow_end, nanos_of, running_line, running_tone, signal_of, state_text};
-ghost use Rattle.info_text.specs.State.{status_start, taken_end, tentative_info, terminating_line, terminating_note};
-ghost use Rattle.info_text.specs.State.{unit_start, waiting_line};
+ghost use Rattle.info_text.specs.Words.{attempt_text, marked_slow_end, nanos_of, taken_end};
+ghost use Rattle.info_text.specs.State.{delay_note, exited_text, exiting_line, exiting_note, running_line};
+ghost use Rattle.info_text.specs.State.{running_tone, signal_of, state_text, status_start, tentative_info};
+ghost use Rattle.info_text.specs.State.{terminating_line, terminating_note, unit_start, waiting_line};
 
 use run_model::info::{UnitState, UnitTerminateMethod, UnitTerminatingState};
 use run_model::status::{ExecutionResultDescription, RetryData};
@@ -25,7 +25,7 @@ use writers::write_str::{WriteFault, WriteStr};
 pub struct InfoUnit {
     /// Whether it is a test or a setup script.
     pub kind: UnitKind,
-    /// Which attempt it is, if that is shown.
+    /// The attempt, if its number is shown.
     pub attempt: Option<RetryData>,
     /// Whether its output has errors.
     pub has_errors: bool,
@@ -348,14 +348,14 @@ impl WriteText for StatusStart<'_> {
     }
 }
 
-// Which attempt it is, if that is shown.
+// The attempt, if its number is shown.
 #[derive(Clone, Copy)]
 struct Attempt(Option<RetryData>);
 
 impl WriteText for Attempt {
     ghost text = { λ a. attempt_text a.0 };
 
-    #[tactic(auto, unfolding(crate::specs::State::attempt_text))]
+    #[tactic(auto, unfolding(crate::specs::Words::attempt_text))]
     fn write_to<W: WriteStr>(&self, w: &mut W) -> Result<(), WriteFault> {
         match self.0 {
             None => Ok(()),
@@ -371,7 +371,7 @@ impl WriteText for Attempt {
     }
 }
 
-// How a unit ended, as far as known.
+// How a unit ended, if that is known.
 #[derive(Clone, Copy)]
 struct TentativeInfo<'a> {
     styles: &'a Styles,
@@ -403,7 +403,7 @@ struct TakenEnd(Nanos, Option<Nanos>);
 impl WriteText for TakenEnd {
     ghost text = { λ t. taken_end t.0.0 t.1 };
 
-    #[tactic(auto, unfolding(crate::specs::State::taken_end))]
+    #[tactic(auto, unfolding(crate::specs::Words::taken_end))]
     fn write_to<W: WriteStr>(&self, w: &mut W) -> Result<(), WriteFault> {
         ((" after ", Seconds(self.0.0), "s"), MarkedSlowEnd(self.1)).write_to(w)
     }
@@ -416,7 +416,7 @@ struct MarkedSlowEnd(Option<Nanos>);
 impl WriteText for MarkedSlowEnd {
     ghost text = { λ m. marked_slow_end (nanos_of m.0) };
 
-    #[tactic(auto, unfolding(crate::specs::State::marked_slow_end))]
+    #[tactic(auto, unfolding(crate::specs::Words::marked_slow_end))]
     fn write_to<W: WriteStr>(&self, w: &mut W) -> Result<(), WriteFault> {
         match self.0 {
             None => "\n".write_to(w),

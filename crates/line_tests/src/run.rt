@@ -1,4 +1,4 @@
-//! The lines of a whole run.
+//! Tests of the lines of a whole run.
 
 mod header;
 mod not_seen;

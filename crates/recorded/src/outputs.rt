@@ -1,7 +1,8 @@
 //! The outputs of a recorded run. A stream is loaded by its reference, and an output by its stored form. Only their
 //! bytes are read, and these are never spelled as text.
 
-ghost use Rattle.std.specs.Prelude.{◌≡◌, ◌≤◌, ◌↔◌, false, IsTrue, IfOk, IfSome, OnOk, if◌then◌else◌, is_ok, length};
+ghost use Rattle.std.specs.Prelude.{◌≡◌, ◌≤◌, ◌↔◌, false, IsTrue, IfErr, IfOk, IfSome};
+ghost use Rattle.std.specs.Prelude.{OnOk, if◌then◌else◌, is_ok, length};
 ghost use Rattle.std.specs.Prelude.{vec_len};
 ghost use Rattle.{std.specs.Option.ForSome, scene_fields.specs.References.end_of};
 ghost use Rattle.recorded.specs.Names.{IsCaptured, IsCapturedStream, IsCountedOf, IsCountedOfStream, HasSum, IsCounted};
@@ -108,6 +109,7 @@ impl<O: ReadAt + Drop> RecordedOutputs<O> {
             (λ all. IfOk result (λ holds. IsTrue holds ↔ (end_of reference.now ≤ length all))) }
         ensures asked { IfOk result (λ holds. holds ≡ false → O.asked self.old.source self.new.source) }
         ensures unasked { end_of reference.now ≤ self.old.len → self.new ≡ self.old }
+        ensures failed { IfErr result (O.len_failed self.old.source) }
         ensures kept { O.recorded self.new.source ≡ O.recorded self.old.source }
         ensures count { O.count self.new.source ≡ O.count self.old.source }
     {

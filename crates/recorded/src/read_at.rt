@@ -3,8 +3,10 @@
 //! The kit's `Read` and `Seek` do not say that what is read after a seek is at the position that was sought; [`Source`]
 //! says so. What is read through [`ReadAt`] is counted as well: [`Metered`] is the meter, and wraps any source.
 
-ghost use Rattle.std.specs.Prelude.{◌≡◌, ℕ, List, Option, None, Some, IfOk, IfSome, OnOk, ⊤, if◌then◌else◌, is_ok};
+ghost use Rattle.std.specs.Prelude.{◌≡◌, ℕ, List, Option, None, Some, IfErr, IfOk};
+ghost use Rattle.std.specs.Prelude.{IfSome, OnOk, ⊤, if◌then◌else◌, is_ok};
 ghost use Rattle.std.specs.Prelude.{length};
+ghost use Rattle.std.specs.declared.io.Error.{Error};
 ghost use Rattle.{std.specs.Io.Cursor.cursor_inner, recorded.specs.Names.counted, recorded.specs.Names.HasRead};
 
 use std::fs::File;
@@ -20,6 +22,8 @@ pub trait Source {
     ghost recorded: { Self → Option (List ℕ) } = { λ _. None };
     // The length was requested once.
     ghost asked: { Self → Self → Type 0 } = { λ _ _. ⊤ };
+    // The length could not be found, and this is the error.
+    ghost len_failed: { Self → Error → Type 0 } = { λ _ _. ⊤ };
     // Once, from this position on, this many bytes were read, or could not be read.
     ghost read_once: { ℕ → ℕ → Self → Self → Type 0 } = { λ _ _ _ _. ⊤ };
 
@@ -30,6 +34,7 @@ pub trait Source {
     /// The length cannot be found.
     fn len(&mut self) -> io::Result<u64>
         ensures once { asked self.old self.new }
+        ensures failed { IfErr result (len_failed self.old) }
         ensures kept { recorded self.new ≡ recorded self.old }
         ensures len { IfOk result (λ n. IfSome (recorded self.old) (λ all. n ≡ length all)) };
 
@@ -107,6 +112,8 @@ pub trait ReadAt {
     ghost count: { Self → ℕ };
     // Exactly the counted bytes were read from the source behind the meter, once.
     ghost asked: { Self → Self → Type 0 } = { λ _ _. ⊤ };
+    // The length could not be found, and this is the error.
+    ghost len_failed: { Self → Error → Type 0 } = { λ _ _. ⊤ };
 
     ghost read_once: { ℕ → ℕ → Self → Self → Type 0 } = { λ _ _ _ _. ⊤ };
 
@@ -117,6 +124,7 @@ pub trait ReadAt {
     /// The errors of [`Source::len`].
     fn len(&mut self) -> io::Result<u64>
         ensures once { asked self.old self.new }
+        ensures failed { IfErr result (len_failed self.old) }
         ensures kept { recorded self.new ≡ recorded self.old }
         ensures len { IfOk result (λ n. IfSome (recorded self.old) (λ all. n ≡ length all)) }
         ensures count { count self.new ≡ count self.old };
@@ -172,6 +180,8 @@ impl<S: Source> ReadAt for Metered<S> {
 
     // One length was requested of the source, or one read made, and nothing else changed.
     ghost asked = { λ old new. S.asked old.source new.source };
+
+    ghost len_failed = { λ old error. S.len_failed old.source error };
 
     ghost read_once = { λ offset len old new. S.read_once offset len old.source new.source };
 

@@ -189,7 +189,7 @@ fn loads_outputs(rt: HostRuntime) -> Result<(), Fail> {
     Ok(())
 }
 
-// References behind the end of the outputs, and to bytes with another sum.
+// References past the end of the outputs, and to bytes with another sum.
 const PAST: &str = "\\@8:7:ee2a98c236301c76";
 
 const OTHER: &str = "\\@0:7:ee2a98c236301c76";

@@ -16,7 +16,7 @@ selected_text mode count s = plain (codes ", but ")
     ++ (styled s (decimal count)
     ++ (plain (codes " ") ++ (plain (tests_word mode count) ++ plain (codes " were selected:"))))
 
--- a test on a line of its own, after two spaces
+-- a test on its own line, after two spaces
 unfoldable pub listed_test : ListStyles → OwnedTestInstanceId → Text
 listed_test s i = plain (codes "\n  ") ++ test_text s None None i.binary_id i.test_name
 

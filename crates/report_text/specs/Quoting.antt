@@ -18,7 +18,7 @@ quoted_byte c = if c == 39 then codes "'\\''" else c ∷ []
 unfoldable pub quoted_text : Text → Text
 quoted_text t = flat_map quoted_byte t
 
--- a word as it is, or between single quotes
+-- a word unchanged, or between single quotes
 unfoldable pub shell_word : Text → Text
 shell_word t = if is_unquoted t then t else codes "'" ++ (quoted_text t ++ codes "'")
 

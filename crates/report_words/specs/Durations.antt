@@ -67,6 +67,6 @@ abbrev pub in_units : ℕ → Option TimeUnit → Text
 in_units n None = codes "0s"
 in_units n (Some u) = decimal (n / unit_nanos u) ++ unit_name u
 
--- the number of whole units, in the longest unit that is not too long
+-- the number of whole units, in the longest unit that is not longer than the duration
 unfoldable pub relative_text : ℕ → Text
 relative_text n = in_units n (unit_within n time_units)

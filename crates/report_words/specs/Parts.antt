@@ -84,13 +84,13 @@ pub data Parts : Bool → End → Type 1 where
   each : {X : Type 0} {a : Bool} → (X → Parts a Line) → List X → Parts a Lines
   -- lines, each after n spaces if it is not empty, the first one only if the flag is set
   indented : {a : Bool} → ℕ → Bool → Parts a Line → Parts a Line
-  -- like `indented`, for lines whose last has no line feed; it gets one
+  -- like `indented`, for lines of which the last has no line feed; it gets one
   indented_line : {a : Bool} {d : End} → ℕ → Bool → Parts a d → Parts a Line
-  -- these parts as a type that says less: about escape characters, or about how the text ends
+  -- these parts with a wider type, which says less about escape characters or about how the text ends
   plainly : {a : Bool} {d : End} → Parts a d → Parts false d
   openly : {a : Bool} {d : End} → Parts a d → Parts a Open
   loosely : {a : Bool} → Parts a Line → Parts a Lines
-  -- text from outside with a definition of its own, as a test's name or the output of a unit
+  -- text from outside that has a definition of its own, such as a test's name or the output of a unit
   drawn_given : (f : Styles → Text) → Parts false Open
   drawn_given_line : (f : Styles → Text) → ((s : Styles) → EndsLine (f s)) → Parts false Line
 

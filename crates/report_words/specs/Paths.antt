@@ -22,6 +22,6 @@ abbrev pub search_paths : Option Text → List Text
 search_paths None = []
 search_paths (Some list) = between_colons list
 
--- one path below another
+-- one path joined to another
 abbrev pub joined_path : Text → Text → Text
 joined_path path below = path ++ (codes "/" ++ below)

@@ -11,7 +11,8 @@ hbar_character false = 45
 unfoldable pub hbar_text : Bool → ℕ → Text
 hbar_text is_unicode width = repeat width (encode_utf8 (hbar_character is_unicode))
 
--- a full block, blocks of seven eighths down to one, and a space; or the end of an arrow, its head and a space
+-- the characters of a progress bar: in Unicode a full block, seven partial blocks and a space; in ASCII `=`, `>` and a
+-- space
 abbrev pub progress_text : Bool → Text
 progress_text true = encode_utf8_all (codes "█▉▊▋▌▍▎▏ ")
 progress_text false = codes "=> "

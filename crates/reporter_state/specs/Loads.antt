@@ -19,7 +19,7 @@ abbrev pub loads_script : ExecutionResultDescription → Bool
 loads_script result = not (is_success result)
 
 -- the output of a failed attempt that is retried is needed if such attempts are shown and the setting for failures
--- shows output immediately, also if the test could not be started
+-- shows output immediately, even if the test could not be started
 abbrev pub loads_attempt : OutputLoadDecider → TestOutputDisplay → Bool
 loads_attempt d failure =
     nat_le (status_rank level.Retry) (status_rank d.status_level) && is_immediate

@@ -29,8 +29,10 @@ pub use Rattle.test_text.specs.TestFinished.{FinishReport, HasShownOutput, finis
 pub use Rattle.test_text.specs.{TestRetry.HasFailedAttemptOutput, declared.status_line.StatusLineKind.StatusLineKind}
 unfoldable pub use Rattle.test_text.specs.TestRetry.{attempt_failed_line, attempt_failed_text, delay_line}
 unfoldable pub use Rattle.test_text.specs.TestRetry.{failed_output, is_failed_output_shown}
-unfoldable pub use Rattle.test_text.specs.TestSlow.{has_number, is_level_exceeded, slow_text, terminating_text}
-unfoldable pub use Rattle.test_text.specs.TestSlow.{terminating_word, test_slow_text}
+unfoldable pub use Rattle.test_text.specs.Words.{has_number, is_level_exceeded}
+unfoldable pub use Rattle.test_text.specs.TestSlow.{slow_text, terminating_text}
+unfoldable pub use Rattle.test_text.specs.Words.{terminating_word}
+unfoldable pub use Rattle.test_text.specs.TestSlow.{test_slow_text}
 unfoldable pub use Rattle.test_text.specs.TestStarted.{command_text, retry_start_line, start_line}
 unfoldable pub use Rattle.test_text.specs.TestStarted.{test_retry_started_text, test_started_text}
 unfoldable pub use Rattle.test_text.specs.StatusLine.{flaky_failure_line, status_line, status_prefix}

@@ -25,7 +25,7 @@ abbrev pub is_retried_success : TestEventKind → Bool
 is_retried_success (TestAttemptFailedWillRetry stress test status delay display) = is_success status.result
 is_retried_success _ = false
 
--- why an event is refused: needed output counts also if a cancel reason would hide it
+-- why an event is refused: needed output counts even if a cancel reason would hide it
 abbrev pub event_refusal : OutputLoadDecider → TestEventKind → Option WriteEventError
 event_refusal decider e =
     if is_retried_success e then Some RetriedSuccess else

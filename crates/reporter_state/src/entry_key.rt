@@ -148,7 +148,7 @@ fn compare_tests(left: &KeptTest, right: &KeptTest) -> Ordering
         .then_with(|| left.instance.compare(&right.instance))
 }
 
-// None comes first.
+// None sorts first.
 fn compare_iterations(left: Option<StressIndex>, right: Option<StressIndex>) -> Ordering
     ensures { result ≡ slice_cmp nat_cmp (iteration_key left) (iteration_key right) }
 {
@@ -160,7 +160,7 @@ fn compare_iterations(left: Option<StressIndex>, right: Option<StressIndex>) -> 
     }
 }
 
-// None comes first, then numbers, then padding.
+// None sorts first, then numbers, then padding.
 fn compare_counters(
     left: Option<DisplayCounterIndex>,
     right: Option<DisplayCounterIndex>,

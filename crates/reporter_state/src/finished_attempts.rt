@@ -12,7 +12,7 @@ use test_text::test_finished::FinishedTest;
 pub struct FinishedAttempts<'e, 'a> {
     /// The test.
     pub finished: FinishedTest<'e, 'a>,
-    /// Its attempts.
+    /// The attempts of the test.
     pub statuses: &'e ExecutionStatuses<LiveSpec>,
     ghost described: { summary_of statuses.now ≡ described_summary finished.describe },
 }

@@ -45,7 +45,7 @@ pub enum OutputForm {
         nanos: u64,
         output: LoadedOutput,
     },
-    /// Its line needs more bytes.
+    /// A line that does not fit into the short form.
     Whole(Boxed<FinalOutput>),
 }
 
@@ -54,7 +54,7 @@ pub enum OutputForm {
 pub struct ShortSummary {
     /// How long the last attempt ran, in nanoseconds.
     pub nanos: u64,
-    /// Which attempt it was.
+    /// The number of the attempt, and how many are allowed.
     pub retry_data: RetryData,
     /// The exit code of its process, or 0 if it passed.
     pub exit_code: i32,

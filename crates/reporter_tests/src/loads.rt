@@ -103,7 +103,7 @@ fn decider_of(
     Ok(builder.output_load_decider(Surroundings::default(), store))
 }
 
-// Whether it makes this decision.
+// Whether the decider makes this decision.
 fn decides(
     alloc: Global,
     decider: &OutputLoadDecider,

@@ -9,13 +9,13 @@ use Rattle.run_model.specs.declared.call.ReportCall.TheVariants as call
 use Rattle.run_model.specs.declared.info.InfoResponse.{InfoResponse}
 use Rattle.run_model.specs.declared.info.InfoResponse.TheVariants as response
 
--- attempts of which the one at this index captured this, from 0; an index after them changes nothing
+-- the attempts, with this output for the one at this index (from 0); an index past the last changes nothing
 abbrev pub with_output_at : ℕ → ChildOutputDescription → List Attempt → List Attempt
 with_output_at place captured attempts =
     option_map_or (λ attempt. slice_set attempts place (attempt_with_output attempt captured))
     (slice_get attempts place) attempts
 
--- attempts of which the one at this index captured this. A later index than the last changes nothing
+-- the attempts, with this output for the one at this index; an index past the last changes nothing
 abbrev pub attempts_with : ℕ → ChildOutputDescription → Attempts LiveSpec ChildOutputDescription
     → Attempts LiveSpec ChildOutputDescription
 attempts_with place captured a =

@@ -15,7 +15,7 @@ pub record Subslice : Type 0 where
   pub start : ℕ
   pub bytes : List ℕ
 
--- its start, and the bytes that it points to
+-- a `ByteSubslice` by its start and its bytes, without their address
 abbrev pub subslice_value : Option ByteSubslice → Option Subslice
 subslice_value o = option_map (λ (s : ByteSubslice). record { start = s.start; bytes = s.slice.now }) o
 

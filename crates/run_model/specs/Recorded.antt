@@ -1,4 +1,4 @@
--- Events in the form of a recorded run: the same metadata, and names of archive members in place of output.
+-- Events in the form of a recorded run: the same metadata, with names of archive members instead of output.
 use Rattle.std.specs.Prelude.{ℕ, List, [], map, Option, None, Some}
 use Rattle.{std.specs.Option.option_map, run_model.specs.Attempts.Attempts}
 use Rattle.{run_model.specs.declared.event.TestEventKind.TestEventKind}

@@ -53,7 +53,7 @@ case_of a =
     if is_success a.last.result then (if length a.earlier == 0 then Success else Flaky a.flaky_result)
     else Failure
 
--- an outcome, and the last attempt without its output
+-- the outcome of a test, and its last attempt without the output
 abbrev pub summary_by : {S O : Type 0} → StatusCase → ExecuteStatus S O → StatusSummary
 summary_by case last = record {
   case = case;
@@ -83,11 +83,11 @@ described_prior (described.Success single) = []
 described_prior (described.Flaky last prior result) = prior.now
 described_prior (described.Failure prior last) = prior.now
 
--- the summary of what is described
+-- the summary of described attempts
 abbrev pub described_summary : {S O : Type 0} → ExecutionDescription S O → StatusSummary
 described_summary d = summary_by (described_case d) (described_last d)
 
--- the test counts as passed when its output setting is chosen, also if it is flaky and counts as failed
+-- the test counts as passed when its output setting is chosen, even if it is flaky and counts as failed
 abbrev pub is_success_case : StatusCase → Bool
 is_success_case Success = true
 is_success_case (Flaky result) = true

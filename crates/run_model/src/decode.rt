@@ -24,7 +24,7 @@ pub(crate) fn push_lossy(bytes: &[u8], text: &mut String) -> Result<(), OutOfMem
     Ok(())
 }
 
-// Appends the text of the first bytes, and returns those behind them.
+// Appends the text of the first bytes, and returns the bytes after them.
 fn push_some<'b>(bytes: &'b [u8], text: &mut String) -> Result<&'b [u8], OutOfMemory>
     requires { 0 < length bytes.now }
     ensures pushed { IfOk result (λ rest. IsPushed text.old bytes.now text.new rest.now) }

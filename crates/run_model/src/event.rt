@@ -253,7 +253,7 @@ pub enum TestEventKind<'a> {
     SetupScriptStarted {
         /// Which iteration of a stress run it belongs to.
         stress_index: Option<StressIndex>,
-        /// Its place among the setup scripts, from 0.
+        /// Its index among the setup scripts, from 0.
         index: usize,
         /// How many setup scripts there are.
         total: usize,
@@ -276,7 +276,7 @@ pub enum TestEventKind<'a> {
         args: CommandLine,
         /// How long it has taken.
         elapsed: Nanos,
-        /// Whether it is terminated for that.
+        /// Whether it is terminated for being slow.
         will_terminate: bool,
     },
     /// A setup script has finished.
@@ -387,7 +387,7 @@ pub enum TestEventKind<'a> {
         /// How many tests run.
         running: usize,
     },
-    /// The run goes on after a pause.
+    /// The run continues after a pause.
     RunContinued {
         /// How many setup scripts run.
         setup_scripts_running: usize,
@@ -410,7 +410,7 @@ pub enum TestEventKind<'a> {
         /// The response.
         response: InfoResponse<'a>,
     },
-    /// The reporter waits for no further responses.
+    /// No more responses are expected.
     InfoFinished {
         /// How many units have not responded.
         missing: usize,

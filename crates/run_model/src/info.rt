@@ -74,7 +74,7 @@ pub struct TestInfoResponse<'a> {
 /// ```
 #[derive(Debug, Drop)]
 pub enum UnitState {
-    /// Its process runs.
+    /// Its process is running.
     Running {
         /// The process's id.
         pid: u32,
@@ -83,7 +83,7 @@ pub enum UnitState {
         /// When it was marked as slow, if it was.
         slow_after: Option<Nanos>,
     },
-    /// Its process has ended, and handles that it left open are waited for.
+    /// Its process has exited, and the runner waits for handles that it left open.
     Exiting {
         /// The process's id.
         pid: u32,
@@ -91,16 +91,16 @@ pub enum UnitState {
         time_taken: Nanos,
         /// When it was marked as slow, if it was.
         slow_after: Option<Nanos>,
-        /// How it ended, as far as known.
+        /// How it ended, if that is known.
         tentative_result: Option<ExecutionResultDescription>,
         /// How long its handles have been waited for.
         waiting_duration: Nanos,
         /// How much longer they are waited for.
         remaining: Nanos,
     },
-    /// Its process is being ended.
+    /// Its process is being terminated.
     Terminating(UnitTerminatingState),
-    /// Its process has ended.
+    /// Its process has exited.
     Exited {
         /// How it ended.
         result: ExecutionResultDescription,
@@ -146,7 +146,7 @@ pub struct UnitTerminatingState {
     pub time_taken: Nanos,
     /// Why it is ended.
     pub reason: UnitTerminateReason,
-    /// How it is ended.
+    /// The way in which it is terminated.
     pub method: UnitTerminateMethod,
     /// How long its end has been waited for.
     pub waiting_duration: Nanos,
@@ -161,7 +161,7 @@ pub struct UnitTerminatingState {
 /// ```
 #[derive(Clone, Copy, Debug, PartialEq, Eq)]
 pub enum UnitTerminateReason {
-    /// It has run too long.
+    /// It has timed out.
     Timeout,
     /// The run was ended by a signal.
     Signal,

@@ -170,7 +170,7 @@ impl ChildSingleOutput {
         let captured = match String::from_utf8(bytes) {
             Ok(text) => Captured::Text(Arc::new(alloc, text)?),
             Err(error) => {
-                // Its block may be four times as large.
+                // A block of bytes may be four times as large as the bytes in it.
                 let mut bytes = error.into_bytes();
                 bytes.shrink_to_fit();
                 let text = CapturedText::decode(alloc, Bytes::from_vec(bytes)?)?;
@@ -262,7 +262,7 @@ impl ChildSingleOutput {
 /// ```
 #[derive(Debug, Drop)]
 pub enum ChildOutputDescription {
-    /// Each stream by itself.
+    /// Standard output and standard error, each by itself.
     Split {
         /// Standard output, if it was captured.
         stdout: Option<ChildSingleOutput>,
@@ -395,7 +395,7 @@ fn copy_stream(
 /// Where the archive of a recorded run holds what a process wrote.
 #[derive(Debug, Drop)]
 pub enum RecordedOutput {
-    /// Each stream by itself.
+    /// Standard output and standard error, each by itself.
     Split {
         /// The member name of standard output, if it was captured.
         stdout: Option<DescriptionText>,
@@ -617,7 +617,7 @@ pub struct ErrorChain {
     parts: Arc<ErrorParts>,
 }
 
-// What an error chain is made of.
+// The parts of an error chain.
 #[derive(Debug, Drop)]
 struct ErrorParts {
     message: DescriptionText,
@@ -710,11 +710,11 @@ pub enum HighlightStream {
 /// ```
 #[derive(Debug, Drop)]
 pub struct Highlight {
-    /// Its stream.
+    /// The stream that it is in.
     pub stream: HighlightStream,
     /// The index of its first byte in the stream.
     pub start: usize,
-    /// Its bytes.
+    /// The bytes of the stream that it highlights.
     pub slice: Bytes,
 }
 

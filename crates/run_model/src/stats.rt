@@ -140,7 +140,7 @@ pub enum FinalRunStats {
     NoTestsRun,
     /// The run was cancelled, or fewer tests finished than were to run.
     Cancelled {
-        /// Why, where it is known.
+        /// The reason, if it is known.
         reason: Option<CancelReason>,
         /// What was left undone.
         kind: RunStatsFailureKind,

@@ -201,7 +201,7 @@ pub enum FailureDescription {
         /// The code.
         code: i32,
     },
-    /// Its process was ended from outside.
+    /// Its process was terminated by a signal, or by its equivalent on Windows.
     Abort {
         /// How.
         abort: Boxed<AbortDescription>,
@@ -378,11 +378,11 @@ impl ExecuteStatus<LiveSpec> {
 pub struct SetupScriptExecuteStatus<S: OutputSpec> {
     /// How long it ran.
     pub time_taken: Nanos,
-    /// How it ended.
+    /// How the attempt ended.
     pub result: ExecutionResultDescription,
-    /// What it wrote.
+    /// What the attempt wrote.
     pub output: ChildExecutionOutputDescription<S>,
-    /// Whether it was marked as slow.
+    /// Whether the attempt was marked as slow.
     pub is_slow: bool,
 }
 
@@ -400,7 +400,7 @@ pub enum FlakyResult {
 pub struct StatusSummary {
     /// The outcome of the attempts.
     pub case: StatusCase,
-    /// Which attempt was the last.
+    /// The number of the last attempt, and how many are allowed.
     pub retry_data: RetryData,
     /// How the last attempt ended.
     pub result: ExecutionResultDescription,
@@ -413,11 +413,11 @@ pub struct StatusSummary {
 /// The outcome of a test's attempts.
 #[derive(Clone, Copy, Debug, PartialEq, Eq)]
 pub enum StatusCase {
-    /// One attempt, which succeeded.
+    /// One attempt, which passed.
     Success,
     /// A success after earlier attempts.
     Flaky {
-        /// What it counts as.
+        /// Whether the flaky test counts as passed or as failed.
         result: FlakyResult,
     },
     /// The last attempt failed.
@@ -500,7 +500,7 @@ impl StatusSummary {
 /// ```
 #[derive(Clone, Copy, Debug)]
 pub enum ExecutionDescription<'a, S: OutputSpec> {
-    /// One attempt, which succeeded.
+    /// One attempt, which passed.
     Success {
         /// The attempt.
         single_status: &'a ExecuteStatus<S>,
@@ -511,7 +511,7 @@ pub enum ExecutionDescription<'a, S: OutputSpec> {
         last_status: &'a ExecuteStatus<S>,
         /// The attempts before it, in order.
         prior_statuses: &'a [ExecuteStatus<S>],
-        /// What it counts as.
+        /// Whether the flaky test counts as passed or as failed.
         result: FlakyResult,
     },
     /// The last attempt failed.
@@ -561,7 +561,7 @@ impl<'a, S: OutputSpec> ExecutionDescription<'a, S> {
         }
     }
 
-    /// Which of the cases it is.
+    /// Whether it passed at once, is flaky, or failed.
     pub fn case(&self) -> StatusCase
         ensures { result ≡ described_case self.now }
     {

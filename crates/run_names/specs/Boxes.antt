@@ -1,4 +1,4 @@
--- A value with memory of its own, which can be changed there.
+-- A value on the heap, which can be changed there.
 use Rattle.{std.specs.Borrow.Lends, std.specs.Borrow.MutBor, std.specs.Borrow.Fml}
 use Rattle.{run_names.specs.contracts.boxed.Boxed.the_row}
 use denote.RattleType.{RattleType}

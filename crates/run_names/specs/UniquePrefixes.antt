@@ -1,7 +1,7 @@
 -- The part of a run's id that no other run has.
 use Rattle.std.specs.Prelude.{ℕ, List}
 
--- that part, and the rest of the id
+-- the prefix, and the rest of the id
 pub record UniquePrefix : Type 0 where
   pub prefix : List ℕ
   pub rest : List ℕ

@@ -7,8 +7,7 @@ use std::alloc::Global;
 use std::marker::Model;
 use std::sync::Arc;
 
-/// A value with memory of its own. Contracts see the value.
-///
+/// A value on the heap. Contracts see the value.
 /// ```
 /// let mut boxed = Boxed::new(alloc, Nanos::from_secs(1))?;
 /// assert_eq!(*boxed.get(), Nanos::from_secs(1));
@@ -73,8 +72,7 @@ impl<T: Eq + Drop> Eq for Boxed<T> {
     ghost laws = { T.Eq.laws };
 }
 
-/// A value with memory of its own, which copies share. Contracts see the value.
-///
+/// A value on the heap, shared by its copies. Contracts see the value.
 /// ```
 /// let shared = Shared::new(alloc, Nanos::from_secs(1))?;
 /// assert_eq!(*shared.try_clone()?.get(), Nanos::from_secs(1));

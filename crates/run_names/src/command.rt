@@ -16,7 +16,7 @@ use std::marker::Model;
 /// ```
 #[derive(Debug, Drop)]
 pub struct CommandLine {
-    // The words, one behind another.
+    // The words, one after another.
     text: String,
     // How many bytes each has.
     lens: Vec<usize>,

@@ -132,8 +132,8 @@ impl CompiledDefaultFilter {
 /// Which of a profile's default filters it is.
 #[derive(Clone, Copy, Debug, PartialEq, Eq)]
 pub enum CompiledDefaultFilterSection {
-    /// The profile's own.
+    /// The default filter of the profile itself.
     Profile,
-    /// An override's, by its index.
+    /// The default filter of an override, by the override's index.
     Override(usize),
 }

@@ -12,7 +12,7 @@ ghost use Rattle.run_names.specs.Levels.{reason_rank, reason_words, status_rank,
 /// ```
 #[derive(Clone, Copy, Debug, PartialEq, Eq, PartialOrd, Ord)]
 pub enum StatusLevel {
-    /// Nothing.
+    /// No test.
     None,
     /// Tests that failed.
     Fail,
@@ -50,7 +50,7 @@ impl StatusLevel {
 /// ```
 #[derive(Clone, Copy, Debug, PartialEq, Eq, PartialOrd, Ord)]
 pub enum FinalStatusLevel {
-    /// Nothing.
+    /// No test.
     None,
     /// Tests that failed.
     Fail,
@@ -126,8 +126,7 @@ pub enum CancelReason {
 }
 
 impl CancelReason {
-    /// Whether it replaces the other as the reason of a run.
-    ///
+    /// Whether it replaces the other one as the run's cancel reason.
     /// ```
     /// assert!(CancelReason::Interrupt.is_above(CancelReason::TestFailure));
     /// ```

@@ -14,8 +14,7 @@ use std::fmt;
 use std::fmt::Formatter;
 use std::marker::{Model, PhantomData};
 
-/// A name of one kind, in memory of its own. Names have an order, by the bytes of their texts.
-///
+/// A name of one kind, which owns its text. Names are ordered by the bytes of their texts.
 /// ```
 /// let (ci, other) = (ProfileName::new(alloc, "ci")?, ProfileName::new(alloc, "default")?);
 /// assert!(ci < other);

@@ -4,6 +4,8 @@ pub mod Input
 pub mod NotSeen
 pub mod Pause
 pub mod PlainRuns
+pub mod Words
+pub mod FreeWords
 pub mod RunId
 pub mod Running
 pub mod SetupScript

@@ -16,7 +16,7 @@ not_seen_start mode total =
     ⧺ Word (tests_word mode total) (free-tests_word_if mode _)
     ⧺ words (codes " not seen during this rerun:\n")
 
--- a test on a line of its own, without a counter or an iteration
+-- a test on its own line, without a counter or an iteration
 unfoldable pub not_seen_line : OwnedTestInstanceId → Parts false Line
 not_seen_line i = words (codes "             ") ⧺ drawn_given
     (λ s. test_text s.list_styles None None i.binary_id i.test_name) ⧺ words (codes "\n")

@@ -15,7 +15,7 @@ running_of scripts tests = record { setup_scripts = scripts; tests = tests }
 unfoldable pub is_none_running : Running → Bool
 is_none_running r = (r.setup_scripts == 0) && (r.tests == 0)
 
--- a number, and what it counts
+-- a number, and the word for what it counts
 unfoldable pub number_running : ℕ → Fixed Open
 number_running n = number Count n ⧺ words (codes " ")
 

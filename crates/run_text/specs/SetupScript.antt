@@ -12,7 +12,7 @@ use Rattle.run_names.specs.declared.level.StatusLevel.TheVariants as level
 use Rattle.run_model.specs.declared.status.ExecutionResultDescription.TheVariants as outcome
 use Rattle.run_model.specs.declared.status.LeakTimeoutResult.TheVariants as leak
 
--- which script of how many it is, from 1
+-- the number of the script, from 1, and how many there are
 unfoldable pub script_counter : ℕ → ℕ → Text
 script_counter index total =
     plain (codes "[") ++ (right_in 9 (decimal (index + 1) ++ (codes "/" ++ decimal total)) ++ plain (codes "] "))

@@ -94,7 +94,7 @@ fn write_listed<W: WriteStr>(
     Ok(())
 }
 
-// A test on a line of its own, without a counter or an iteration.
+// A test on its own line, without a counter or an iteration.
 #[tactic(auto, unfolding(crate::specs::NotSeen::not_seen_line))]
 fn write_listed_test<W: WriteStr>(
     w: &mut W,

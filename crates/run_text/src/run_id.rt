@@ -1,7 +1,7 @@
 //! The id of a run.
 
 ghost use Rattle.std.specs.Prelude.{◌≡◌, ◌≤◌, length};
-ghost use Rattle.{report_words.specs.Parts.paint, run_text.specs.RunId.run_id_text, run_text.specs.RunId.id_text};
+ghost use Rattle.{report_words.specs.Parts.paint, run_text.specs.Words.run_id_text, run_text.specs.RunId.id_text};
 
 use run_model::run_id::ShortestRunIdPrefix;
 use styled_text::style::Styles;
@@ -51,7 +51,7 @@ impl WriteText for ShownRunId<'_> {
 }
 
 // The run's id, hyphenated in lower case.
-#[tactic(auto, unfolding(crate::specs::RunId::run_id_text))]
+#[tactic(auto, unfolding(crate::specs::Words::run_id_text))]
 fn run_id_str<'b>(run_id: &Uuid, buffer: &'b mut [u8]) -> &'b str
     requires { 36 ≤ length buffer.old }
     ensures { result.now ≡ run_id_text run_id.now }

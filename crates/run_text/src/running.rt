@@ -31,8 +31,7 @@ impl Running {
     }
 }
 
-/// How many run, and of what.
-///
+/// The number of running setup scripts, or else of running tests, with its word.
 /// ```
 /// let running = Running { setup_scripts: 0, tests: 3 };
 /// ShownRunning { styles: &styles, mode: NextestRunMode::Test, running }.write_to(&mut out)?;

@@ -54,7 +54,7 @@ pub fn write_setup_script_started<W: WriteStr>(
     (word, " ", counter, ShownScript(styles, &script), "\n").write_to(w)
 }
 
-// Which of the scripts it is, from 1. That number may be one more than the greatest of its type.
+// The number of the script, from 1. It may be one more than the greatest of its type.
 #[derive(Clone, Copy)]
 struct ScriptCounter(usize, usize);
 

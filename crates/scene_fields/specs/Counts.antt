@@ -1,10 +1,14 @@
 -- Counts, as pairs of a key and a number.
-use Rattle.{std.specs.List.list_any, std.specs.Option.option_and_then, std.specs.Option.option_map}
-use Rattle.{run_model.specs.Stats.planned_stats, run_model.specs.declared.event.SkipCounts.SkipCounts}
-use Rattle.{run_model.specs.declared.stats.RunStats.RunStats}
-use Rattle.std.proofs.Common.{refl, ◌≡◌, ◌==◌, ◌+◌, ℕ, List, [], ◌∷◌, Bool, true, false, if◌then◌else◌, get_or}
-use Rattle.std.proofs.Common.{slice_set, Option, None, Some, codes, bytes_eq, replicate}
-use Rattle.scene_fields.specs.{Split.cut, Split.split_on, Numbers.number_in, Values.reason_in}
+use Rattle.std.specs.List.{list_any}
+use Rattle.std.specs.Option.{option_and_then, option_map}
+use Rattle.run_model.specs.Stats.{planned_stats}
+use Rattle.run_model.specs.declared.event.SkipCounts.{SkipCounts}
+use Rattle.run_model.specs.declared.stats.RunStats.{RunStats}
+use Rattle.std.proofs.Common.{◌==◌, ◌+◌, ℕ, List, [], ◌∷◌, Bool, true, false, if◌then◌else◌, get_or, slice_set}
+use Rattle.std.proofs.Common.{Option, None, Some, codes, bytes_eq, replicate}
+use Rattle.scene_fields.specs.Split.{cut, split_on}
+use Rattle.scene_fields.specs.Numbers.{number_in}
+use Rattle.scene_fields.specs.Values.{reason_in}
 
 -- a key, and what its value makes of the counts; None for a bad value
 abbrev pub Row : Type 0 → Type 0
@@ -69,9 +73,6 @@ stats_rows before =
     ∷ (codes "setuptimedout", with_number (λ n. record before { setup_scripts_timed_out = n }))
     ∷ (codes "cancel", λ t. option_map (λ r. record before { cancel_reason = Some r }) (reason_in t)) ∷ []
 
-pub stats_no_space : (before : RunStats) → list_any (λ row. has_space row.0) (stats_rows before) ≡ false
-stats_no_space before = refl
-
 -- the keys of what a run skips, and what a value of each makes of them
 abbrev pub skips_rows : SkipCounts → List (Row SkipCounts)
 skips_rows before =
@@ -81,9 +82,6 @@ skips_rows before =
     ∷ (codes "filter", with_number (λ n. record before { skipped_tests_default_filter = n }))
     ∷ (codes "binaries", with_number (λ n. record before { skipped_binaries = n }))
     ∷ (codes "binfilter", with_number (λ n. record before { skipped_binaries_default_filter = n })) ∷ []
-
-pub skips_no_space : (before : SkipCounts) → list_any (λ row. has_space row.0) (skips_rows before) ≡ false
-skips_no_space before = refl
 
 abbrev pub no_skips : SkipCounts
 no_skips = record {

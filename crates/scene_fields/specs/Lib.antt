@@ -1,4 +1,5 @@
 pub mod Calls
+pub mod CountsLaws
 pub mod Counts
 pub mod Faults
 pub mod Fields

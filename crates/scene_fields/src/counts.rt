@@ -5,8 +5,10 @@
 
 ghost use Rattle.std.specs.Prelude.{◌≡◌, ◌<◌, false, List, Option, IfSome};
 ghost use Rattle.{std.specs.List.list_any, std.specs.Option.option_map, scene_fields.specs.Numbers.number_in};
-ghost use Rattle.scene_fields.specs.Counts.{Row, counts_in, has_space, pair_in, row_in, skips_in, skips_no_space};
-ghost use Rattle.scene_fields.specs.Counts.{skips_rows, stats_in, stats_no_space, stats_rows};
+ghost use Rattle.scene_fields.specs.Counts.{Row, counts_in, has_space, pair_in, row_in, skips_in};
+ghost use Rattle.scene_fields.specs.CountsLaws.{skips_no_space};
+ghost use Rattle.scene_fields.specs.Counts.{skips_rows, stats_in, stats_rows};
+ghost use Rattle.scene_fields.specs.CountsLaws.{stats_no_space};
 
 use super::numbers::read_count;
 use super::split::{first_piece, split_at_byte};

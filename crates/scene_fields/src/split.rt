@@ -85,10 +85,10 @@ pub fn strip_front<'t, const N: usize>(line: &'t str, front: &[u8; N]) -> Option
     ensures { IfSome result (λ rest. line.now ≡ front.now ++ rest.now) }
 {
     let (begin, _) = line.as_bytes().split_first_chunk::<N>()?;
-    if *begin != *front {
-        return None;
+    if *begin == *front {
+        return Some(&line[N..]);
     }
-    Some(&line[N..])
+    None
 }
 
 /// The first two fields of a line, the text of both, and the text after the second one's tab.

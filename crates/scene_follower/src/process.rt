@@ -4,7 +4,7 @@
 ghost use Rattle.std.specs.Fd.{file_raw_fd};
 ghost use Rattle.{std.specs.Io.KnownBytes.Appends, command_line.specs.Faults.fault_line};
 ghost use Rattle.scene_follower.specs.Names.{status_of, store_refusal, Fault};
-ghost use Rattle.std.specs.Prelude.{◌≡◌, ◌⊎◌, ◌↔◌, ◌≤ℤ◌, ◌<ℤ◌, ◌++◌, ◌∷◌, [], pos, IfErr, IfOk, OnOk, IsTrue};
+ghost use Rattle.std.specs.Prelude.{◌≡◌, ◌⊎◌, ◌↔◌, ◌≤ℤ◌, ◌<ℤ◌, ◌++◌, ◌∷◌, [], pos, IfErr, IfOk, OnOk, IsTrue, is_ok};
 
 use command_line::fault::{Fault, FaultLine, ReportProgram};
 use std::fmt::Display;
@@ -82,8 +82,7 @@ pub fn create_store<'a>(
         return Err(refusal);
     }
     match File::create(rt, path) {
-        Ok(file) if is_standard(&file) => Err(fault),
-        Ok(file) => Ok(file),
+        Ok(file) => unless_standard(file, fault),
         Err(error) => Err(fault.by_kind(error.kind())),
     }
 }
@@ -97,6 +96,18 @@ fn store_refusal<'a>(fault: Fault<'a>, is_input: Result<bool, ErrorKind>) -> Opt
         Ok(false) | Err(ErrorKind::NotFound) => None,
         Err(kind) => Some(fault.by_kind(kind)),
     }
+}
+
+// The file, or this fault if it would be a standard descriptor.
+fn unless_standard<'a>(file: File, fault: Fault<'a>) -> Result<File, Fault<'a>>
+    ensures file { IfOk result (λ kept. kept ≡ file) }
+    ensures ok { IsTrue (is_ok result) ↔ pos 2 <ℤ file_raw_fd file }
+    ensures err { IfErr result (λ f. f ≡ fault.entry) }
+{
+    if is_standard(&file) {
+        return Err(fault);
+    }
+    Ok(file)
 }
 
 // Whether both are the same regular file, by whatever path. A pipe or a device has nothing to empty.

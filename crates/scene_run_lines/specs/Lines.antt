@@ -1,5 +1,5 @@
--- The kinds of line that are of a run, of an iteration of a stress run or of a replay, and what the fields behind their
--- words spell.
+-- The kinds of line of a run, of an iteration of a stress run or of a replay, and the values of the fields after their
+-- first word.
 use Rattle.std.specs.Prelude.{ℕ, List, length, if◌then◌else◌, Some, ◌==◌, ◌&&◌, Option, None, codes, bytes_eq}
 use Rattle.{std.specs.Option.option_flatten, uuid.specs.Text.parsed, scene_run_lines.specs.Parts.progress_in}
 use Rattle.{scene_run_lines.specs.Parts.moment_in, scene_fields.specs.Lists.instances_in}
@@ -16,7 +16,7 @@ use Rattle.scene_fields.specs.Values.{reason_or_none_in, stress_in}
 use Rattle.run_model.specs.declared.event.TestEventKind.TheVariants as event
 use Rattle.scene_fields.specs.declared.values.ConfigKey.TheVariants as key
 
--- what is made of the value of fields
+-- a line, with a function applied to its value
 abbrev pub made : {X Y : Type 0} → (X → Y) → Line X → Line Y
 made make line = do
   x ← line
@@ -95,7 +95,7 @@ input_line_fields = do
   running ← field (number_in 64)
   says (event_at elapsed.0 (event.InputEnter stats running))
 
--- how many tests were not seen, and those of them that are listed; where some were, or some are listed
+-- how many tests were not seen, and those that are listed, if there are any of either
 abbrev pub not_seen_fields : Line (Option NotSeen)
 not_seen_fields = do
   count ← field (number_in 64)

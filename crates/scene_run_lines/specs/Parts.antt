@@ -59,7 +59,7 @@ checked_day d = if is_day d then Some d else None
 abbrev pub checked_clock : Clock → Option Clock
 checked_clock c = if nat_lt c.hour 24 && (nat_lt c.minute 60 && nat_lt c.second 60) then Some c else None
 
--- a date and a time as six numbers with commas between them, of which the year may have a minus
+-- a date and a time as six numbers with commas between them; the year may have a minus
 abbrev pub moment_in : List ℕ → Option Moment
 moment_in t = do
   cut_1 ← cut 44 t

@@ -4,7 +4,7 @@ use crate::testing::{OPTIONS, expect_row, expect_text};
 use command_line::args::{Options, StoreOptions};
 use command_line::fault::Fault;
 use run_model::level::StatusLevel;
-use scenes::report::{read_whole, report_scene, write_report};
+use scenes::report::{read_whole, report_scene, write_scene};
 use std::alloc::{AllocError, Global};
 use std::mem;
 use std::test::Fail;
@@ -171,7 +171,7 @@ fn by_all_calls(
     records: &mut Vec<u8>,
 ) -> Result<(), Fault<'static>> {
     let scene = read_whole(alloc, options, text.as_bytes())?;
-    let (outcome, _, _) = write_report(alloc, options, &scene, report, records);
+    let (outcome, _, _) = write_scene(alloc, options, &scene, report, records);
     mem::forget(scene);
     outcome
 }

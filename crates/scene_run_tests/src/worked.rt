@@ -57,7 +57,7 @@ const LIST_ALL: &str = "config\tfinal\tall\n";
 
 const LISTED: &str = "end\t1000000000\tinitial=2 finished=2 passed=1 failed=1 skipped=1\t0\t-\n";
 
-// The summary of these three, in whatever order they came.
+// The summary of these three tests, in whatever order they finished.
 const OF_LISTED: &str = "------------
      Summary [   1.000s] 2 tests run: 1 passed, 1 failed, 1 skipped
         PASS [   1.000s] a t3

@@ -81,7 +81,7 @@ fn judge_and_write(
     store: &mut Device,
 ) -> Result<(), Fault<'static>> {
     let scene = judge(alloc, options, text.as_bytes())?;
-    let (outcome, _, _) = write_report(alloc, options, &scene, device, store);
+    let outcome = write_report(alloc, options, &scene, device, store);
     mem::forget(scene);
     outcome
 }
@@ -281,7 +281,7 @@ const fn keeping(
     })
 }
 
-// Every option that stands alone, and a level.
+// Every option without a value, and a level.
 const ALL: Options<'static> = Options {
     show_counter: true,
     is_replay: true,

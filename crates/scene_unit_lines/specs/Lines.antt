@@ -1,4 +1,4 @@
--- The kinds of line that tests and setup scripts have, and what the fields behind their words spell.
+-- The kinds of line of tests and setup scripts, and the values of the fields after their first word.
 use Rattle.std.specs.Prelude.{ℕ, zero, suc, ◌+◌, ◌/◌, ◌^◌, List, [], ◌∷◌, ◌++◌, length, if◌then◌else◌, nat_lt, Some}
 use Rattle.std.specs.Prelude.{Err, Option, None, codes, bytes_eq, ◌≡◌, Bool, true, false, Ok}
 use Rattle.{std.specs.Option.option_map, run_model.specs.Names.Attempt, run_model.specs.Names.Attempts}
@@ -25,7 +25,7 @@ use Rattle.run_model.specs.declared.output.ChildOutputDescription.TheVariants as
 use Rattle.run_model.specs.declared.event.TestEventKind.TheVariants as event
 use Rattle.run_model.specs.declared.info.InfoResponse.TheVariants as response
 
--- the value of the fields behind a word, by the first of these rows that has it, or else so
+-- the value of the fields after a word, by the first of these rows that has the word, or else this value
 abbrev pub by_row : {X : Type 0} → Line X → List (List ℕ × Line X) → List ℕ → Line X
 by_row otherwise [] word = otherwise
 by_row otherwise (row ∷ rows) word = if bytes_eq word row.0 then row.1 else by_row otherwise rows word
@@ -41,7 +41,7 @@ after_streams result output = do
   highlight ← field highlight_in
   says (wrote.Output result output errors highlight)
 
--- each stream by itself
+-- standard output and standard error, each by itself
 abbrev pub split_fields : Option ExecutionResultDescription → Line Written
 split_fields result = do
   stdout ← field stream_in
@@ -113,14 +113,14 @@ TakesEmptyOutput true old new = (result : Option ExecutionResultDescription)
     → output_fields result old ≡ Ok (wrote.Output result silent_output None None, new)
 TakesEmptyOutput false old new = new ≡ old
 
--- which test it is: binary and name
+-- the names of a test: binary and test
 unfoldable pub instance_fields : Line TestInstanceId
 instance_fields = do
   binary_id ← field text_in
   test_name ← field text_in
   says (test_named binary_id test_name)
 
--- which attempt it is, and how many there can be
+-- the number of an attempt, and how many are allowed
 unfoldable pub retry_fields : Line RetryData
 retry_fields = do
   attempt ← field (number_in 32)
@@ -163,7 +163,7 @@ attempts_from flaky total number (suc more) earlier last = do
   next ← attempt_fields (retry_numbered total attempt)
   attempts_from flaky total (number + 1) more (earlier ++ last ∷ []) next
 
--- attempts behind the first one, up to the end of the line, eight fields each
+-- the attempts after the first one, up to the end of the line, eight fields each
 abbrev pub attempts_behind : FlakyResult → ℕ → Attempt → Line (Attempts LiveSpec ChildOutputDescription)
 attempts_behind flaky total first p = attempts_from flaky total 2 (length p.left / 8) [] first p
 
@@ -233,7 +233,7 @@ skip_line_fields = do
   test ← instance_fields
   says (event_at 0 (event.TestSkipped stress_index test))
 
--- which script it is: its id, the program, and the program's arguments
+-- the names of a script: its id, the program, and the program's arguments
 unfoldable pub script_fields : Line ScriptFields
 script_fields = do
   script_id ← field text_in
@@ -288,7 +288,7 @@ state_fields = do
   state ← valued (state_with result begun)
   says (state, result)
 
--- the same, and what it has written
+-- the state, and what the unit has written
 unfoldable pub answer_fields : Line Answer
 answer_fields = do
   read ← state_fields

@@ -122,7 +122,7 @@ impl<'n> TestNames<'n> for Option<&'n OwnedTestInstanceId> {
     }
 }
 
-// Reads a name in place of another one.
+// Reads a name into the place of another one.
 #[inline(always)]
 fn read_name_over<K>(alloc: Global, fields: &mut Fields<'_>, name: &mut Name<K>) -> Line<()>
     ensures { Gives (λ _. name.new) fields.old result fields.new (field text_in) }
@@ -404,7 +404,7 @@ pub fn read_setup_done<'n>(alloc: Global, fields: &mut Fields<'_>) -> CallResult
     }))
 }
 
-// Which script it is.
+// The index of the script, and how many there are.
 #[derive(Drop)]
 struct ScriptFields {
     script_id: ScriptId,
@@ -526,7 +526,7 @@ fn read_output(
     read_spelled_output(alloc, fields, outcome)
 }
 
-// The same where outputs may be stored.
+// Reads such an output where streams may be stored.
 fn read_noted_output(
     alloc: Global,
     fields: &mut Fields<'_>,
@@ -606,7 +606,7 @@ fn take_empty_output(fields: &mut Fields<'_>) -> Result<bool, OutOfMemory>
     Ok(true)
 }
 
-// Whether an output that holds nothing comes first.
+// Whether the next fields are those of an empty output.
 fn is_empty_output(fields: &[&str]) -> bool
     ensures { IsTrue result → field_texts fields.now ≡ empty_output_fields ++ drop 5 (field_texts fields.now) }
 {

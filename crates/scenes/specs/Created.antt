@@ -5,8 +5,8 @@ use Rattle.command_line.specs.declared.args.{Options.Options, StoreOptions.Store
 use Rattle.scene_follower.specs.ParsedScenes.{OfText}
 use Rattle.scenes.specs.Judged.{IsRunAccepted}
 
--- It may be created for the path of the options, once a text is accepted that is all that the reader has.
+-- It may be created for the path of the options, once the text that a reader has is accepted, if it is known.
 abbrev pub MayCreate : (Bor (List ℕ) → Type 0) → Options → Option (List ℕ) → Type 0
-MayCreate may_be_called options remaining = (text : List ℕ) (store : StoreOptions)
-    → ((known : List ℕ) → remaining ≡ Some known → text ≡ known) → OfText text (IsRunAccepted options)
+MayCreate may_be_called options remaining = (store : StoreOptions)
+    → ((text : List ℕ) → remaining ≡ Some text → OfText text (IsRunAccepted options))
     → options.store ≡ Some store → may_be_called store.file

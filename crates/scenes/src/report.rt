@@ -3,7 +3,7 @@
 //! The report is gathered in memory while the lines are read, so no byte is written before a scene is accepted, and
 //! none of a scene that is refused.
 
-ghost use Rattle.std.specs.Prelude.{◌≡◌, ◌⊎◌, ℕ, List, None, Option, Some, IfErr, IfOk, OnOk, [], string_bytes};
+ghost use Rattle.std.specs.Prelude.{◌≡◌, ◌⊎◌, ℕ, List, None, Option, Some, IfErr, IfOk, Ok, OnOk, [], string_bytes};
 ghost use Rattle.{scenes.specs.Created.MayCreate, scenes.specs.Judged.fault_in_memory};
 ghost use Rattle.scene_follower.specs.Names.{Begins, IsJudgeFault, IsUnread, OfText, Prints, device};
 ghost use Rattle.scene_follower.specs.Names.{store_for};
@@ -11,18 +11,21 @@ ghost use Rattle.scenes.specs.Names.{IsFaultOfLines, IsRefusal, IsRefusedText, I
 ghost use Rattle.scenes.specs.Names.{SceneFails};
 ghost use Rattle.command_line.specs.declared.fault.Fault.TheVariants.{OutOfMemory, WriteFailed};
 ghost use Rattle.styled_text.specs.Names.{Appends, AppendsFront};
-ghost use Rattle.scene_reader.specs.Names.{text_lines};
+ghost use Rattle.scene_follower.specs.Names.{OfLines};
+ghost use Rattle.scene_reader.specs.Names.{ParsedLines, RunLine, no_lines, text_lines};
+ghost use Rattle.{scene_reader.specs.SceneTexts.text_read};
 ghost use Rattle.writers.specs.Writer.{Puts};
 
 use crate::gathering::Gathering;
 use crate::judge::Judge;
+use crate::keeping::KeepingSource;
 use crate::scene::Scene;
 use command_line::args::Options;
 use command_line::fault::Fault;
 use console_reporter::imp::Store;
 use console_reporter::write_str::{TextBuffer, WriteFault, WriteStr};
 use scene_follower::follow::follow_scene;
-use scene_follower::read::{Reading, SceneSource};
+use scene_follower::read::{Reading, RunSource, SceneSource};
 use scene_follower::reporter::{builder_of, decider_of};
 use scene_follower::scene_reporter::SceneReporter;
 use std::alloc::{AllocError, Global};
@@ -176,8 +179,8 @@ pub fn report_to_string<'a, R: Read + Drop>(
     Ok(mem::replace(report, String::new(alloc)))
 }
 
-/// Reads a scene to its end, and judges its text: each line by itself, and then whether its reporter would refuse a
-/// call.
+/// Reads a scene to its end, and judges each line as it is read, and then whether its reporter would refuse a call. It
+/// returns the text of the lines.
 ///
 /// # Errors
 ///
@@ -188,22 +191,23 @@ fn read_judged<'a, R: Read + Drop>(
     options: &Options<'a>,
     reader: R,
 ) -> Result<Vec<u8>, Fault<'a>>
-    ensures text { (text : List ℕ) → R.remaining reader ≡ Some text → IfOk result (λ read. read.items ≡ text) }
-    ensures accepted { IfOk result (λ read. OfText read.items (IsRunAccepted options.now)) }
+    ensures accepted { (text : List ℕ) → R.remaining reader ≡ Some text → IfOk result
+        (λ kept. OfText text (λ run. IsRunAccepted options.now run × (text_read kept.items ≡ Ok run))) }
     ensures fault { (text : List ℕ) → R.remaining reader ≡ Some text
         → IfErr result (IsRefusal options.now (text_lines text)) }
 {
-    let text = match read_text(alloc, options, reader) {
-        Ok(text) => text,
-        Err(fault) => return Err(fault),
+    let Ok(mut source) = KeepingSource::new(alloc, reader) else {
+        return Err(Fault::OutOfMemory);
     };
-    match judge_text(alloc, options, text.as_slice()) {
-        Ok(()) => Ok(text),
-        Err(fault) => Err(fault),
+    match judge_source(alloc, options, &mut source) {
+        Ok(()) => {}
+        Err(fault) => return Err(fault),
     }
+    let KeepingSource { kept, .. } = source;
+    Ok(kept)
 }
 
-// Judges a text: each of its lines, and then whether its reporter would refuse a call.
+// Judges a text.
 fn judge_text<'a>(alloc: Global, options: &Options<'a>, text: &[u8]) -> Result<(), Fault<'a>>
     ensures accepted { OnOk result (OfText text.now (IsRunAccepted options.now)) }
     ensures fault { IfErr result (IsRefusal options.now (text_lines text.now)) }
@@ -211,12 +215,26 @@ fn judge_text<'a>(alloc: Global, options: &Options<'a>, text: &[u8]) -> Result<(
     let Ok(mut source) = SceneSource::new(alloc, text) else {
         return Err(Fault::OutOfMemory);
     };
-    let mut reading = match Reading::begin(alloc, options.file, &mut source) {
+    judge_source(alloc, options, &mut source)
+}
+
+// Judges the lines of a source: each of them, and then whether their reporter would refuse a call.
+fn judge_source<'a, L: RunSource>(
+    alloc: Global,
+    options: &Options<'a>,
+    source: &mut L,
+) -> Result<(), Fault<'a>>
+    ensures accepted { (total : ℕ) (all : List RunLine) → L.left total source.old [] no_lines all → OnOk result
+        (OfLines all (λ run. IsRunAccepted options.now run × L.left total source.new [] run [])) }
+    ensures fault { (total : ℕ) (all : List RunLine) → L.left total source.old [] no_lines all
+        → IfErr result (IsRefusal options.now all) }
+{
+    let mut reading = match Reading::begin(alloc, options.file, source) {
         Ok(reading) => reading,
         Err(fault) => return Err(fault),
     };
     let mut judge = Judge::new(decider_of(options, &reading.read.config));
-    match reading.pass_to(alloc, options.file, &mut source, &mut judge) {
+    match reading.pass_to(alloc, options.file, source, &mut judge) {
         Ok(()) => {}
         Err(fault) => return Err(fault),
     }
@@ -332,7 +350,7 @@ pub fn judge<'a, R: Read + Drop>(
 ///
 /// The fault of the line of the first call that is refused; or a failed device, or refused memory, after which each
 /// device has a prefix.
-pub fn write_report<W: Write, S: Write>(
+pub fn write_scene<W: Write, S: Write>(
     alloc: Global,
     options: &Options<'_>,
     scene: &Scene,
@@ -356,4 +374,36 @@ pub fn write_report<W: Write, S: Write>(
         Err(fault) => return (Err(in_memory(fault)), writer, store_writer),
     }
     report_judged(alloc, options, scene.text(), writer, store_writer)
+}
+
+/// Writes the report of a scene as [`write_scene`] does, and drops both devices.
+///
+/// # Errors
+///
+/// Those of [`write_scene`].
+pub fn write_report<W: Write + Drop, S: Write + Drop>(
+    alloc: Global,
+    options: &Options<'_>,
+    scene: &Scene,
+    writer: W,
+    store_writer: S,
+) -> Result<(), Fault<'static>>
+    ensures ok { OnOk result
+        (OfText scene.now.text (λ run. (last : W) × (store_last : S)
+        × Prints device device options.now (W.contents writer, S.contents store_writer)
+        (W.contents last, S.contents store_last) run)) }
+    ensures err { IfErr result
+        (λ fault. IsRefusedText options.now scene.now.text fault
+        ⊎ OfText scene.now.text (λ run. (last : W) × (store_last : S)
+        × Begins device device options.now (W.contents writer, S.contents store_writer)
+        (W.contents last, S.contents store_last) run fault)) }
+{
+    let (outcome, _writer, _store_writer) = write_scene(
+        alloc,
+        options,
+        scene,
+        writer,
+        store_writer,
+    );
+    outcome
 }

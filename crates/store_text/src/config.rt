@@ -12,9 +12,9 @@ ghost use Rattle.store_text.specs.StoredOutput.{is_switched_on};
 /// ```
 #[derive(Clone, Copy, Debug, PartialEq, Eq)]
 pub struct StoreConfig {
-    /// Whether it keeps the output of tests whose last attempt passed, also if the test is flaky and counts as failed.
+    /// Whether it keeps the output of tests whose last attempt passed, even if a test is flaky and counts as failed.
     pub store_success_output: bool,
-    /// Whether it keeps the output of all others.
+    /// Whether it keeps the output of tests whose last attempt failed.
     pub store_failure_output: bool,
 }
 

@@ -4,6 +4,7 @@ pub mod Chunked
 pub mod Closed
 pub mod Cuts
 pub mod Decimals
+pub mod EscapeRows
 pub mod TrailingNewlines
 pub mod Feeds
 pub mod FitMarks

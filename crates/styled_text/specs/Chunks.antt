@@ -9,7 +9,7 @@ pub record IsLastLine (chunk rest : Text) : Type 0 where
   pub is_line : HasNoLineFeed chunk
   pub is_last : rest ≡ []
 
--- a run of whole lines within the limit, in bytes, which no further line fits
+-- as many whole lines as fit into the limit in bytes
 pub record IsLongestRun (limit : ℕ) (chunk rest : Text) : Type 0 where
   pub lines : Text
   pub ends_line : chunk ≡ lines ++ 10 ∷ []

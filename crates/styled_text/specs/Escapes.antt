@@ -17,7 +17,7 @@ abbrev pub one_len : (ℕ → Bool) → Text → ℕ
 one_len p [] = 0
 one_len p (c ∷ t) = if p c then 1 else 0
 
--- the length of what matches the two forms in sequence
+-- the length of a stretch of the first form and then one of the second
 abbrev pub then_len : (Text → ℕ) → (Text → ℕ) → Text → ℕ
 then_len f g t = f t + g (drop (f t) t)
 

@@ -17,18 +17,18 @@ columns_of cs = sum_by char_columns cs
 abbrev pub columns : Text → ℕ
 columns t = columns_of (chars (visible t))
 
--- of characters from position pos on, those between start and end
+-- the characters between the columns start and end; the first of all is at column `pos`
 abbrev pub kept_chars : ℕ → ℕ → ℕ → List ℕ → List ℕ
 kept_chars start end pos [] = []
 kept_chars start end pos (c ∷ cs) =
     if nat_le start pos && nat_le (pos + char_columns c) end then c ∷ kept_chars start end (pos + char_columns c) cs
     else kept_chars start end (pos + char_columns c) cs
 
--- of a stretch from position pos on
+-- the same for a stretch that begins at column `pos`
 unfoldable pub kept_stretch : ℕ → ℕ → ℕ → Text → Text
 kept_stretch start end pos s = if nat_lt pos end then encode_utf8_all (kept_chars start end pos (chars s)) else []
 
--- of pieces from position pos on: every sequence, and what is kept of each stretch
+-- the same for pieces, the first of which begins at column `pos`: every sequence is kept
 abbrev pub fit_pieces : ℕ → ℕ → ℕ → List PieceText → Text
 fit_pieces start end pos [] = []
 fit_pieces start end pos (SequenceText s ∷ ps) = s ++ fit_pieces start end pos ps

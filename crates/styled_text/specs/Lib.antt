@@ -2,14 +2,17 @@ pub mod EqualButEndSpaces
 pub mod ChunkEnds
 pub mod Chunks
 pub mod ColumnCounter
+pub mod ColumnCounterLaws
 pub mod TrailingNewline
 pub mod Escapes
 pub mod Fitted
+pub mod FittedLaws
 pub mod Fitting
 pub mod GatheredPieces
 pub mod Highlights
 pub mod Indent
 pub mod Indentation
+pub mod IndentationLaws
 pub mod Lines
 pub mod Numbers
 pub mod Piece

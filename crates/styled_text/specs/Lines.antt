@@ -10,7 +10,7 @@ lines t = slice_split (λ c. c == 10) t
 abbrev pub HasNoLineFeed : Text → Type 0
 HasNoLineFeed t = All (λ c. c ≢ 10) t
 
--- one line: a text that is not empty, with a line feed at its end or nowhere
+-- one line: a text that is not empty, and has a line feed only at its end, if at all
 pub record IsOneLine (t : Text) : Type 0 where
   pub is_there : 0 < length t
   pub is_line : HasNoLineFeed (take (length t - 1) t)

@@ -39,16 +39,20 @@ pub use Rattle.styled_text.specs.Escapes.{HasNoEscape, PieceText, csi_end_len, c
 pub use Rattle.styled_text.specs.Escapes.{is_control, is_intermediate, is_parameter, is_visible, is_within, joined}
 pub use Rattle.styled_text.specs.Escapes.{one_len, osc_len, pieces, short_len, stretches, then_len, visible}
 unfoldable pub use Rattle.styled_text.specs.Escapes.{pieces_after, sequence_len, visible_after}
-pub use Rattle.styled_text.specs.Fitted.{PutsChar, fitted_meaning, fitted_text, fitted_text-nil, is_char_kept}
-pub use Rattle.styled_text.specs.Fitted.{is_char_kept_by, kept_char, moved, moved_by, next_place, stops_kept}
+pub use Rattle.styled_text.specs.Fitted.{PutsChar, fitted_meaning, fitted_text, is_char_kept}
+pub use Rattle.styled_text.specs.FittedLaws.{fitted_text-nil}
+pub use Rattle.styled_text.specs.Fitted.{is_char_kept_by, kept_char, moved, moved_by, next_place}
+pub use Rattle.styled_text.specs.FittedLaws.{stops_kept}
 pub use Rattle.styled_text.specs.Fitting.{AreClosed, ArePainted, FitsWidth, IsClosed, IsPainted, columns, columns_of}
 pub use Rattle.styled_text.specs.Fitting.{fit_pieces, kept_chars, part_sequences, sequences, shrunk, shrunk_parts}
 pub use Rattle.styled_text.specs.Fitting.{stretch_columns}
 unfoldable pub use Rattle.styled_text.specs.Fitting.{char_columns, fit, kept_stretch}
 pub use Rattle.styled_text.specs.Indent.{IndentsInPieces, indented_line, indented_lines, margin}
 pub use Rattle.styled_text.specs.Indentation.{IndentedAccepts, IndentedStops, IndentedTakes, IndentsByBytes, PutsMargin}
-pub use Rattle.styled_text.specs.Indentation.{TakesMargin, after-append, after-none, after-onward, after_onward}
-pub use Rattle.styled_text.specs.Indentation.{indent-append, indent-none, indent-onward, indent_onward, indented_laws}
+pub use Rattle.styled_text.specs.Indentation.{TakesMargin, after_onward}
+pub use Rattle.styled_text.specs.IndentationLaws.{after-append, after-none, after-onward}
+pub use Rattle.styled_text.specs.Indentation.{indent_onward}
+pub use Rattle.styled_text.specs.IndentationLaws.{indent-append, indent-none, indent-onward, indented_laws}
 pub use Rattle.styled_text.specs.Indentation.{indented_meaning}
 pub use Rattle.styled_text.specs.Lines.{IsOneLine, lines, onto_first_line}
 pub use Rattle.styled_text.specs.Numbers.{digit_column, last_digits, rounded}
@@ -60,7 +64,8 @@ pub use Rattle.styled_text.specs.declared.fitting.{column_counter.ColumnCounter.
 pub use Rattle.styled_text.specs.declared.fitting.{scan_state.ScanState.ScanState}
 pub use Rattle.styled_text.specs.declared.indenter.indentation.Indented.{Indented}
 pub use Rattle.styled_text.specs.declared.style.{ListStyles.ListStyles, Style.Style, Styles.Styles}
-pub use Rattle.writers.specs.OnFormatter.{concat_append, folds_append, written_twice}
-pub use Rattle.writers.specs.TextBuffer.{BufferAccepts, BufferStops, GrowsWithin, Holds, buffer_laws}
+pub use Rattle.writers.specs.OnFormatterLaws.{concat_append, folds_append, written_twice}
+pub use Rattle.writers.specs.TextBuffer.{BufferAccepts, BufferStops, GrowsWithin, Holds}
+pub use Rattle.writers.specs.TextBufferLaws.{buffer_laws}
 pub use Rattle.writers.specs.Writer.{AppendsFront, Meaning, Owes, Puts, WriterLaws, successor}
 pub use Rattle.writers.specs.declared.write_str.{WriteFault.WriteFault, text_buffer.TextBuffer.TextBuffer}

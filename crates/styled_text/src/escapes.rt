@@ -83,8 +83,7 @@ impl<'a> Iterator for Scanner<'a> {
     }
 }
 
-/// The text without its sequences, in memory of its own.
-///
+/// The text without its sequences, as a new text.
 /// ```
 /// assert_eq!(strip(alloc, "a\x1b[31\nb")?.as_str(), "a\nb");
 /// ```
@@ -163,7 +162,7 @@ pub(crate) fn stretch_len(bytes: &[u8]) -> usize
     }
 }
 
-/// How many bytes of what follows an escape character belong to its sequence.
+/// How many bytes after an escape character belong to its sequence.
 #[tactic(auto, using(crate::proofs::lemmas::Pieces::len_laws), unfolding(crate::specs::Escapes::sequence_len))]
 #[inline(always)]
 pub(crate) fn sequence_len(after: &[u8]) -> usize

@@ -1,3 +1,5 @@
+pub mod Words
+pub mod FreeWords
 pub mod StatusLine
 pub mod TestFinished
 pub mod TestRetry

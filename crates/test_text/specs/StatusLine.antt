@@ -1,49 +1,24 @@
 -- The line of a finished test.
-use Rattle.std.specs.Prelude.{ℕ, Bool, true, false, ◌++◌, ◌&&◌, ◌==◌, codes, if◌then◌else◌, refl}
-use Rattle.styled_text.specs.Names.{decimal, Text, HasNoEscape}
-use Rattle.text_parts.specs.Names.{ExecutionResultDescription, FlakyResult, RetryData, StatusCase, StatusSummary}
-use Rattle.text_parts.specs.Names.{instance_part, bracketed, abort_line, long_word, short_word, success_word}
-use Rattle.text_parts.specs.Names.{is_plain_success}
-use Rattle.run_model.specs.declared.status.FlakyResult.TheVariants as flaky
+use Rattle.std.specs.Prelude.{ℕ, Bool, true, false, ◌&&◌, ◌==◌, codes, if◌then◌else◌}
+use Rattle.styled_text.specs.Names.{Text}
+use Rattle.text_parts.specs.Names.{ExecutionResultDescription, FlakyResult, StatusCase, StatusSummary, instance_part}
+use Rattle.text_parts.specs.Names.{bracketed, abort_line, long_word, short_word, success_word, is_plain_success}
 use Rattle.run_model.specs.declared.status.StatusCase.TheVariants.{Success, Flaky, Failure}
-use Rattle.styled_text.proofs.lemmas.{Closed.decimal_free, Widths.free_both}
-use Rattle.text_parts.{proofs.lemmas.ResultColourPairs.free-success_word}
-use Rattle.text_parts.{specs.declared.instance.CountedInstance.CountedInstance}
-use Rattle.report_words.specs.Parts.{Fixed, Parts, Open, Line, Lines, Tone, Pass, Fail, Skip, none, words, toned, Right}
-use Rattle.report_words.specs.Parts.{given_right, ◌⧺◌, choice, plainly}
-use Rattle.test_text.specs.declared.status_line.{StatusLine.StatusLine, StatusLineKind.StatusLineKind}
-use Rattle.test_text.specs.declared.status_line.{StatusLineKind.TheVariants.Intermediate}
-use Rattle.test_text.specs.declared.status_line.{StatusLineKind.TheVariants.Final}
+use Rattle.text_parts.proofs.lemmas.ResultColourPairs.{free-success_word}
+use Rattle.text_parts.specs.declared.instance.CountedInstance.{CountedInstance}
+use Rattle.report_words.specs.Parts.{Fixed, Parts, Open, Line, Lines, Tone, Pass, Fail, Skip, none, words, toned}
+use Rattle.report_words.specs.Parts.{Right, given_right, ◌⧺◌, choice, plainly}
+use Rattle.test_text.specs.declared.status_line.StatusLine.{StatusLine}
+use Rattle.test_text.specs.declared.status_line.StatusLineKind.{StatusLineKind}
+use Rattle.test_text.specs.declared.status_line.StatusLineKind.TheVariants.{Intermediate, Final}
+use Rattle.test_text.specs.Words.{attempt_words, flaky_words}
+use Rattle.test_text.specs.FreeWords.{free-flaky_words}
+use Rattle.run_model.specs.declared.status.FlakyResult.TheVariants as flaky
 
--- a word after the number of its attempt
-abbrev pub attempt_words : ℕ → Text → Text
-attempt_words attempt word = codes "TRY " ++ (decimal attempt ++ (codes " " ++ word))
-
-pub free-attempt_words : (attempt : ℕ) (word : Text) → HasNoEscape word → HasNoEscape (attempt_words attempt word)
-free-attempt_words attempt word free = free_both (decimal attempt) (codes " " ++ word) (decimal_free _) free
-
--- a success after earlier attempts: as it is shown during the run, and in the summary
+-- a flaky test: its style, and its word during the run and in the summary
 abbrev pub flaky_tone : FlakyResult → Tone
 flaky_tone flaky.Pass = Skip
 flaky_tone flaky.Fail = Fail
-
-abbrev pub flaky_label : FlakyResult → Text
-flaky_label flaky.Pass = codes "FLAKY "
-flaky_label flaky.Fail = codes "FLKY-FL "
-
-abbrev pub flaky_words : StatusLineKind → FlakyResult → RetryData → Text
-flaky_words Intermediate result retry = attempt_words retry.attempt (codes "PASS")
-flaky_words Final result retry = flaky_label result
-    ++ (decimal retry.attempt ++ (codes "/" ++ decimal retry.total_attempts))
-
--- these words hold no escape character
-pub free-flaky_words : (kind : StatusLineKind) (x : FlakyResult) (retry : RetryData)
-    → HasNoEscape (flaky_words kind x retry)
-free-flaky_words Intermediate x retry = free-attempt_words retry.attempt (codes "PASS") refl
-free-flaky_words Final flaky.Pass retry = free_both (decimal retry.attempt) (codes "/" ++ decimal retry.total_attempts)
-    (decimal_free _) (decimal_free retry.total_attempts)
-free-flaky_words Final flaky.Fail retry = free_both (decimal retry.attempt) (codes "/" ++ decimal retry.total_attempts)
-    (decimal_free _) (decimal_free retry.total_attempts)
 
 -- a success at the first attempt: only the summary says that it was slow
 abbrev pub success_tone : Bool → ExecutionResultDescription → Tone

@@ -1,15 +1,15 @@
 -- A failed attempt that is retried.
-use Rattle.std.specs.Prelude.{◌≡◌, ℕ, ◌+◌, Bool, true, false, Option, ◌++◌, ◌==◌, codes, unwrap_or}
-use Rattle.styled_text.specs.Names.{decimal, Text, HasNoEscape}
+use Rattle.std.specs.Prelude.{◌≡◌, ℕ, Bool, true, false, Option, ◌==◌, codes, unwrap_or}
 use Rattle.run_model.specs.Names.{Attempt, is_immediate, has_loaded_output, TestOutputDisplay, TestInstanceId}
 use Rattle.run_model.specs.Names.{StressIndex}
 use Rattle.text_parts.specs.Names.{RetryData, instance_end, padded_instance, short_word, is_level_shown, bracketed}
 use Rattle.text_parts.specs.Names.{by_delay, attempt_output}
-use Rattle.run_names.specs.declared.level.StatusLevel.TheVariants as status
-use Rattle.styled_text.proofs.lemmas.{Closed.decimal_free, Widths.free_both}
 use Rattle.report_words.specs.Parts.{Parts, Line, Lines, Retry, none, words, Right, given_right, ◌⧺◌, choice}
-use Rattle.{text_parts.specs.declared.instance.CountedInstance.CountedInstance}
-use Rattle.{text_parts.specs.declared.settings.Settings.Settings, test_text.specs.StatusLine.attempt_words}
+use Rattle.text_parts.specs.declared.instance.CountedInstance.{CountedInstance}
+use Rattle.text_parts.specs.declared.settings.Settings.{Settings}
+use Rattle.test_text.specs.Words.{attempt_words, delay_words}
+use Rattle.test_text.specs.FreeWords.{free-delay_words}
+use Rattle.run_names.specs.declared.level.StatusLevel.TheVariants as status
 
 -- the line of the failed attempt
 unfoldable pub attempt_failed_line : CountedInstance → Attempt → Parts false Line
@@ -19,7 +19,7 @@ attempt_failed_line test x =
     ⧺ bracketed x.time_taken.0
     ⧺ instance_end test
 
--- the output of a failed attempt is shown immediately: by the setting for failures, also if the test could not be
+-- the output of a failed attempt is shown immediately: by the setting for failures, even if the test could not be
 -- started
 unfoldable pub is_failed_output_shown : Settings → TestOutputDisplay → Bool
 is_failed_output_shown s failure = is_immediate (unwrap_or s.unit_output.overrides.force_failure_output failure)
@@ -31,14 +31,6 @@ HasFailedAttemptOutput s x failure = is_failed_output_shown s failure ≡ true �
 -- the output of a failed attempt, if that is shown immediately
 unfoldable pub failed_output : Settings → Attempt → TestOutputDisplay → Parts false Lines
 failed_output s x failure = choice (is_failed_output_shown s failure) (attempt_output s true x.result x.output) none
-
--- the number of the next attempt
-abbrev pub delay_words : RetryData → Text
-delay_words r = codes "DELAY " ++ (decimal (r.attempt + 1) ++ (codes "/" ++ decimal r.total_attempts))
-
-pub free-delay_words : (r : RetryData) → HasNoEscape (delay_words r)
-free-delay_words r = free_both (decimal (r.attempt + 1)) (codes "/" ++ decimal r.total_attempts)
-    (decimal_free (r.attempt + 1)) (decimal_free r.total_attempts)
 
 -- how long the next attempt waits, if it does
 unfoldable pub delay_line : CountedInstance → RetryData → ℕ → Parts false Lines

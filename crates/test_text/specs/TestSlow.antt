@@ -1,25 +1,17 @@
 -- A test that runs longer than it should.
-use Rattle.std.specs.Prelude.{ℕ, Bool, true, false, ◌&&◌, Option, codes, nat_le, nat_lt, if◌then◌else◌, refl}
-use Rattle.run_model.specs.Names.{status_rank, StatusLevel, TestInstanceId, StressIndex}
+use Rattle.std.specs.Prelude.{ℕ, Bool, true, false, Option, codes, if◌then◌else◌}
+use Rattle.run_model.specs.Names.{TestInstanceId, StressIndex}
 use Rattle.text_parts.specs.Names.{RetryData, instance_end, padded_instance, is_level_shown, exceeded}
-use Rattle.run_names.specs.declared.level.StatusLevel.TheVariants as status
-use Rattle.{styled_text.specs.Names.HasNoEscape, styled_text.specs.Names.Text, test_text.specs.StatusLine.attempt_words}
-use Rattle.{test_text.specs.StatusLine.free-attempt_words}
-use Rattle.{text_parts.specs.declared.instance.CountedInstance.CountedInstance}
-use Rattle.{text_parts.specs.declared.settings.Settings.Settings, report_words.proofs.lemmas.FreeWords.free-if}
+use Rattle.text_parts.specs.declared.instance.CountedInstance.{CountedInstance}
+use Rattle.text_parts.specs.declared.settings.Settings.{Settings}
 use Rattle.report_words.specs.Parts.{Parts, Line, Lines, Tone, Fail, Retry, Skip, none, words, Right, ◌⧺◌, choice}
+use Rattle.test_text.specs.Words.{is_last_attempt, slow_word, terminating_level, terminating_word}
+use Rattle.test_text.specs.FreeWords.{free-slow_word, free-terminating_word}
+use Rattle.run_names.specs.declared.level.StatusLevel.TheVariants as status
 
 -- the end of a slow test's line: how long the attempt has taken, and the test
 unfoldable pub slow_end : CountedInstance → ℕ → Parts false Line
 slow_end test elapsed = words (codes " ") ⧺ exceeded elapsed ⧺ instance_end test
-
--- the word of a slow attempt, with its number unless it is the first
-unfoldable pub slow_word : ℕ → Text
-slow_word attempt = if nat_lt 1 attempt then attempt_words attempt (codes "SLOW") else codes "SLOW"
-
-pub free-slow_word : (attempt : ℕ) → HasNoEscape (slow_word attempt)
-unfolding slow_word
-free-slow_word attempt = free-if (nat_lt 1 attempt) _ _ (free-attempt_words attempt (codes "SLOW") refl) refl
 
 -- an attempt is slow: the line, if slow tests are shown
 unfoldable pub slow_text : Settings → CountedInstance → ℕ → ℕ → Parts false Lines
@@ -27,32 +19,8 @@ slow_text s test attempt elapsed =
     choice (is_level_shown s status.Slow)
     (Right 12 Skip (slow_word attempt) (free-slow_word attempt) ⧺ slow_end test elapsed) none
 
--- no attempt follows
-unfoldable pub is_last_attempt : RetryData → Bool
-is_last_attempt r = nat_le r.total_attempts r.attempt
-
--- a terminated attempt counts as a failure, unless it is retried
-abbrev pub terminating_level : RetryData → StatusLevel
-terminating_level r = if is_last_attempt r then status.Fail else status.Retry
-
 abbrev pub terminating_tone : RetryData → Tone
 terminating_tone r = if is_last_attempt r then Fail else Retry
-
--- the run shows more than this level
-unfoldable pub is_level_exceeded : Settings → StatusLevel → Bool
-is_level_exceeded s level = nat_lt (status_rank level) (status_rank s.status_levels.status_level)
-
--- the number of a terminated attempt is shown: it is not the only attempt, and lines of lower levels are shown
-unfoldable pub has_number : Settings → RetryData → Bool
-has_number s r = nat_lt 1 r.total_attempts && is_level_exceeded s (terminating_level r)
-
--- the word of a terminated attempt; beside a number there is room for a short one only
-unfoldable pub terminating_word : Settings → RetryData → Text
-terminating_word s r = if has_number s r then attempt_words r.attempt (codes "TRMNTG") else codes "TERMINATING"
-
-pub free-terminating_word : (s : Settings) (r : RetryData) → HasNoEscape (terminating_word s r)
-unfolding terminating_word
-free-terminating_word s r = free-if (has_number s r) _ _ (free-attempt_words r.attempt (codes "TRMNTG") refl) refl
 
 -- a slow attempt is terminated: the line, if its level is shown
 unfoldable pub terminating_text : Settings → CountedInstance → RetryData → ℕ → Parts false Lines

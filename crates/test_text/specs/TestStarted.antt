@@ -1,7 +1,7 @@
 -- A test that starts, and a retry.
 use Rattle.std.specs.Prelude.{ℕ, false, List, Option, codes, refl}
 use Rattle.{run_model.specs.Names.TestInstanceId, run_model.specs.Names.StressIndex}
-use Rattle.{test_text.specs.StatusLine.attempt_words, test_text.specs.StatusLine.free-attempt_words}
+use Rattle.{test_text.specs.Words.attempt_words, test_text.specs.FreeWords.free-attempt_words}
 use Rattle.text_parts.specs.Names.{RunStats, RetryData, shell_words, padded_instance, untimed_end, shows_starts}
 use Rattle.text_parts.specs.Names.{started_counter}
 use Rattle.{text_parts.specs.declared.instance.CountedInstance.CountedInstance}

@@ -1,7 +1,7 @@
 //! The number of an attempt.
 
 ghost use Rattle.{styled_text.specs.Names.styled, styled_text.specs.Names.right_in};
-ghost use Rattle.{test_text.specs.StatusLine.attempt_words};
+ghost use Rattle.{test_text.specs.Words.attempt_words};
 
 use styled_text::style::Style;
 use styled_text::text::{Aligned, Painted};

@@ -5,7 +5,8 @@ ghost use Rattle.styled_text.specs.Names.{OnTrue, Puts, plain, styled, right_in}
 ghost use Rattle.{run_model.specs.Statuses.described_summary, text_parts.specs.ResultWords.long_failure_word};
 ghost use Rattle.{text_parts.specs.ResultWords.long_word};
 ghost use Rattle.report_words.specs.Parts.{paint, style_of};
-ghost use Rattle.test_text.specs.StatusLine.{is_final_line, shown_summary, flaky_tone, flaky_words, failure_words};
+ghost use Rattle.test_text.specs.StatusLine.{is_final_line, shown_summary, flaky_tone, failure_words};
+ghost use Rattle.test_text.specs.Words.{flaky_words};
 ghost use Rattle.test_text.specs.StatusLine.{success_text, is_flaky_failure, status_prefix, flaky_note};
 ghost use Rattle.test_text.specs.StatusLine.{flaky_failure_line, status_line};
 

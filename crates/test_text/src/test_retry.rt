@@ -2,8 +2,9 @@
 
 ghost use Rattle.std.specs.Prelude.{◌≡◌, true};
 ghost use Rattle.styled_text.specs.Names.{styled, right_in, Puts};
-ghost use Rattle.{report_words.specs.Parts.paint, test_text.specs.StatusLine.attempt_words};
-ghost use Rattle.test_text.specs.TestRetry.{HasFailedAttemptOutput, attempt_failed_text, delay_words, failed_output};
+ghost use Rattle.{report_words.specs.Parts.paint, test_text.specs.Words.attempt_words};
+ghost use Rattle.test_text.specs.TestRetry.{HasFailedAttemptOutput, attempt_failed_text, failed_output};
+ghost use Rattle.test_text.specs.Words.{delay_words};
 ghost use Rattle.test_text.specs.TestRetry.{is_failed_output_shown};
 ghost use Rattle.{text_parts.specs.Names.is_level_shown, text_parts.specs.Names.short_word};
 ghost use Rattle.{run_names.specs.declared.level.StatusLevel.TheVariants.Retry};

@@ -3,8 +3,9 @@
 ghost use Rattle.std.specs.Prelude.{◌≡◌};
 ghost use Rattle.styled_text.specs.Names.{styled, right_in, Puts};
 ghost use Rattle.report_words.specs.Parts.{paint, style_of};
-ghost use Rattle.test_text.specs.TestSlow.{has_number, is_last_attempt, is_level_exceeded, slow_word};
-ghost use Rattle.test_text.specs.TestSlow.{terminating_level, terminating_tone, terminating_word, test_slow_text};
+ghost use Rattle.test_text.specs.Words.{has_number, is_last_attempt, is_level_exceeded, slow_word, terminating_level};
+ghost use Rattle.test_text.specs.Words.{terminating_word};
+ghost use Rattle.test_text.specs.TestSlow.{terminating_tone, test_slow_text};
 
 use crate::attempt::Try;
 use run_model::level::StatusLevel;
@@ -68,7 +69,7 @@ struct SlowWord(Style, u32);
 impl WriteText for SlowWord {
     ghost text = { λ s. styled s.0 (right_in 12 (slow_word s.1)) };
 
-    #[tactic(auto, unfolding(crate::specs::TestSlow::slow_word))]
+    #[tactic(auto, unfolding(crate::specs::Words::slow_word))]
     fn write_to<W: WriteStr>(&self, w: &mut W) -> Result<(), WriteFault> {
         let SlowWord(style, attempt) = *self;
         if attempt > 1 {
@@ -92,7 +93,7 @@ impl WriteText for TerminatingWord<'_> {
     ghost text = { λ t. styled (style_of t.0.now.styles (terminating_tone t.1))
         (right_in 12 (terminating_word t.0.now t.1)) };
 
-    #[tactic(auto, unfolding(crate::specs::TestSlow::terminating_word))]
+    #[tactic(auto, unfolding(crate::specs::Words::terminating_word))]
     fn write_to<W: WriteStr>(&self, w: &mut W) -> Result<(), WriteFault> {
         let TerminatingWord(settings, retry_data) = *self;
         let style = terminating_style(&settings.styles, retry_data);
@@ -110,7 +111,7 @@ impl WriteText for TerminatingWord<'_> {
 }
 
 // The level of a terminated attempt: it is a failure, unless it is retried.
-#[tactic(auto, unfolding(crate::specs::TestSlow::is_last_attempt))]
+#[tactic(auto, unfolding(crate::specs::Words::is_last_attempt))]
 fn terminating_level(retry_data: RetryData) -> StatusLevel
     ensures { result ≡ terminating_level retry_data }
 {
@@ -122,7 +123,7 @@ fn terminating_level(retry_data: RetryData) -> StatusLevel
 }
 
 // The style of a terminated attempt.
-#[tactic(auto, unfolding(crate::specs::TestSlow::is_last_attempt))]
+#[tactic(auto, unfolding(crate::specs::Words::is_last_attempt))]
 fn terminating_style(styles: &Styles, retry_data: RetryData) -> Style
     ensures { result ≡ style_of styles.now (terminating_tone retry_data) }
 {
@@ -134,7 +135,7 @@ fn terminating_style(styles: &Styles, retry_data: RetryData) -> Style
 }
 
 // Whether the number of a terminated attempt is shown: it is not the only attempt, and lines of lower levels are shown.
-#[tactic(auto, unfolding(crate::specs::TestSlow::has_number))]
+#[tactic(auto, unfolding(crate::specs::Words::has_number))]
 fn has_number(settings: &Settings, retry_data: RetryData) -> bool
     ensures { result ≡ has_number settings.now retry_data }
 {
@@ -142,7 +143,7 @@ fn has_number(settings: &Settings, retry_data: RetryData) -> bool
 }
 
 // Whether the run shows more than this level.
-#[tactic(auto, unfolding(crate::specs::TestSlow::is_level_exceeded))]
+#[tactic(auto, unfolding(crate::specs::Words::is_level_exceeded))]
 fn shows_more_than(settings: &Settings, level: StatusLevel) -> bool
     ensures { result ≡ is_level_exceeded settings.now level }
 {

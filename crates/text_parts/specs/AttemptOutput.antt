@@ -1,25 +1,26 @@
 -- The output of a finished attempt or of a setup script, and how it ended.
-use Rattle.styled_text.specs.Names.{int_eq, Text, HasNoEscape}
+use Rattle.styled_text.specs.Names.{int_eq, Text}
 use Rattle.report_words.specs.Names.{Style, Styles, Parts, Line, Lines, none, words, Word, ◌⧺◌, choice}
 use Rattle.report_words.specs.Names.{drawn_given_line}
-use Rattle.std.specs.Prelude.{pos, Bool, true, false, not, ◌&&◌, None, Some, [], codes, if◌then◌else◌, refl}
-use Rattle.run_model.specs.{Names.Written, Names.UnitKind}
-use Rattle.run_model.specs.{declared.status.ExecutionResultDescription.ExecutionResultDescription}
-use Rattle.run_model.specs.{declared.status.FailureDescription.FailureDescription}
-use Rattle.run_model.specs.{declared.status.FailureDescription.TheVariants.ExitCode}
-use Rattle.run_model.specs.{declared.status.FailureDescription.TheVariants.Abort}
-use Rattle.{report_words.specs.declared.theme.ThemeCharacters.ThemeCharacters}
-use Rattle.{unit_report.proofs.lemmas.UnitColourPairs.ends-execution_output, text_parts.specs.InfoResult.info_text}
-use Rattle.{text_parts.specs.declared.settings.Settings.Settings}
-use Rattle.unit_report.specs.{UnitOutput.OutputLayout, UnitOutput.execution_output}
-use Rattle.unit_report.specs.{declared.unit_output.header.OutputHeader.OutputHeader}
-use Rattle.unit_report.specs.{declared.unit_output.header.OutputHeader.TheVariants.Bars}
-use Rattle.unit_report.specs.{declared.unit_output.header.OutputName.OutputName}
-use Rattle.run_model.specs.declared.status.ExecutionResultDescription.TheVariants as outcome
+use Rattle.std.specs.Prelude.{pos, Bool, true, false, not, ◌&&◌, None, Some, [], codes, if◌then◌else◌}
+use Rattle.run_model.specs.Names.{Written, UnitKind}
+use Rattle.run_model.specs.declared.status.ExecutionResultDescription.{ExecutionResultDescription}
+use Rattle.run_model.specs.declared.status.ExecutionResultDescription.{TheVariants as outcome}
+use Rattle.run_model.specs.declared.status.FailureDescription.{FailureDescription}
+use Rattle.run_model.specs.declared.status.FailureDescription.TheVariants.{ExitCode, Abort}
+use Rattle.report_words.specs.declared.theme.ThemeCharacters.{ThemeCharacters}
+use Rattle.unit_report.proofs.lemmas.UnitColourPairs.{ends-execution_output}
+use Rattle.text_parts.specs.InfoResult.{info_text}
+use Rattle.text_parts.specs.declared.settings.Settings.{Settings}
+use Rattle.unit_report.specs.UnitOutput.{OutputLayout, execution_output}
+use Rattle.unit_report.specs.declared.unit_output.header.OutputHeader.{OutputHeader}
+use Rattle.unit_report.specs.declared.unit_output.header.OutputHeader.TheVariants.{Bars}
+use Rattle.unit_report.specs.declared.unit_output.header.OutputName.{OutputName, TheVariants as name}
+use Rattle.text_parts.specs.Words.{info_line_start}
+use Rattle.text_parts.specs.FreeWords.{free-info_line_start}
 use Rattle.run_model.specs.declared.status.LeakTimeoutResult.TheVariants as leak
 use Rattle.run_model.specs.declared.status.SlowTimeoutResult.TheVariants as slow
 use Rattle.run_names.specs.declared.unit.UnitKind.TheVariants as unit
-use Rattle.unit_report.specs.declared.unit_output.header.OutputName.TheVariants as name
 
 -- the style of the headers: that of retries, else from the result
 abbrev pub result_style : Styles → ExecutionResultDescription → Style
@@ -74,16 +75,6 @@ has_info_line (outcome.Leak result) = true
 has_info_line (outcome.Fail failure leaked) = has_info_after_failure failure leaked
 has_info_line outcome.ExecFail = false
 has_info_line (outcome.Timeout result) = true
-
--- the start of the line that repeats the result; it calls a benchmark a test, too
-unfoldable pub info_line_start : UnitKind → Text
-info_line_start unit.Test = codes "    (test "
-info_line_start unit.Script = codes "    (script "
-
-pub free-info_line_start : (kind : UnitKind) → HasNoEscape (info_line_start kind)
-unfolding info_line_start
-free-info_line_start unit.Test = refl
-free-info_line_start unit.Script = refl
 
 -- the line that repeats the result, aligned with the output, and an empty line
 unfoldable pub shown_info_line : UnitKind → ExecutionResultDescription → Parts false Line

@@ -1,29 +1,19 @@
 -- The result of an attempt, in words.
-use Rattle.std.specs.Prelude.{ℤ, Bool, true, false, Option, None, Some, [], ◌++◌, codes, refl}
-use Rattle.styled_text.specs.Names.{signed_decimal, Text, plain, HasNoEscape}
+use Rattle.std.specs.Prelude.{ℤ, Bool, false, Option, None, Some, [], ◌++◌, codes}
+use Rattle.styled_text.specs.Names.{signed_decimal, Text, plain}
 use Rattle.report_words.proofs.lemmas.FreeWords.{free-signed}
-use Rattle.run_names.specs.declared.abort.AbortDescription.{AbortDescription, TheVariants.UnixSignal}
-use Rattle.run_names.specs.declared.abort.AbortDescription.{TheVariants.WindowsNtStatus, TheVariants.WindowsJobObject}
-use Rattle.run_model.specs.declared.status.{ExecutionResultDescription.ExecutionResultDescription}
-use Rattle.run_model.specs.declared.status.{LeakTimeoutResult.LeakTimeoutResult, SlowTimeoutResult.SlowTimeoutResult}
-use Rattle.run_model.specs.declared.status.{FailureDescription.FailureDescription}
-use Rattle.run_model.specs.declared.status.{FailureDescription.TheVariants.ExitCode}
-use Rattle.run_model.specs.declared.status.{FailureDescription.TheVariants.Abort}
+use Rattle.run_names.specs.declared.abort.AbortDescription.{AbortDescription}
+use Rattle.run_names.specs.declared.abort.AbortDescription.TheVariants.{UnixSignal, WindowsNtStatus, WindowsJobObject}
+use Rattle.run_model.specs.declared.status.ExecutionResultDescription.{ExecutionResultDescription}
+use Rattle.run_model.specs.declared.status.ExecutionResultDescription.{TheVariants as outcome}
+use Rattle.run_model.specs.declared.status.LeakTimeoutResult.{LeakTimeoutResult, TheVariants as leak}
+use Rattle.run_model.specs.declared.status.SlowTimeoutResult.{SlowTimeoutResult, TheVariants as slow}
+use Rattle.run_model.specs.declared.status.FailureDescription.{FailureDescription}
+use Rattle.run_model.specs.declared.status.FailureDescription.TheVariants.{ExitCode, Abort}
 use Rattle.report_words.specs.Parts.{Parts, Fixed, Open, Count, Pass, Fail, Skip, words, toned, Toned, Verbatim, ◌⧺◌}
 use Rattle.report_words.specs.Parts.{choice, plainly, drawn_given}
-use Rattle.run_model.specs.declared.status.ExecutionResultDescription.TheVariants as outcome
-use Rattle.run_model.specs.declared.status.LeakTimeoutResult.TheVariants as leak
-use Rattle.run_model.specs.declared.status.SlowTimeoutResult.TheVariants as slow
-
--- the note that a process left handles open, if it did
-unfoldable pub leaked_note : Bool → Text
-leaked_note false = []
-leaked_note true = plain (codes " (leaked handles)")
-
-pub free-leaked_note : (leaked : Bool) → HasNoEscape (leaked_note leaked)
-unfolding leaked_note plain
-free-leaked_note false = refl
-free-leaked_note true = refl
+use Rattle.text_parts.specs.Words.{leaked_note}
+use Rattle.text_parts.specs.FreeWords.{free-leaked_note}
 
 abbrev pub leaked_part : Bool → Fixed Open
 leaked_part leaked = Verbatim (leaked_note leaked) (free-leaked_note leaked)

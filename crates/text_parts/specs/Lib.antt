@@ -1,4 +1,6 @@
 pub mod AbortLine
+pub mod Words
+pub mod FreeWords
 pub mod AttemptOutput
 pub mod Bar
 pub mod Finish

@@ -39,7 +39,8 @@ pub use Rattle.text_parts.specs.Script.{IsPlainScript, Script, script_of, shown_
 pub use Rattle.text_parts.specs.{AbortLine.line_of_abort, AbortLine.line_of_failure, Bar.bar_line, InfoResult.info_text}
 pub use Rattle.text_parts.specs.{Instance.padded_instance, PlainResults.IsPlainResult, ResultWords.is_plain_success}
 pub use Rattle.text_parts.specs.{StatsText.counted_text, StatsText.failure_tone}
-unfoldable pub use Rattle.text_parts.specs.AttemptOutput.{info_line, info_line_start, shown_info_line, unit_output}
+unfoldable pub use Rattle.text_parts.specs.AttemptOutput.{info_line, shown_info_line, unit_output}
+unfoldable pub use Rattle.text_parts.specs.Words.{info_line_start}
 unfoldable pub use Rattle.text_parts.specs.StatsText.{counted_front, exec_failed_count, failed_count, failed_counts}
 unfoldable pub use Rattle.text_parts.specs.StatsText.{leaky_failed_note, passed_front, passed_notes, progress_message}
 unfoldable pub use Rattle.text_parts.specs.StatsText.{summary_text, timed_out_count}
@@ -49,11 +50,11 @@ unfoldable pub use Rattle.text_parts.specs.AbortLine.{abort_line, indented_messa
 unfoldable pub use Rattle.text_parts.specs.ResultWords.{long_word, short_word, success_word}
 unfoldable pub use Rattle.text_parts.specs.{InfoResult.signal_info, InfoResult.signal_name, Instance.instance_end}
 unfoldable pub use Rattle.text_parts.specs.{Instance.untimed_end, Settings.is_level_shown, Settings.shows_starts}
-pub use Rattle.unit_report.specs.Durations.{bracketed, by_delay, clock, exceeded}
+pub use Rattle.unit_report.specs.LineParts.{bracketed, by_delay, clock, exceeded}
 pub use Rattle.unit_report.specs.declared.{config.ResolvedDisplay.ResolvedDisplay, config.ShowProgress.ShowProgress}
 pub use Rattle.unit_report.specs.declared.{unit_output.DisplayerKind.DisplayerKind}
 pub use Rattle.unit_report.specs.declared.{unit_output.overrides.OutputDisplayOverrides.OutputDisplayOverrides}
-pub use Rattle.unit_report.specs.{Levels.overridden, PlainOutputs.IsPlainWritten, UnitKind.unit_part}
+pub use Rattle.unit_report.specs.{Levels.overridden, PlainOutputs.IsPlainWritten, LineParts.unit_part}
 pub use Rattle.unit_report.specs.{Overrides.display_for, Overrides.display_when, SkipCounts.skip_counts_text}
 pub use Rattle.unit_report.specs.{SkipCounts.skipped_tests_in, UnitOutput.OutputLayout, UnitOutput.layout_of}
 unfoldable pub use Rattle.unit_report.specs.UnitOutput.{child_output, errors_text, execution_output, present_stream}

@@ -42,7 +42,7 @@ counter_where (Some width) x = Some (Counter x.finished_count x.initial_run_coun
 abbrev pub finished_counter : Settings → RunStats → Option DisplayCounterIndex
 finished_counter s x = counter_where s.counter_width x
 
--- like `counter_where`, plus one: the counter of a test that starts
+-- like `counter_where`, plus one, for a test that starts
 abbrev pub next_where : Option ℕ → RunStats → Option DisplayCounterIndex
 next_where None x = None
 next_where (Some width) x = Some (Counter (x.finished_count + 1) x.initial_run_count)

@@ -1,29 +1,22 @@
 -- The counts of a run in words, and their style.
-use Rattle.std.specs.Prelude.{ℕ, Bool, true, false, ◌&&◌, ◌==◌, codes, if◌then◌else◌, refl}
-use Rattle.{run_model.specs.Stats.has_failures, run_model.specs.declared.stats.RunStats.RunStats}
-use Rattle.{styled_text.specs.Names.Text, styled_text.specs.Names.HasNoEscape}
-use Rattle.report_words.specs.Parts.{Fixed, Open, Tone, Pass, Fail, Skip, Count, none, words, Word, toned, number, ◌⧺◌}
-use Rattle.report_words.specs.Parts.{choice}
+use Rattle.std.specs.Prelude.{ℕ, Bool, true, ◌&&◌, ◌==◌, codes, if◌then◌else◌}
+use Rattle.run_model.specs.Stats.{has_failures}
+use Rattle.run_model.specs.declared.stats.RunStats.{RunStats}
+use Rattle.report_words.specs.Parts.{Fixed, Open, Tone, Pass, Fail, Skip, Count, none, words, Word, toned, number}
+use Rattle.report_words.specs.Parts.{◌⧺◌, choice}
+use Rattle.text_parts.specs.Words.{note_separator}
+use Rattle.text_parts.specs.FreeWords.{free-note_separator}
 
 -- the style of a run, by whether something in it has failed
 abbrev pub failure_tone : RunStats → Tone
 failure_tone x = if has_failures x then Fail else Pass
 
--- how many there are, and of what
+-- a number, and a space before the word for what it counts
 unfoldable pub counted_front : ℕ → Fixed Open
 counted_front n = number Count n ⧺ words (codes " ")
 
 abbrev pub counted_text : ℕ → Fixed Open → Fixed Open
 counted_text n word = counted_front n ⧺ word
-
--- what precedes a note in parentheses: the flag says that it is the first
-abbrev pub note_separator : Bool → Text
-note_separator true = codes " ("
-note_separator false = codes ", "
-
-pub free-note_separator : (b : Bool) → HasNoEscape (note_separator b)
-free-note_separator true = refl
-free-note_separator false = refl
 
 -- how many of the tests that passed are of a kind, if any; the flag says that this is the first note
 unfoldable pub passed_front : Bool → ℕ → Fixed Open

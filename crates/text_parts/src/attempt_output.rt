@@ -96,7 +96,7 @@ fn write_unit_execute_status<W: WriteStr>(
 }
 
 // The start of the line that repeats the result. It calls a benchmark a test, too.
-#[tactic(auto, unfolding(crate::specs::AttemptOutput::info_line_start))]
+#[tactic(auto, unfolding(crate::specs::Words::info_line_start))]
 fn info_line_start(kind: UnitKind) -> &'static str
     ensures { result.now ≡ info_line_start kind }
 {

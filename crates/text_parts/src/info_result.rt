@@ -1,6 +1,7 @@
 //! The result of an attempt, in words.
 
-ghost use Rattle.text_parts.specs.InfoResult.{abort_info, failure_info, info_text, leaked_note, signal_name};
+ghost use Rattle.text_parts.specs.InfoResult.{abort_info, failure_info, info_text, signal_name};
+ghost use Rattle.text_parts.specs.Words.{leaked_note};
 ghost use Rattle.{report_words.specs.Parts.paint, writers.specs.Writer.Puts};
 
 use itoa::Buffer;
@@ -26,7 +27,7 @@ pub struct InfoResult<'a> {
     pub styles: &'a Styles,
     /// Whether it was slow.
     pub is_slow: bool,
-    /// Its result.
+    /// How the attempt ended.
     pub outcome: &'a ExecutionResultDescription,
 }
 
@@ -142,7 +143,7 @@ struct LeakedNote(bool);
 impl WriteText for LeakedNote {
     ghost text = { λ n. leaked_note n.0 };
 
-    #[tactic(auto, unfolding(crate::specs::InfoResult::leaked_note))]
+    #[tactic(auto, unfolding(crate::specs::Words::leaked_note))]
     fn write_to<W: WriteStr>(&self, w: &mut W) -> Result<(), WriteFault> {
         if self.0 {
             " (leaked handles)".write_to(w)

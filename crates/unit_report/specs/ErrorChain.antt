@@ -3,7 +3,7 @@ use Rattle.std.specs.Prelude.{false, List, [], ◌++◌, ◌==◌, length, codes
 use Rattle.styled_text.specs.Names.{flat_map, indent, plain, Text}
 use Rattle.run_names.specs.ErrorChains.{MessageAndCauses}
 
--- a cause on a line of its own; its later lines are aligned below its first
+-- a cause on its own line; its later lines are aligned below its first
 unfoldable pub cause_text : Text → Text
 cause_text cause = plain (codes "\n  - ") ++ indent (codes "    ") false cause
 

@@ -1,4 +1,6 @@
 pub mod Captured
+pub mod FreeWords
+pub mod LineParts
 pub mod Durations
 pub mod ErrorChain
 pub mod Header

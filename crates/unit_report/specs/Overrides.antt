@@ -25,7 +25,7 @@ abbrev pub display_when : OutputDisplayOverrides → Bool → TestOutputDisplay 
 display_when o is_success success failure result = if is_success then unwrap_or o.force_success_output success else
     failure_display o failure result
 
--- a finished test has the setting of successes also if it is flaky and counts as failed
+-- a finished test has the setting of successes even if it is flaky and counts as failed
 abbrev pub display_for : OutputDisplayOverrides → TestOutputDisplay → TestOutputDisplay → StatusSummary
     → TestOutputDisplay
 display_for o success failure x = display_when o (is_success_case x.case) success failure x.result

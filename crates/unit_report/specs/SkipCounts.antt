@@ -61,7 +61,7 @@ filtered_text mode c f =
     choice (has_no_filtered c) none
     (tests_and_binaries mode c.skipped_tests_default_filter c.skipped_binaries_default_filter ⧺ via_filter f)
 
--- of the skipped tests, those that passed before and those that the default filter leaves out
+-- how many of the skipped tests passed before, and how many the default filter leaves out
 unfoldable pub included_text : NextestRunMode → SkipCounts → CompiledDefaultFilter → Parts false Open
 included_text mode c f =
     choice ((c.skipped_tests_rerun == 0) && has_no_filtered c) none

@@ -60,7 +60,7 @@ unfoldable pub present_stream : UnitOutputReporter → Styles → Text → Outpu
 present_stream r s margin header bytes highlight =
     if r.display_empty_outputs || not (length bytes == 0) then shown_stream s margin header bytes highlight else []
 
--- one of two streams. A replay says that it was not captured
+-- one of two streams; a replay says if it was not captured
 unfoldable pub stream_text : UnitOutputReporter → Styles → Text → OutputHeader → OutputName → Option Text
     → Option Subslice
     → Text

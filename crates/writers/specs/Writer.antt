@@ -10,7 +10,7 @@ pub record Meaning (S : Type 0) : Type 1 where
   pub accepts : S → List ℕ → S → Type 0
   -- the first writer accepted a prefix of the text, had this fault and became the second
   pub stops : S → List ℕ → WriteFault → S → Type 0
-  -- the text that was accepted so far, if it is known; of an indenting writer, what the writer below accepted
+  -- the text that was accepted so far, if it is known; for an indenting writer, what the writer below accepted
   pub text : S → Option (List ℕ)
   -- what accepting a text adds to that
   pub adds : S → List ℕ → List ℕ

@@ -4,7 +4,7 @@
 //! reaches a terminal or a file is always a prefix of the intended text.
 
 ghost use Rattle.std.specs.Prelude.{◌≡◌, [], OnOk, encode_utf8};
-ghost use Rattle.writers.specs.{StringWriter.string_meaning, StringWriter.string_laws, Texts.strs, Writer.Meaning};
+ghost use Rattle.writers.specs.{StringWriter.string_meaning, StringWriterLaws.string_laws, Texts.strs, Writer.Meaning};
 ghost use Rattle.writers.specs.{Writer.WriterLaws, Writer.Puts};
 
 mod on_formatter;

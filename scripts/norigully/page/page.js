@@ -116,6 +116,8 @@ const show = async () => {
   if (result.generation < shown.generation) return;
   shown = { ...result, tests: new Map(result.lines.map((line, test) => [line, test])) };
   [hits, at, marked, paper] = [[], -1, -1, null];
+  // Until here the page shows the run's own report as text.
+  [$("text").hidden, $("layout").hidden] = [true, false];
   layOut(0);
   $("summary").replaceChildren();
   if (!result.summary.length) $("summary").textContent = shown.count ? "The run did not end" : "The report is empty";

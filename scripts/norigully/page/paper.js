@@ -1,5 +1,5 @@
 // What is printed: the report that is shown, which is on paper alone. A browser asks for it at once, so its lines are
-// here before; until the run is read they are those that are in the page for browsers without scripts.
+// here before; until then it is the run's own report, as text.
 let paper = null;
 const takePaper = async () => { paper = await ask("paper", { generation: shown.generation }); };
 // Browsers take long to print many elements: what is one line each is together.
@@ -24,9 +24,7 @@ addEventListener("beforeprint", () => {
   const to = $("paper");
   to.replaceChildren();
   if (!paper) {
-    $("summary").textContent = "";
-    const text = document.querySelector("noscript").textContent;
-    to.append(new DOMParser().parseFromString(text, "text/html").body.textContent);
+    if ($("text").hidden) to.append($("text").textContent);
     return;
   }
   const saidOf = id => [$(`${id}-label`).textContent, $(id).selectedOptions[0].textContent].join(": ");
@@ -52,6 +50,4 @@ const start = async () => {
   await show();
   await goToAddress();
 };
-$("layout").hidden = false;
-$("summary").textContent = "Reading the run…";
 const ready = start().catch(error => { $("summary").textContent = `This run cannot be shown: ${error.message}`; });

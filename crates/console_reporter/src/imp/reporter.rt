@@ -385,8 +385,7 @@ impl<'a, W: WriteStr, S: WriteStr> DisplayReporter<'a, W, S> {
         }
     }
 
-    /// Returns the writer and the store as they are.
-    ///
+    /// Returns the writer and the store.
     /// ```
     /// let (writer, store) = reporter.into_parts();
     /// writer.write_str("done\n")?;

@@ -128,8 +128,8 @@ pub fn run_report_with_store<W: WriteStr, S: WriteStr>(
     }
 }
 
-/// Ends two borrows and leaves what they refer to as it is. Hidden: only this library and its programs need it, where a
-/// reporter with a store ends before its writers.
+/// Ends two borrows, and changes nothing. Hidden: only this library and its programs need it, where a reporter with a
+/// store ends before its writers.
 #[doc(hidden)]
 pub fn give_back<W, S>(writer: &mut W, store_writer: &mut S)
     ensures writer { writer.new ≡ writer.old }

@@ -8,12 +8,12 @@ use store_text::config::StoreConfig;
 use store_text::record::write_record;
 use writers::write_str::{WriteFault, WriteStr};
 
-/// The second writer of a reporter, and what it keeps.
+/// The second writer of a reporter, and which outputs it keeps.
 #[derive(Drop)]
 pub struct Store<'a, S> {
     /// Where the records go.
     pub writer: &'a mut S,
-    /// Which outputs they hold.
+    /// Which outputs the records hold.
     pub config: StoreConfig,
 }
 

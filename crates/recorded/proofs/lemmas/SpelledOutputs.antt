@@ -46,7 +46,6 @@ output_loads captured output = execution_with_output output captured
 
 abbrev pub attempt_loads : ChildOutputDescription → Attempt → Attempt
 attempt_loads captured attempt = attempt_with_output attempt captured
-}
 
 module _ (all : List ℕ) where
   -- what follows the streams is the same, whatever was captured

@@ -18,7 +18,7 @@ use writers::write_str::{WriteFault, WriteStr};
 pub enum ExitDescription {
     /// With a code.
     Code(i32),
-    /// It was ended from outside.
+    /// It was terminated by a signal, or by its equivalent on Windows.
     Abort(AbortDescription),
     /// The system does not say.
     Unknown,

@@ -448,14 +448,14 @@ pub fn write_test_name<W: WriteStr>(
 ) -> Result<(), WriteFault>
     ensures { Puts W.meaning w.old (test_name_text styles.now name.now) result w.new }
 {
-    // If neither style is a colour, the name is written as it is.
+    // If neither style is a colour, the name is written unchanged.
     if styles.module_path == Style::Plain && styles.test_name == Style::Plain {
         return w.write_str(name.as_str());
     }
     write_coloured_name(name, styles, w)
 }
 
-// Like `write_test_name`, in any styles.
+// Like `write_test_name`, for any styles.
 #[tactic(auto, unfolding(crate::specs::Instance::test_name_text))]
 #[inline(never)]
 fn write_coloured_name<W: WriteStr>(

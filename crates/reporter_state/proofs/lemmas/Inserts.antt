@@ -54,7 +54,7 @@ module _ (e : FinalOutputEntry) (place : ℕ) (ps : List Held) (at_end : place �
   inserted : Inserts e place ps (insert_entry held_cmp ps (key_at e place) e.output)
   inserted = inserts e place ps (grind arith)
 
-  -- the entries are shown in the final order, with this one after the others
+  -- the entries are shown in the final order, this one after the others
   pub shown_more : (kept : List FinalOutputEntry) → shown_of ps ≡ final_order kept
       → shown_of (insert_entry held_cmp ps (key_at e place) e.output) ≡ final_order (kept ++ e ∷ [])
   shown_more kept is =

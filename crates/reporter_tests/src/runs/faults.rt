@@ -164,7 +164,7 @@ impl Fault {
         self.try_calls(alloc, refused, calls, texts, left)
     }
 
-    // Like `try_run`, call by call.
+    // Like `try_run`, with one call at a time.
     fn try_calls(
         self,
         alloc: Global,

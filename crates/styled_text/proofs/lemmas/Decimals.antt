@@ -47,7 +47,7 @@ thousandths columns n fits = let r = rounded 1000000 n in
 decimals-last : (r : ℕ) → decimals r ≡ codes "." ++ last_digits 3 (r % 1000)
 decimals-last r = grind arith
 
--- the same in three parts: spaces, the seconds, and the thousandths
+-- the same number in three parts: spaces, the seconds, and the thousandths
 pub right-seconds : (columns n whole part : ℕ) (padding text : Text) → whole ≡ rounded 1000000 n / 1000
     → part ≡ rounded 1000000 n % 1000 → n < 2 ^ 128
     → padding ≡ spaces (columns - 4 - length text) → text ≡ decimal whole
@@ -97,7 +97,7 @@ pub ruleset decimal_laws = (IsUtf8-digits, IsUtf8-row)
 pub spaces_first : (n k : ℕ) (t : Text) → t ≡ spaces k → k ≤ n → spaces n ≡ t ++ spaces (n - k)
 spaces_first n k t is within = search (arith, replicate-append-replicate)
 
--- two texts, one behind the other
+-- two texts, one after the other
 pub both_columns : (n : ℕ) (a b : Text) → IsUtf8 a
     → n - length (chars a) - length (chars b) ≡ n - length (chars (a ++ b))
 both_columns n a b p = omega (arith, ap length (chars-append a b p), length-append (chars a) (chars b))

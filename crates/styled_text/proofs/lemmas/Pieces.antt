@@ -130,7 +130,7 @@ pub visible-sequence : (t after : Text) (c : ℕ) → t ≡ c ∷ after → c �
 unfolding visible_after
 visible-sequence t after c e i = search (arith, add-one, visible_after-drop)
 
--- also if there is no escape character
+-- even if there is no escape character
 pub visible-front : (t : Text) → length (drop (front_len is_visible t) t) ≡ 0 → visible t ≡ t
 unfolding visible_after
 visible-front [] h = refl

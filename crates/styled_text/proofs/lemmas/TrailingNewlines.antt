@@ -29,7 +29,7 @@ unfolding without_trailing_newline ends_in_line_feed
 held-alone true = (refl, refl)
 held-alone false = (refl, refl)
 
--- a text behind another one
+-- a text after another one
 end-behind : (t u : Text) → without_trailing_newline (t ++ u)
     ≡ without_trailing_newline t ++ without_trailing_newline (held (ends_in_line_feed t) ++ u)
 end-behind t [] = search (arith, append-nil, held-alone)

@@ -123,7 +123,7 @@ unfolding fit
 fit-all t start end h = let all = fit_pieces-all start end 0 (pieces t) (texts t h.0) (free_after 0 t) h.1 in
     grind arith
 
--- joined pieces, and a text behind them
+-- joined pieces, and a text after them
 joined-all : (ps : List PieceText) (t : Text) → AreFree ps → AreClosed (sequences ps)
     → (visible (joined ps ++ t) ≡ stretches ps ++ visible t)
     × (sequences (pieces (joined ps ++ t)) ≡ sequences ps ++ sequences (pieces t))

@@ -53,7 +53,8 @@ impl ColumnCounter {
 }
 
 impl WriteStr for ColumnCounter {
-    ghost use Rattle.styled_text.specs.ColumnCounter.{counter_meaning, counter_laws};
+    ghost use Rattle.styled_text.specs.ColumnCounter.{counter_meaning};
+    ghost use Rattle.styled_text.specs.ColumnCounterLaws.{counter_laws};
 
     ghost meaning = { counter_meaning };
 

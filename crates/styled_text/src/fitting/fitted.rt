@@ -66,7 +66,8 @@ impl<W: WriteStr> Fitted<'_, W> {
 }
 
 impl<W: WriteStr> WriteStr for Fitted<'_, W> {
-    ghost use Rattle.styled_text.specs.Fitted.{fitted_meaning, fitted_laws};
+    ghost use Rattle.styled_text.specs.Fitted.{fitted_meaning};
+    ghost use Rattle.styled_text.specs.FittedLaws.{fitted_laws};
 
     ghost meaning = { fitted_meaning W.meaning };
 

@@ -1,7 +1,8 @@
 //! A formatter as a writer, so that `Display` and a report have one text.
 
 ghost use Rattle.std.specs.Prelude.{◌≡◌};
-ghost use Rattle.writers.specs.OnFormatter.{formatter_meaning, formatter_laws};
+ghost use Rattle.writers.specs.OnFormatter.{formatter_meaning};
+ghost use Rattle.writers.specs.OnFormatterLaws.{formatter_laws};
 
 use super::{WriteFault, WriteStr};
 use std::fmt;

@@ -61,7 +61,7 @@ impl PendingBytes {
         CAPACITY - self.len
     }
 
-    /// Gathers bytes that fit.
+    /// Appends bytes that fit into the rest of the buffer.
     #[inline]
     pub(super) fn push(&mut self, bytes: &[u8])
         requires { length self.old + length bytes.now ≤ 8192 }

@@ -125,7 +125,8 @@ impl<W: Write> TextBuffer<W> {
 }
 
 impl<W: Write> WriteStr for TextBuffer<W> {
-    ghost use Rattle.writers.specs.TextBuffer.{buffer_meaning, buffer_laws};
+    ghost use Rattle.writers.specs.TextBuffer.{buffer_meaning};
+    ghost use Rattle.writers.specs.TextBufferLaws.{buffer_laws};
 
     ghost meaning = { buffer_meaning W.contents };
 

@@ -1,4 +1,5 @@
-use Rattle.std.proofs.Common.{◌≡◌, ℕ, List, [], ◌∷◌, ◌++◌, ◌∙◌, false, Option, None, Some, ap, append-nil, refl, rules, sym}
+use Rattle.std.proofs.Common.{◌≡◌, ℕ, List, [], ◌∷◌, ◌++◌, ◌∙◌, false, Option, None}
+use Rattle.std.proofs.Common.{Some, ap, append-nil, refl, rules, sym}
 use Rattle.std.{proofs.lemmas.Iterator.Adapters.option_map_id, specs.Option.is_some}
 use Rattle.memchr.specs.Find.{IsFirstByte, is_byte}
 use Rattle.scene_fields.specs.{Split.Lacks, Texts.text_in, Texts.unescaped}

@@ -1,4 +1,5 @@
-use Rattle.std.proofs.Common.{◌≡◌, ℕ, zero, suc, ◌+◌, ◌<◌, List, [], ◌∷◌, ◌++◌, ◌∙◌, ap, refl, sym, get_or, take, drop, length, arith}
+use Rattle.std.proofs.Common.{◌≡◌, ℕ, zero, suc, ◌+◌, ◌<◌, List, [], ◌∷◌, ◌++◌, ◌∙◌, ap}
+use Rattle.std.proofs.Common.{refl, sym, get_or, take, drop, length, arith}
 use Rattle.std.proofs.lemmas.{Str.IsCharBoundary-after_ascii}
 use Rattle.scene_fields.specs.Split.{split_on}
 use Rattle.scene_fields.proofs.lemmas.Cuts.{byte_at, split_on-first}

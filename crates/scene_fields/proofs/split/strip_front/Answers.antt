@@ -1,4 +1,5 @@
-use Rattle.std.proofs.Common.{◌≡◌, ◌-◌, ◌<◌, ◌∙◌, get_or, get_or-take, refl, rules, subst, sym, take, take-append-drop, length, arith}
+use Rattle.std.proofs.Common.{◌≡◌, ◌-◌, ◌<◌, ◌∙◌, get_or, get_or-take, refl, rules, subst}
+use Rattle.std.proofs.Common.{sym, take, take-append-drop, length, arith}
 use Rattle.std.specs.Str.{IsCharBoundary}
 use Rattle.std.proofs.lemmas.{Bool.Decides.Decides-eqb, Slice.Eq.slice_eq-Decides, Str.IsCharBoundary-after_ascii}
 use Rattle.scene_fields.proofs.split.strip_front.Goals as goal
@@ -15,8 +16,8 @@ range_from-requires g c above =
     subst (λ n. IsCharBoundary c.args.line.now n) (omega (arith, c.requires.some))
     (IsCharBoundary-after_ascii c.args.line.now (g.row.N - 1) c.utf8.line within low)
 
-pub returns : goal.returns
-returns g c =
+pub returns-then-eq : goal.returns-then-eq
+returns-then-eq g c =
     let at_front = rw c.as_bytes.ensures.value at c.in_ok-begin.ensures.cases in
     let same = slice_eq-Decides Decides-eqb c.in_ok-begin.begin.now c.args.front.now _ refl in
     let equal : c.in_ok-begin.begin.now ≡ c.args.front.now = same.0 (search rules) in

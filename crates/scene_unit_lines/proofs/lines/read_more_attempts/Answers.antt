@@ -7,7 +7,7 @@ use Rattle.{scene_fields.specs.declared.fault.LineFault.LineFault, scene_unit_li
 use Rattle.scene_fields.specs.declared.fault.LineError.TheVariants as error
 use Rattle.scene_unit_lines.proofs.lines.read_more_attempts.Goals as goal
 
--- a fault of what is read first is that of all
+-- a fault in what is read first is the fault of the whole
 fails_first : {A B : Type 0} (e : LineError) (f : A → Line B) (read : Result (A × Place) LineFault) (whole : Result
     (B × Place) LineFault)
     → whole ≡ goes_on f read → Fails e read → Fails e whole

@@ -1,14 +1,23 @@
+use Rattle.std.proofs.Common.{◌∙◌}
 use Rattle.scene_follower.proofs.Common.{text_lines}
-use Rattle.scenes.proofs.lemmas.{Gathered.read_refusal, SceneCalls.unread_stops}
+use Rattle.{scene_follower.proofs.lemmas.ReadLines.whole_left}
+use Rattle.scenes.proofs.lemmas.Kept.{kept_spells, none_kept}
 use Rattle.scenes.proofs.report.read_judged.Goals as goal
 
 pub returns-in-Err-clause-fault : goal.returns-in-Err-clause-fault
-returns-in-Err-clause-fault g c = λ text known. read_refusal c.args.options.now (text_lines text) c.in-Err.fault
-    (unread_stops c.args.options.now.file.now (text_lines text) c.in-Err.fault c.in-Err.ensures.fault)
+returns-in-Err-clause-fault g c = λ text known. c.in-Err.ensures.fault 0 (text_lines text) (
+  whole_left _ _ c.in-Ok.ensures.whole.1 text (c.in-Ok.ensures.whole.0 ∙ known),
+  none_kept _ c.in-Ok.ensures.kept,
+)
 
-pub returns-in-Ok-judge_text-clause-accepted : goal.returns-in-Ok-judge_text-clause-accepted
-returns-in-Ok-judge_text-clause-accepted g c = rw (← c.as_slice.ensures.value) c.in-Ok-judge_text.ensures.accepted
-
-pub returns-clause-fault : goal.returns-clause-fault
-returns-clause-fault g c = λ text known. rw (← c.in-Ok.ensures.text text known, ← c.as_slice.ensures.value)
-    c.in-Err-judge_text.ensures.fault
+pub returns-clause-accepted : goal.returns-clause-accepted
+returns-clause-accepted g c = λ text known.
+    let h = c.in-Ok-judge_source.ensures.accepted 0 (text_lines text) (
+      whole_left _ _ c.in-Ok.ensures.whole.1 text (c.in-Ok.ensures.whole.0 ∙ known),
+      none_kept _ c.in-Ok.ensures.kept,
+    ) in
+    record {
+      run = h.run;
+      spelled = h.spelled;
+      holds = (h.holds.0, kept_spells c.judge_source.new.source.kept.items h.run h.holds.1.1);
+    }

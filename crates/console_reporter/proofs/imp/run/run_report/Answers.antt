@@ -1,4 +1,4 @@
-use Rattle.{std.proofs.Common.rules, writers.specs.StringWriter.string_laws}
+use Rattle.{std.proofs.Common.rules, writers.specs.StringWriterLaws.string_laws}
 use Rattle.{console_reporter.specs.Configuration.configured, console_reporter.proofs.lemmas.Runs.runs_alone}
 
 pub returns : Rattle.console_reporter.proofs.imp.run.run_report.Goals.returns

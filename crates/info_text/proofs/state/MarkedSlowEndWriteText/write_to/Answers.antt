@@ -1,4 +1,4 @@
-use Rattle.info_text.specs.State.{marked_slow_end}
+use Rattle.info_text.specs.Words.{marked_slow_end}
 
 pub returns-in-Some : Rattle.info_text.proofs.state.MarkedSlowEndWriteText.write_to.Goals.returns-in-Some
 unfolding marked_slow_end

@@ -1,6 +1,6 @@
 use Rattle.{std.proofs.Common.rules, std.proofs.lemmas.List.nil_from_length, std.proofs.lemmas.Str.IsUtf8-past_char}
 use Rattle.{styled_text.proofs.lemmas.FitMarks.next_counted}
-use Rattle.{styled_text.specs.ColumnCounter.counter_laws, writers.proofs.lemmas.Steps.owes_accepted}
+use Rattle.{styled_text.specs.ColumnCounterLaws.counter_laws, writers.proofs.lemmas.Steps.owes_accepted}
 use Rattle.{writers.proofs.lemmas.Steps.owes_nothing}
 use Rattle.styled_text.proofs.fitting.column_counter.ColumnCounterWriteStr.write_str.Goals as goal
 

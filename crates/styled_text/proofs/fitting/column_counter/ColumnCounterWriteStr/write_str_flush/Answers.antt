@@ -1,4 +1,4 @@
-use Rattle.styled_text.specs.ColumnCounter.{counter_laws}
+use Rattle.styled_text.specs.ColumnCounterLaws.{counter_laws}
 
 pub returns-clause-text :
     Rattle.styled_text.proofs.fitting.column_counter.ColumnCounterWriteStr.write_str_flush.Goals.returns-clause-text

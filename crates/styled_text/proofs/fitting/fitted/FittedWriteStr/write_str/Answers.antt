@@ -1,6 +1,6 @@
 use Rattle.std.proofs.Common.{rules, Ok, Err}
 use Rattle.{std.proofs.lemmas.List.nil_from_length, std.proofs.lemmas.Str.IsUtf8-past_char}
-use Rattle.{styled_text.proofs.lemmas.FittedPuts.next_put, styled_text.specs.Fitted.fitted_laws}
+use Rattle.{styled_text.proofs.lemmas.FittedPuts.next_put, styled_text.specs.FittedLaws.fitted_laws}
 use Rattle.writers.proofs.lemmas.Steps.{owes_accepted, owes_stopped, owes_nothing}
 use Rattle.styled_text.proofs.fitting.fitted.FittedWriteStr.write_str.Goals as goal
 

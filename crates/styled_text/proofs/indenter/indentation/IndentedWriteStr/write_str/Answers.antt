@@ -1,4 +1,4 @@
-use Rattle.{std.proofs.Common.rules, styled_text.specs.Indentation.indented_laws}
+use Rattle.{std.proofs.Common.rules, styled_text.specs.IndentationLaws.indented_laws}
 use Rattle.writers.proofs.lemmas.Steps.{owes_accepted, owes_stopped, owes_done}
 use Rattle.styled_text.proofs.indenter.indentation.IndentedWriteStr.write_str.Goals as goal
 

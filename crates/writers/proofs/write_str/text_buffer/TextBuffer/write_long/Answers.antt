@@ -1,5 +1,5 @@
 use Rattle.writers.proofs.lemmas.Steps.{owes_accepted, owes_stopped, owes_done, split_parts}
-use Rattle.writers.specs.TextBuffer.{buffer_laws}
+use Rattle.writers.specs.TextBufferLaws.{buffer_laws}
 use Rattle.writers.proofs.write_str.text_buffer.TextBuffer.write_long.Goals as goal
 
 pub returns-in_err-write_piece : goal.returns-in_err-write_piece

@@ -1,4 +1,4 @@
-use Rattle.{std.proofs.Common.[], writers.proofs.lemmas.Steps.at_exit, writers.specs.TextBuffer.buffer_laws}
+use Rattle.{std.proofs.Common.[], writers.proofs.lemmas.Steps.at_exit, writers.specs.TextBufferLaws.buffer_laws}
 
 pub returns-in_err-deliver :
     Rattle.writers.proofs.write_str.text_buffer.TextBuffer.write_piece.Goals.returns-in_err-deliver

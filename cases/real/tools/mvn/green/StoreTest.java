@@ -1,0 +1,13 @@
+import static org.junit.Assert.*;
+
+import org.junit.Test;
+
+public class StoreTest {
+    static int tries;
+
+    @Test
+    public void opensAtTheSecondTry() {
+        assertEquals("tries", 2, ++tries);
+    }
+
+}
