@@ -270,7 +270,9 @@ class Calls(InFolder):
             mock.patch("norigully.front.become", lambda typed, words, find: calls.append(("become", words))),
             mock.patch("norigully.front.make_page", lambda words, find: calls.append(("page", words))),
             mock.patch("norigully.front.write_beside", lambda typed, made, words: calls.append((made, words))),
-            mock.patch("norigully.front.with_scene", lambda typed, made, option, words: has_files and [f"of{option}", *words]),
+            mock.patch(
+                "norigully.front.with_scene", lambda typed, made, option, words: has_files and [f"of{option}", *words]
+            ),
             mock.patch("norigully.entry.write", lambda text: calls.append(text)),
         ):
             front.do("./run", words.split(), lambda: "kit\n", None)

@@ -318,9 +318,9 @@ class Made(unittest.TestCase):
         self.program, self.scene, lines = self.folder / "program", self.folder / "scene", []
         self.write(PRINTER)
         lines.append(header((2024, 2, 29, 7, 5, 9), "ok"))
-        run = Run(lines.append, 3, 1, profile="ci")
+        run = Run(lines.append, 4, 1, profile="ci")
         run.done("a", "p", [Attempt("pass", 0)])
-        for name in "fg":
+        for name in "fgh":
             run.done("a", name, [Attempt("fail:1", 0)])
         run.end(5)
         self.scene.write_text("".join(lines).removesuffix("\n"))
@@ -341,13 +341,13 @@ class Made(unittest.TestCase):
                 for failure in ("", "immediate", "final", "never"):
                     for success in successes:
                         shown = f"{success or 'never'} {failure or 'immediate'}"
-                        report = f"level {level}\na p {shown}\na f {shown}\na g {shown}\n".encode()
+                        report = f"level {level}\na p {shown}\na f {shown}\na g {shown}\na h {shown}\n".encode()
                         keys.add(key := f"{level},{failure},{success}")
                         with self.subTest(key=key):
                             self.assertEqual(found.report(key), report)
             self.assertEqual({*found.about["reports"]}, keys)
-        self.assertEqual(found.about["tests"], [["a", "f", 2, 3], ["a", "g", 3, 4]])
-        self.assertEqual(found.about["lists"], {"failed": [0, 1], "flaky": [], "slowest": []})
+        self.assertEqual(found.about["tests"], [["a", "f", 2, 3], ["a", "g", 3, 4], ["a", "h", 4, 5]])
+        self.assertEqual(found.about["lists"], {"failed": [0, 1, 2], "flaky": [], "slowest": []})
         self.assertIn("32 of 96", found.about["note"])
 
     def test_page(self):
@@ -367,15 +367,15 @@ class Made(unittest.TestCase):
         facts["Took"] = "5.0 s"
         facts = "".join(f"<div><dt>{name}</dt> <dd>{value}</dd></div>" for name, value in facts.items())
         self.assertIn(f">{facts}</", found)
-        text = "level pass\na p never immediate\na f never immediate\na g never immediate\n"
-        self.assertIn(f'<pre id="text">\n{text}</pre>', found)
+        text = "".join(f"a {it} never immediate\n" for it in "pfgh")
+        self.assertIn(f'<pre id="text">\nlevel pass\n{text}</pre>', found)
         for name in ("about", "reports", "table"):
             self.assertRegex(found, f'\n?<script type="text/plain" id="{name}">[A-Za-z0-9+/]+=*</script>\n+<')
 
     def test_marks_that_change_more(self):
         """Where the report with marks is another one, no place is known."""
         self.write(PRINTER + 'wc -l < "$4"\n')
-        self.assertEqual(Page(self.made("--choices", "few")).about["tests"], [["a", it, -1, -1] for it in "fg"])
+        self.assertEqual(Page(self.made("--choices", "few")).about["tests"], [["a", it, -1, -1] for it in "fgh"])
 
     def test_faults(self):
         for text, said in (
