@@ -6,12 +6,11 @@ import io
 import tempfile
 import unittest
 from collections import Counter
-from unittest import mock
 
-from norigully import page_text, xml_characters
+from norigully import page_text
 from norigully.held_lines import held
 from norigully.panics import highlight_in
-from norigully.xml_characters import has_unfit, without_unfit
+from norigully.xml_characters import BEGINNING, LONGEST, without_unfit
 
 
 class Panics(unittest.TestCase):
@@ -100,31 +99,30 @@ class Xml(unittest.TestCase):
         ):
             with self.subTest(text=text):
                 left = Counter()
-                self.assertEqual(without_unfit(text, left), text if wanted is None else wanted)
+                self.assertEqual(self.taken(text, left), text if wanted is None else wanted)
                 found = {key[1]: count for key, count in left.items()}
                 self.assertEqual(
                     [it[0] for it in left], ["character" if it.startswith("U+") else "byte" for it in found]
                 )
                 self.assertEqual(sum(found.values()) if isinstance(left_out, int) else found, left_out)
-                self.assertEqual(self.has_unfit(text), bool(left_out))
+                for size in (1, 7, BEGINNING + 1):
+                    self.assertEqual(self.taken(text, Counter(), size), text if wanted is None else wanted)
 
-    def has_unfit(self, text):
-        return has_unfit(lambda at, size: text[at : at + size])
+    def taken(self, text, left, size=1 << 20):
+        """What is left of a text that comes in pieces of this size."""
+        return b"".join(without_unfit((text[at : at + size] for at in range(0, len(text), size)), left))
 
     def test_pieces(self):
-        """Texts are read a piece at a time, and what is cut between two is found."""
-        for size in (1 << 10, 1 << 20):
-            with mock.patch("norigully.xml_characters.PIECE", size):
-                for text in (b"&#27;", b"\x07", b"\xff", b"\xc3", b"&amp#27;[m", b"&#x0000000000001B;"):
-                    for place in (0, 3, 1000, 1021, 1023, 1024, 3000):
-                        with self.subTest(size=size, text=text, place=place):
-                            whole = b"x" * place + text
-                            self.assertTrue(self.has_unfit(whole))
-                            self.assertNotEqual(without_unfit(whole, Counter()), whole)
-                good = "é".encode() * 5000
-                self.assertFalse(self.has_unfit(b"x" + good))
-                self.assertEqual(without_unfit(b"x" + good, Counter()), b"x" + good)
-        self.assertEqual(xml_characters.LONGEST, 64)
+        """What is cut between two pieces is found."""
+        good = "é".encode() * 5000
+        for size in (BEGINNING, 3000):
+            for text in (b"&#27;", b"\x07", b"\xff", b"\xc3", b"&amp#27;[m", b"&#x%b1B;" % (b"0" * (LONGEST - 8))):
+                for place in (0, 3, 1000, 1021, 1023, 1024, 2999, 3000):
+                    with self.subTest(size=size, text=text, place=place):
+                        left, end = Counter(), b"\xef\xbf\xbd" if text in (b"\xff", b"\xc3") else b""
+                        self.assertEqual(self.taken(b"x" * place + text, left, size), b"x" * place + end)
+                        self.assertEqual(sum(left.values()), 1)
+            self.assertEqual(self.taken(b"x" + good, Counter(), size), b"x" + good)
 
 
 class Unseen(unittest.TestCase):

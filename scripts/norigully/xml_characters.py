@@ -9,7 +9,7 @@ REST = rb"\[[0-9;:]*[mK]"
 UNFIT = rb"(?:\x1b|&amp#27;)%b|[\x00-\x08\x0b\x0c\x0e-\x1f]" % REST
 REFERENCE = rb"&#(?:0*27|x0*1[bB]);%b|&#(?:0*([0-9]{1,8})|x0*([0-9a-fA-F]{1,8}));" % REST
 # What is looked for, by the end of what it is in: in a CDATA section and in a comment there are no references.
-LOOKED_FOR = {
+LOOKED_FOR: dict = {
     None: re.compile(rb"<!\[CDATA\[|<!--|%b|%b" % (REFERENCE, UNFIT)),
     **{end: re.compile(rb"%b|%b" % (re.escape(end), UNFIT)) for end in (b"]]>", b"-->")},
 }
