@@ -122,7 +122,7 @@ def make_page(program, scene):
     with tempfile.TemporaryDirectory() as folder:
         file = Path(folder, "a.scene")
         file.write_bytes(scene)
-        page.main(["--choices", "few", "-o", f"{folder}/a.html", str(file)], lambda _: program)
+        page.main(["--choices", "few", "-o", f"{folder}/a.html", str(file)], lambda: program)
 
 
 def used():
