@@ -6,14 +6,9 @@
 `scripts/check-docs` fails where that file is another picture. It needs Python 3 and nothing else.
 """
 
-import os
-import sys
+from norigully import print_help_if_asked
 
-sys.dont_write_bytecode = True
-sys.path.insert(0, os.path.dirname(os.path.realpath(__file__)))
-from norigully import print_help_if_asked  # noqa: E402
-
-import html  # noqa: E402
+import html
 
 WIDTH, HEIGHT, LINE = 900, 640, 19
 TITLE = "What is proved, what is tested and what is trusted"

@@ -8,15 +8,12 @@
 It knows the sequences that a report has: bold, the eight colours, bright black and the reset.
 """
 
-import os
 import sys
 
-sys.dont_write_bytecode = True
-sys.path.insert(0, os.path.dirname(os.path.realpath(__file__)))
-from norigully import print_help_if_asked  # noqa: E402
+from norigully import print_help_if_asked
 
-import html  # noqa: E402
-import re  # noqa: E402
+import html
+import re
 
 COLUMN, LINE, MARGIN = 8.4, 19, 14
 COLOURS = {31: "#e06c75", 32: "#98c379", 33: "#e5c07b", 34: "#61afef", 35: "#c678dd", 36: "#56b6c2", 90: "#7f848e"}

@@ -8,7 +8,7 @@ from norigully.words import options_of, settings_of, usage, why_wrong
 LEVELS = "none, fail, retry, slow, leak, pass, skip or all"
 FINAL = "none, fail, flaky, slow, skip, leak, pass, all"
 FLAGS = "--color --counter --replay --unload --store-success --store-failure"
-FIRST = "--follow --recorded --page --summary --annotations --junit --libtest"
+FIRST = "--follow --recorded --page --summary --annotations --failed --to-junit --junit --libtest"
 # Words of `report`, and why they are wrong.
 WRONG = (
     ("--hlep", "unknown option --hlep"),
@@ -101,6 +101,7 @@ class Words(unittest.TestCase):
             ("--level all --final-status-level slow f", [b"config\tfinal\tslow\n"], "--level all f"),
             ("--store --no-output-indent -o --no-output-indent f", [], None),
             ("--title --no-output-indent --choices --no-output-indent f", [], None),
+            ("--no-output-indent", [b"config\tnoindent\t1\n"], " "),
             ("f --no-output-indent", [], None),
             ("- --no-output-indent", [], None),
             ("--level", [], None),

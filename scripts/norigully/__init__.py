@@ -2,6 +2,9 @@
 
 import sys
 
+# Each script imports this: from here on none leaves bytecode in a checkout.
+sys.dont_write_bytecode = True
+
 # Each script imports this before its other modules, which an older Python would end in a traceback.
 if sys.version_info < (3, 10):
     sys.exit("%s: this needs Python 3.10 or later, and this is %d.%d" % (sys.argv[0], *sys.version_info[:2]))
