@@ -17,6 +17,7 @@ ENDS = {b"<![CDATA[": b"]]>", b"<!--": b"-->", b"]]>": None, b"-->": None}
 # What must not come together where something between is left out: its tool wrote no end of a section there.
 JOINED = {None: re.compile(rb"\][\]>]|<."), b"]]>": re.compile(rb"\][\]>]"), b"-->": re.compile(rb"-[>-]")}
 ESCAPE, SURROGATE = 0x1B, "\ufffd"
+CONTROLS = bytes(it for it in range(32) if it not in b"\t\n\r")
 # So many bytes are looked at before a text is taken for one of UTF-16, and no reference has more.
 BEGINNING, LONGEST = 1024, 64
 ENCODING = re.compile(rb"""\s*<\?xml[^>]*?\sencoding\s*=\s*["']([\w.-]+)""")
@@ -57,8 +58,10 @@ class Taker:
         """A piece and what was kept of the one before, but for some bytes that may begin what goes on behind them."""
         text = self.rest + (self.decoder.decode(piece, is_last).encode() if self.decoder else piece)
         parts, at, until = [], 0, len(text) if is_last else max(0, len(text) - LONGEST)
+        # To look for what is not there takes a hundred times as long.
+        may_have = self.end or b"<!" in text or b"&" in text or len(text.translate(None, CONTROLS)) < len(text)
         while at < until:
-            found = LOOKED_FOR[self.end].search(text, at)
+            found = LOOKED_FOR[self.end].search(text, at) if may_have else None
             if not found or found.start() >= until:
                 self.add(parts, text[at:until])
                 at = until
