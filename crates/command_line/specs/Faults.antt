@@ -7,7 +7,7 @@ use Rattle.std.specs.declared.io.ErrorKind.TheVariants as kind
 use Rattle.command_line.specs.declared.fault.Fault.TheVariants as fault
 use Rattle.command_line.specs.declared.fault.ReportProgram.TheVariants as program
 
--- the name of a program, and what its usage names last: what it reads
+-- the name of a program, and the last word of its usage, which names its input
 abbrev pub program_words : ReportProgram → List ℕ × List ℕ
 program_words program.Report = (codes "report", codes "FILE")
 program_words program.Follow = (codes "follow", codes "[FILE]")
@@ -42,7 +42,7 @@ status_of fault.StoreFailed = 3
 status_of fault.OutOfMemory = 3
 status_of _ = 2
 
--- a line of a scene is wrong, memory was refused, or this file cannot be read
+-- the fault of reading: a wrong line, refused memory, or a file that cannot be read
 abbrev pub IsJudgeFault : List ℕ → Fault → Type 0
 IsJudgeFault file (fault.Line n f) = ⊤
 IsJudgeFault file other = IsUnread file other

@@ -5,7 +5,8 @@ use Rattle.{scene_fields.specs.Split.Lacks, std.specs.Prelude.⊤}
 use Rattle.command_line.specs.declared.fault.Fault.TheVariants as fault
 use Rattle.command_line.specs.declared.pieces.Chunk.TheVariants as taken
 
--- The piece is before a line feed and the rest; or it is what follows the last line feed, and nothing is left.
+-- The text is the piece, a line feed and the rest; or the piece is what follows the last line feed, and nothing is
+-- left.
 abbrev pub IsNextPiece : List ℕ → Bool → List ℕ → Option (List ℕ) → Type 0
 IsNextPiece text true piece rest = (more : List ℕ) × (rest ≡ Some more) × (text ≡ piece ++ 10 ∷ more)
 IsNextPiece text false piece rest = (text ≡ piece) × Lacks 10 piece × (rest ≡ Some [])

@@ -113,7 +113,7 @@ pub enum ReportProgram {
 }
 
 impl ReportProgram {
-    // Its name, and what its usage names last: what it reads.
+    // Its name, and the last word of its usage, which names its input.
     fn words(self) -> (&'static str, &'static str)
         ensures { (result.0.now, result.1.now) ≡ program_words self }
     {

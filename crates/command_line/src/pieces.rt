@@ -96,7 +96,7 @@ fn take_buffered<R: Read>(
 }
 
 // The line feed that a piece ends before: the last buffered one, or the first if the piece is the beginning of a line.
-// A line that is longer than what is read at once is so a piece by itself.
+// So a line that is longer than the buffer is a piece by itself.
 fn end_of_lines(is_begun: bool, buffered: &[u8]) -> Option<usize>
     ensures feed { IsFeed buffered.now result }
     ensures begun { is_begun ≡ true → IsFirstByte (is_byte 10) buffered.now result }

@@ -25,7 +25,7 @@ abbrev pub captured_at : List ℕ → StoredOutput → Option ChildOutputDescrip
 captured_at all (Split stdout stderr) = captured_split (captured_stream_at all stdout) (captured_stream_at all stderr)
 captured_at all (Combined reference) = option_map (λ bytes. captured.Combined bytes) (stream_at all reference)
 
--- a stream has this fault: only what has bytes can have one
+-- the fault of a stream; only a stored stream can have one
 abbrev pub IsStreamFault : List ℕ → StoredStream → LoadFault → Type 0
 IsStreamFault all NotCaptured fault = ⊥
 IsStreamFault all Empty fault = ⊥
@@ -36,7 +36,7 @@ abbrev pub IsWholeBefore : List ℕ → StreamField → StoredOutput → Type 0
 IsWholeBefore all First output = ⊤
 IsWholeBefore all Second output = is_some (captured_stream_at all (stream_in_field First output)) ≡ true
 
--- what was loaded of a stream, or of an output, is what was captured; what was not has a fault
+-- a stream or an output was loaded as captured, or has this fault
 abbrev pub IsCapturedStream : List ℕ → StoredStream → Result (Option (List ℕ)) LoadFault → Type 0
 IsCapturedStream all stream (Ok loaded) = captured_stream_at all stream ≡ Some loaded
 IsCapturedStream all stream (Err fault) = IsStreamFault all stream fault
@@ -46,7 +46,7 @@ IsCaptured all output (Ok loaded) = captured_at all output ≡ Some loaded
 IsCaptured all output (Err f) = IsStreamFault all (stream_in_field f.stream output) f.fault
     × IsWholeBefore all f.stream output
 
--- a count of bytes once the bytes of a stream, or of an output, are read: those of its references
+-- the count of bytes after a stream, or an output, was read: the lengths of its references are added
 abbrev pub counted_stream : ℕ → StoredStream → ℕ
 counted_stream count NotCaptured = count
 counted_stream count Empty = count
@@ -56,19 +56,19 @@ abbrev pub counted_output : ℕ → StoredOutput → ℕ
 counted_output count (Split stdout stderr) = counted_stream (counted_stream count stdout) stderr
 counted_output count (Combined reference) = counted count reference.len
 
--- that count before the stream in this field is read
+-- the count before the stream in this field is read
 abbrev pub counted_before : StreamField → ℕ → StoredOutput → ℕ
 counted_before First count output = count
 counted_before Second count (Split stdout stderr) = counted_stream count stdout
 counted_before Second count (Combined reference) = counted count reference.len
 
--- how far a stream with this fault was read
+-- the count of bytes that were read of a stream with this fault
 abbrev pub IsCountedFault : ℕ → StoredStream → LoadFault → ℕ → Type 0
 IsCountedFault before NotCaptured fault after = ⊥
 IsCountedFault before Empty fault after = ⊥
 IsCountedFault before (At reference) fault after = IsCounted before reference (Err fault) after
 
--- what was read of a stream, or of an output, is counted
+-- the bytes read of a stream, or of an output, are counted
 abbrev pub IsCountedOfStream : ℕ → StoredStream → Result (Option (List ℕ)) LoadFault → ℕ → Type 0
 IsCountedOfStream before stream (Ok loaded) after = after ≡ counted_stream before stream
 IsCountedOfStream before stream (Err fault) after = IsCountedFault before stream fault after

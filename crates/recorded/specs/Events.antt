@@ -25,7 +25,7 @@ abbrev pub output_inline : List ℕ → StoredOutput → ChildOutputDescription
 output_inline all (Split stdout stderr) = captured.Split (stream_inline all stdout) (stream_inline all stderr)
 output_inline all (Combined reference) = captured.Combined (bytes_at all reference)
 
--- an event whose output at this place was captured
+-- an event with this captured output at this place
 abbrev pub event_with : ℕ → ChildOutputDescription → SceneEvent → SceneEvent
 event_with place captured (EventCall e) = EventCall (record e { kind = kind_with place captured e.kind })
 event_with place captured other = other
@@ -35,7 +35,7 @@ abbrev pub event_inline : List ℕ → List PlacedOutput → SceneEvent → Scen
 event_inline all [] event = event
 event_inline all (p ∷ ps) event = event_inline all ps (event_with p.place (output_inline all p.output) event)
 
--- whether all bytes of a stream are there, and whether they are those that were recorded
+-- whether all bytes of a stream are there, and whether they have the recorded sum
 abbrev pub is_there : List ℕ → StoredStream → Bool
 is_there all NotCaptured = true
 is_there all Empty = true
@@ -66,7 +66,7 @@ IfDamaged WrongSum P = P
 IfDamaged (CannotRead kind) P = ⊤
 IfDamaged OutOfMemory P = ⊤
 
--- what was accepted has no bad field, and what was refused for one has this first
+-- an accepted event has no bad field; of a refused one this is the first bad field
 abbrev pub IsFirstBad : Option ℕ → Result ⊤ LoadEventFault → Type 0
 IsFirstBad field (Ok x) = field ≡ None
 IsFirstBad field (Err f) = IfDamaged f.fault (field ≡ Some f.field)
@@ -90,7 +90,7 @@ abbrev pub is_wanted : Option ℕ → PlacedOutput → Bool
 is_wanted None p = true
 is_wanted (Some place) p = p.place == place
 
--- those of these outputs that it loads
+-- the outputs that a replay loads, of these
 abbrev pub wanted : Option ℕ → List PlacedOutput → List PlacedOutput
 wanted only [] = []
 wanted only (p ∷ ps) = if is_wanted only p then p ∷ wanted only ps else wanted only ps
@@ -107,7 +107,7 @@ event_replayed all d stored event =
     (if skips d event then Ok event else unless_bad (first_field_not (is_undamaged all) (wanted_of event stored))
     (Ok (event_inline all (wanted_of event stored) event)))
 
--- this event was made, or this is the fault, unless the outputs cannot be read or memory was refused
+-- the event that was made, or the fault; anything if the outputs cannot be read or memory was refused
 abbrev pub IsReplayed : List ℕ → OutputLoadDecider → List PlacedOutput → SceneEvent → Result ⊤ LoadEventFault
     → SceneEvent → Type 0
 IsReplayed all d stored old (Ok x) new = event_replayed all d stored old ≡ Ok new

@@ -10,12 +10,12 @@ use Rattle.command_line.specs.declared.fault.Fault.TheVariants as program
 use Rattle.recorded.specs.declared.outputs.LoadFault.TheVariants as load
 use Rattle.scene_fields.specs.declared.fault.LineFault.TheVariants as line
 
--- this many bytes were read, and no others: the count goes on from the old one with as many more
+-- exactly this many bytes were read: the new count is the old one plus that
 abbrev pub CountsMore : ℕ → ℕ → ℕ → Type 0
 CountsMore needed old new = (more : ℕ) → counted new more ≡ counted old (needed + more)
 
--- Why the outputs of this line's event, which a replay makes into this, were not put into it: they cannot be read,
--- memory was refused, or the event has a fault.
+-- Why the outputs of this line's event were not loaded: they cannot be read, memory was refused, or the event has a
+-- fault. they cannot be read, memory was refused, or the event has a fault.
 abbrev pub IsUnloaded : List ℕ → ℕ → Result SceneEvent LineFault → Fault → Type 0
 IsUnloaded file n made fault = IsUnread file fault ⊎ ((f : LineFault) × (made ≡ Err f) × (fault ≡ program.Line n f))
 
@@ -37,7 +37,7 @@ pub record LoadsCall {O K : Type 0} (recorded : O → Option (List ℕ)) (count 
       (CountsMore (needed_of (decider_for options config) (call_by_names call) stored) (count outputs)
       (count outputs_after))
 
--- the fault of the line of this number whose output in this field was not loaded
+-- the fault of a line: its number, and the field of the output that was not loaded
 abbrev pub fault_of_load : Bor (List ℕ) → ℕ → ℕ → LoadFault → Fault
 fault_of_load file n field (load.CannotRead kind) = fault_by_kind kind (program.CannotRead file)
 fault_of_load file n field load.OutOfMemory = program.OutOfMemory

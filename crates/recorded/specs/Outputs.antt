@@ -5,7 +5,7 @@ use Rattle.scene_reader.specs.Names.{Reference, end_of, sum_of}
 use Rattle.recorded.specs.declared.outputs.LoadFault.TheVariants.{CannotRead, PastEnd, WrongSum, OutOfMemory}
 use Rattle.recorded.specs.declared.outputs.LoadFault.{LoadFault}
 
--- the bytes at the place that a reference names, as far as they are there
+-- the bytes at the place of a reference, fewer if the file ends before
 abbrev pub bytes_at : List ℕ → Reference → List ℕ
 bytes_at all r = take r.len (drop r.offset all)
 

@@ -34,7 +34,7 @@ line_inline all t = RecordedLine t (λ before stored e. Ok (event_inline all sto
 abbrev pub lines_inline : List ℕ → List ℕ → List RunLine
 lines_inline all text = map (line_inline all) (ended_lines text)
 
--- what must be known before the line after one with this value
+-- what the next line depends on, after a line with this value
 abbrev pub before_rest : LinesBefore → Result (ParsedLine × List PlacedOutput) LineFault → LinesBefore
 before_rest before (Ok x) = before_behind before x.0
 before_rest before (Err f) = before

@@ -4,7 +4,7 @@ use Rattle.recorded.specs.Runs.{line_replayed, needed, ended_lines}
 use Rattle.{command_line.specs.declared.args.Options.Options, recorded.specs.Outputs.counted}
 use Rattle.scene_reader.specs.SceneTexts.{ParsedLines, RunLine, lines_before}
 
--- These lines are left after those before, and these texts are read next. Once all are read, `total` bytes of outputs
+-- `lines` remain after the lines already read, and `texts` are their texts. When all are read, `total` bytes of outputs
 -- were read.
 pub record IsLeft (total : ℕ) (options : Options) (recorded remaining : Option (List ℕ)) (bytes_read : ℕ)
     (texts : List (List ℕ)) (before : ParsedLines) (lines : List RunLine) : Type 0 where

@@ -23,7 +23,7 @@ use std::io;
 pub struct LoadEventFault {
     /// The field of a stream in the event's line, from 1 for its name.
     pub field: usize,
-    /// Why that stream was not loaded, or its output not put into the event.
+    /// Why the stream in that field was not loaded, or its output not put into the event.
     pub fault: LoadFault,
 }
 
@@ -77,8 +77,8 @@ pub fn load_outputs<O: ReadAt + Drop>(
     load_wanted(alloc, stored, only, outputs, event)
 }
 
-// Of a finished test only the output of the last attempt is loaded: its place. `None` for other events, of which every
-// output is loaded.
+// The place of the only output that is loaded, that of a finished test's last attempt. `None` for other events, of
+// which every output is loaded. `None` for other events, of which every output is loaded.
 fn only_place(event: &ReportCall<'_>) -> Option<usize>
     ensures { result ≡ only_place (call_by_names event.now) }
 {
@@ -146,7 +146,7 @@ fn check_all_there<O: ReadAt + Drop>(
     Ok(())
 }
 
-// Does so for one output. Standard output comes first.
+// Checks that one output is there, standard output first. Standard output comes first.
 fn check_output_there<O: ReadAt + Drop>(
     placed: &PlacedOutput,
     outputs: &mut RecordedOutputs<O>,
@@ -160,7 +160,7 @@ fn check_output_there<O: ReadAt + Drop>(
     check_stream_there(placed, StreamField::Second, outputs)
 }
 
-// Does so for one of its streams.
+// Checks that one stream is there.
 fn check_stream_there<O: ReadAt + Drop>(
     placed: &PlacedOutput,
     stream: StreamField,
@@ -233,7 +233,7 @@ fn is_wanted(only: Option<usize>, placed: &PlacedOutput) -> bool
     }
 }
 
-// Puts one of them into it.
+// Loads one output and puts it into the event.
 fn load_placed<O: ReadAt + Drop>(
     alloc: Global,
     placed: &PlacedOutput,

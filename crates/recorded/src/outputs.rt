@@ -72,7 +72,7 @@ pub struct StreamFault {
 #[derive(Drop)]
 pub struct RecordedOutputs<O: ReadAt> {
     source: O,
-    // The length at the last request for it.
+    // The length when it was last requested.
     len: u64,
     ghost known: { ForSome (O.recorded source) (λ all. len ≡ length all) },
 }

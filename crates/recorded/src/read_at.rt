@@ -24,7 +24,7 @@ pub trait Source {
     ghost asked: { Self → Self → Type 0 } = { λ _ _. ⊤ };
     // The length could not be found, and this is the error.
     ghost len_failed: { Self → Error → Type 0 } = { λ _ _. ⊤ };
-    // Once, from this position on, this many bytes were read, or could not be read.
+    // One read of this many bytes from this position was tried.
     ghost read_once: { ℕ → ℕ → Self → Self → Type 0 } = { λ _ _ _ _. ⊤ };
 
     /// How many bytes there are now. A file may grow between two calls.
@@ -161,7 +161,7 @@ pub struct Metered<S> {
 }
 
 impl<S: Source> Metered<S> {
-    /// With this source, of which nothing was read.
+    /// A meter before this source, with the count 0.
     pub fn new(source: S) -> Metered<S>
         ensures source { S.recorded result.source ≡ S.recorded source }
         ensures count { result.bytes_read ≡ 0 }

@@ -104,7 +104,7 @@ impl<'a, R: Read + Drop, O: ReadAt + Drop> RecordedRun<'a, R, O> {
             → IfOk result.0 (λ come_to. OfLines (lines_inline all text)
             (PrintsFollowed device device self.old.options (W.contents writer, S.contents store_writer)
             (W.contents result.1, S.contents result.2) come_to)) }
-        // A proof knows the outputs as numbers, and needs that each of them is a byte.
+        // Proofs see the outputs as numbers, and this says that each is a byte.
         ensures spelled { (text all : List ℕ) → reader_remaining R.remaining self.old.reader ≡ Some text
             → O.recorded self.old.outputs.source ≡ Some all → AreBytes all
             → IfOk result.0 (λ come_to. OfText (scene_spelled all text)

@@ -22,7 +22,7 @@ level_numbered n =
     else (if n == 7 then Some level.All
     else None)))))))
 
--- These options of the program are those of C, without records.
+-- The options of the program for these options of C: the same, without records.
 pub record AsksFor (options : NorigullyOptions) (program : Options) : Type 0 where
   pub should_colorize : program.should_colorize ≡ options.should_colorize
   pub show_counter : program.show_counter ≡ options.show_counter

@@ -102,7 +102,7 @@ pub extern "C" fn norigully_report(
     }
 }
 
-// The outcome of a scene with this fault: a report to memory has no other than a wrong line and refused memory.
+// The outcome of a scene with this fault. A report in memory can only fail for a wrong line or refused memory.
 fn outcome_of_fault(fault: &Fault<'_>) -> NorigullyOutcome
     ensures { result ≡ outcome_of_fault fault.now }
 {

@@ -1,4 +1,4 @@
-//! The report of a scene in memory, and the options of C as those of the program `report`.
+//! The report of a scene in memory, and the conversion of C's options.
 
 ghost use Rattle.std.specs.Prelude.{◌≡◌, ◌↔◌, [], IfSome, IfOk, IfErr, None, Some, string_bytes};
 ghost use Rattle.scene_follower.specs.Names.{OfText, Prints, device, store_for};

@@ -56,7 +56,7 @@ pub record SceneHeader : Type 0 where
   pub started_at : Moment
   pub status : List ℕ
 
--- what a line says: a call, whose test is named, and whose moment is the numbers that spell it
+-- the call of a line, with the names of its test as texts and its moment as numbers
 pub data SceneEvent : Type 0 where
   EventCall : TestEvent → SceneEvent
   HeaderCall : SceneHeader → SceneEvent
@@ -76,7 +76,7 @@ header_by_numbers h = record {
   status = h.status;
 }
 
--- what a call says, wherever the names of its test are
+-- a call without the addresses of its test's names
 abbrev pub call_by_names : ReportCall → SceneEvent
 call_by_names (call.Event e) = EventCall (record e { kind = kind_by_names e.kind })
 call_by_names (call.Header h) = HeaderCall (header_by_numbers h)
@@ -86,6 +86,6 @@ call_by_names (call.Prefix p) = PrefixCall p
 abbrev pub event_at : ℕ → TestEventKind → SceneEvent
 event_at elapsed k = EventCall (record { elapsed = record { 0 = elapsed }; kind = k })
 
--- and its call
+-- the call of that event
 abbrev pub event_call : ℕ → TestEventKind → ReportCall
 event_call elapsed k = call.Event (record { elapsed = record { 0 = elapsed }; kind = k })

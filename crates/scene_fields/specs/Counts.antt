@@ -10,7 +10,7 @@ use Rattle.scene_fields.specs.Split.{cut, split_on}
 use Rattle.scene_fields.specs.Numbers.{number_in}
 use Rattle.scene_fields.specs.Values.{reason_in}
 
--- a key, and what its value makes of the counts; None for a bad value
+-- a key, and how its value changes the counts; None for a bad value
 abbrev pub Row : Type 0 → Type 0
 Row C = List ℕ × (List ℕ → Option C)
 

@@ -65,7 +65,7 @@ exactly n line p = if length p.left == n then line p else Err WrongNumberOfField
 abbrev pub with_attempts : {X : Type 0} → Line X → Line X
 with_attempts line p = if nat_le 16 (length p.left) && (length p.left % 8 == 0) then line p else Err WrongNumberOfFields
 
--- the result of a function that does not allocate, as that of a Line
+-- the result of a function that does not allocate, as the result of a `Line`
 abbrev pub answered : {X : Type 0} → Result X LineFault → Place → Result (X × Place) LineFault
 answered (Ok x) place = Ok (x, place)
 answered (Err f) place = Err f
@@ -101,7 +101,7 @@ with_noted output field (Some noted) = Some (record {
   stored = noted.stored ++ placed noted.outputs field output;
 })
 
--- the output that comes next is counted, and noted if it is stored
+-- the next output is counted, and noted if it is stored
 abbrev pub noting : Option StoredOutput → Place → Place
 noting output p = record p { noted = with_noted output (p.number + 2) p.noted }
 
@@ -115,12 +115,12 @@ abbrev pub Fails : {Y : Type 0} → LineError → Result Y LineFault → Type 0
 Fails error.OutOfMemory read = ⊤
 Fails (error.Fault f) read = read ≡ Err f
 
--- the result of a function, seen through the view, is what was to be read, unless memory was refused
+-- the result of a function, through the view, is the expected value, unless memory was refused
 abbrev pub Reads : {X Y : Type 0} → (X → Y) → Result X LineError → Result Y LineFault → Type 0
 Reads view (Ok x) read = read ≡ Ok (view x)
 Reads view (Err e) read = Fails e read
 
--- the result is the value of the fields from old on, and new is where they were left
+-- the fields from `old` to `new` were read, with this result
 abbrev pub Gives : {X Y : Type 0} → (X → Y) → Place → Result X LineError → Place → Line Y → Type 0
 Gives view old result new line = Reads (λ x. (view x, new)) result (line old)
 

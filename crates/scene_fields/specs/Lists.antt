@@ -12,7 +12,7 @@ abbrev pub begins_with_comma : List ℕ → Bool
 begins_with_comma [] = false
 begins_with_comma (c ∷ t) = c == 44
 
--- bytes in front of the first word, which the others follow
+-- bytes put before the first word of a list
 abbrev pub in_first_word : List ℕ → List ℕ × Words → List ℕ × Words
 in_first_word t ws = (t ++ ws.0, ws.1)
 
@@ -21,11 +21,11 @@ abbrev pub list_escape : List ℕ → Option (List ℕ × Words → List ℕ × 
 list_escape t = if begins_with_comma t then Some (λ ws. ([], ws.0 ∷ ws.1)) else option_map (λ b. in_first_word (b ∷ []))
     (escape_byte 127 t)
 
--- the first word and the others of a list that has some, if its escapes are good ones
+-- the first word and the others of a list that has some, if its escapes are valid
 abbrev pub list_words : List ℕ → Option (List ℕ × Words)
 list_words t = unescaped_after in_first_word list_escape ([], []) 0 t
 
--- the words of a list, where `-` is the list of no word
+-- the words of a list; `-` is the empty list
 abbrev pub words_of : List ℕ → Option Words
 words_of t = if bytes_eq t (codes "-") then Some [] else option_map (λ ws. ws.0 ∷ ws.1) (list_words t)
 

@@ -31,12 +31,12 @@ abbrev pub with_parts : Option ℕ → Option ℕ → Option (List ℕ) → Opti
 with_parts (Some offset) (Some len) (Some sum) = Some (record { offset = offset; len = len; sum = sum })
 with_parts offset len sum = None
 
--- the reference of this offset and of a length and a sum
+-- the reference with this offset, from the texts of its length and sum
 abbrev pub with_rest : List ℕ → Option (List ℕ × List ℕ) → Option Reference
 with_rest offset None = None
 with_rest offset (Some x) = with_parts (number_in 64 offset) (number_in 64 x.0) (sum_in x.1)
 
--- the reference of an offset and of what follows it
+-- the reference the reference with this offset, from the text that follows it
 abbrev pub reference_cut : Option (List ℕ × List ℕ) → Option Reference
 reference_cut None = None
 reference_cut (Some x) = with_rest x.0 (cut 58 x.1)

@@ -9,7 +9,7 @@ use Rattle.run_model.specs.declared.status.FailureDescription.TheVariants as fai
 use Rattle.run_model.specs.declared.status.LeakTimeoutResult.TheVariants as leak
 use Rattle.run_model.specs.declared.status.SlowTimeoutResult.TheVariants as slow
 
--- a failure by an exit code, and one from outside
+-- a failure with an exit code, and one by an abort
 abbrev pub exit_code : Bool → ℤ → ExecutionResultDescription
 exit_code leaked code = outcome.Fail (failure.ExitCode code) leaked
 

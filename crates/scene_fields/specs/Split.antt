@@ -12,11 +12,11 @@ Lacks b (c ∷ t) = ((c == b) ≡ false) × Lacks b t
 unfoldable pub split_on : ℕ → List ℕ → List (List ℕ)
 split_on b t = slice_split (λ c. c == b) t
 
--- the first field of a line is read as this, and this text follows its tab
+-- the value of a line's first field, and the text after its tab
 abbrev pub BeginsWith : {X : Type 0} → (List ℕ → Option X) → List ℕ → X → List ℕ → Type 0
 BeginsWith read t x rest = (field : List ℕ) × (split_on 9 t ≡ field ∷ split_on 9 rest) × (read field ≡ Some x)
 
--- the pieces of a text that is left, or none
+-- the pieces of what is left of a text, or none
 abbrev pub pieces_left : ℕ → Option (Bor (List ℕ)) → List (List ℕ)
 pieces_left b None = []
 pieces_left b (Some t) = split_on b t.now
@@ -31,7 +31,7 @@ unfoldable pub cut : ℕ → List ℕ → Option (List ℕ × List ℕ)
 cut b [] = None
 cut b (c ∷ t) = if c == b then Some ([], t) else option_map (λ x. (c ∷ x.0, x.1)) (cut b t)
 
--- the texts that are borrowed
+-- borrowed texts, as texts
 abbrev pub cut_texts : Option (Bor (List ℕ) × Bor (List ℕ)) → Option (List ℕ × List ℕ)
 cut_texts o = option_map (λ x. (x.0.now, x.1.now)) o
 

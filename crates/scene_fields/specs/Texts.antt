@@ -62,7 +62,7 @@ byte_in_front most escape = option_map (λ b t. b ∷ t) (escape_byte most escap
 abbrev pub unescaped : ℕ → List ℕ → Option (List ℕ)
 unescaped most t = unescaped_after (λ plain u. plain ++ u) (byte_in_front most) [] 0 t
 
--- what a text spells, and below what the bytes of a stream spell
+-- the decoded text; `bytes_in` decodes the bytes of a stream
 abbrev pub text_in : List ℕ → Option (List ℕ)
 text_in t = unescaped 127 t
 

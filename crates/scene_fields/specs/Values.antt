@@ -14,12 +14,12 @@ use Rattle.run_names.specs.declared.level.FinalStatusLevel.TheVariants as final
 use Rattle.run_model.specs.declared.status.FlakyResult.TheVariants as flaky
 use Rattle.scene_fields.specs.declared.values.ConfigKey.TheVariants as key
 
--- the value whose word it is, of these words and their values
+-- the value with this word, from a list of words and values
 abbrev pub named : {V : Type 0} → List (List ℕ × V) → List ℕ → Option V
 named [] t = None
 named (row ∷ rows) t = if bytes_eq t row.0 then Some row.1 else named rows t
 
--- of values that have words
+-- the same for a type whose values have words
 abbrev pub of_word : {V : Type 0} → (V → List ℕ) → List V → List ℕ → Option V
 of_word word vs t = named (map (λ v. (word v, v)) vs) t
 

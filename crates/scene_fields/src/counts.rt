@@ -20,9 +20,9 @@ use run_model::stats::RunStats;
 // The greatest number of keys of any counts.
 const KEYS: usize = 15;
 
-// Counts that are read from pairs.
+// Counts that a scene writes as pairs.
 trait Counts: Copy {
-    // The keys, and what a value of each makes of these counts.
+    // The keys, and how a value of each changes these counts.
     ghost rows: { Self → List (Row Self) };
 
     // Sets the count of `word` and returns the index of its row; None for an unknown key or a bad value.

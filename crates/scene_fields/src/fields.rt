@@ -348,7 +348,7 @@ impl<'a> Fields<'a> {
     }
 }
 
-// The first of these texts, and the others.
+// Splits off the first of these texts.
 #[cold]
 fn first_text(texts: &mut [OwnedText]) -> Result<(&str, &mut [OwnedText]), LineFault>
     ensures { MatchResult result (λ parts. texts.old ≡ parts.0.now ∷ parts.1.now)

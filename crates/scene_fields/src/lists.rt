@@ -49,7 +49,7 @@ pub fn read_command_line(alloc: Global, field: &str) -> Result<Option<CommandLin
     Ok(Some(words))
 }
 
-// Adds a word that ends so. Its beginning, which only a word with an escape has, is taken.
+// Adds a word with this end. Its beginning, if it had an escape, is taken from the buffer.
 fn push_word(words: &mut CommandLine, beginning: &mut String, end: &str) -> Result<(), OutOfMemory>
     ensures word { OnOk result (words.new ≡ words.old ++ (string_bytes beginning.old ++ end.now) ∷ []) }
     ensures taken { OnOk result (string_bytes beginning.new ≡ []) }

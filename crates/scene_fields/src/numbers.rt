@@ -9,7 +9,7 @@ ghost use Rattle.scene_fields.specs.{Numbers.starts_with_digit, Split.BeginsWith
 
 use run_model::time::Nanos;
 
-// This many digits fit 64 bits whatever they are.
+// Any number of so many digits fits 64 bits.
 const MOST_DIGITS: usize = 19;
 
 /// Reads a count: any number that fits a `usize`.
@@ -25,7 +25,7 @@ pub fn read_count(text: &str) -> Option<usize>
     parse_count(text)
 }
 
-// The number that digits without a plus write.
+// The value of digits without a plus.
 fn parse_count(text: &str) -> Option<usize>
     ensures { SomeIff result (IsNumeral 10 text.now × (digits_value 10 text.now < 2 ^ 64)) (digits_value 10 text.now) }
 {
@@ -38,7 +38,7 @@ fn parse_count(text: &str) -> Option<usize>
     text.parse().ok()
 }
 
-// The number that at most nineteen digits write.
+// The number that The value of at most nineteen digits.
 #[inline]
 #[tactic(auto, using(crate::proofs::lemmas::ShortNumbers::not_whole))]
 fn short_number(text: &[u8]) -> Option<u64>

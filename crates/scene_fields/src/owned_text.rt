@@ -1,4 +1,4 @@
-//! A text in memory of its own.
+//! A text that owns its memory.
 //!
 //! The fields of a large line are cut out of its memory without a copy, and its outputs keep that memory. So a scene
 //! with one large output takes hardly more memory than its file has bytes.
@@ -13,7 +13,7 @@ use std::alloc::Global;
 use std::marker::Model;
 use std::mem;
 
-/// A text in memory of its own. Contracts see its bytes.
+/// A text that owns its memory. Contracts see its bytes.
 #[derive(Drop)]
 pub struct OwnedText {
     memory: BytesMut,

@@ -72,8 +72,8 @@ pub fn cut_field(line: &str) -> Option<(&str, &str)>
     Some((&line[..tab], &line[tab + 1..]))
 }
 
-/// The text behind these bytes at the front of a line, or None if it does not begin with them. They are ASCII, and an
-/// array, so that their number is known and at most eight of them are compared in one or two instructions.
+/// The text after this prefix, or None if a line does not begin with it. They are ASCII, and an array, so that their
+/// number is known and at most eight of them are compared in one or two instructions.
 ///
 /// ```
 /// assert_eq!(strip_front("done\t-", b"done\t"), Some("-"));

@@ -20,7 +20,7 @@ pub enum StoredStream {
 /// An output of a recorded run, with at least one stream in the file of outputs.
 #[derive(Clone, Copy, Debug, PartialEq, Eq)]
 pub enum StoredOutput {
-    /// Each stream by itself.
+    /// Standard output and standard error, each by itself.
     Split {
         /// Standard output.
         stdout: StoredStream,
@@ -29,7 +29,7 @@ pub enum StoredOutput {
     },
     /// Both streams together, in the order in which they were written.
     Combined {
-        /// Their bytes.
+        /// The bytes of both.
         output: Reference,
     },
 }

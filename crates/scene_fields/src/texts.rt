@@ -52,7 +52,7 @@ fn read_escaped<'a>(
     bytes.truncate(len);
     match String::from_utf8(bytes) {
         Ok(text) => Ok(Some(CowStr::Owned(text))),
-        // No escape of ASCII makes a text something else.
+        // A byte of ASCII keeps the text valid UTF-8.
         Err(_) => Err(OutOfMemory),
     }
 }
@@ -149,7 +149,8 @@ static VALUES: [u8; 256] = *b"\
     \x10\x10\x10\x10\x10\x10\x10\x10\x10\x10\x10\x10\x10\x10\x10\x10\
     \x10\x10\x10\x10\x10\x10\x10\x10\x10\x10\x10\x10\x10\x10\x10\x10";
 
-// The value of a hexadecimal digit, and 16 for any other byte. Random digits cannot be predicted, so nothing branches.
+// The value of a hexadecimal digit, and 16 for any other byte. It does not branch, since the digits of a random text
+// cannot be predicted.
 #[inline(always)]
 fn digit_value(byte: u8) -> u8
     ensures digit { digit_value byte < 16 → result ≡ digit_value byte }

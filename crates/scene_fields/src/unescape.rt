@@ -43,7 +43,7 @@ fn unescape_up_to(bytes: &mut [u8], most: u8) -> Option<usize>
             to += 1;
             from += 1 + len;
         } else if from + 1 < bytes.len() && bytes[from + 1] == b'\\' {
-            // a byte between two escapes needs no block
+            // a single byte between two escapes needs no block
             bytes[to] = bytes[from];
             to += 1;
             from += 1;
@@ -68,7 +68,7 @@ fn move_plain(bytes: &mut [u8], from: usize, to: usize) -> usize
     let block = load_block(bytes, from);
     let count = plain_len(block, bytes.len() - from);
     if from + count - to >= BLOCK {
-        // The whole block may be written: what is left to read begins at its end, or after it.
+        // The whole block may be overwritten: unread bytes begin at its end, or later.
         block.copy_to_slice(&mut bytes[to..]);
         return count;
     }

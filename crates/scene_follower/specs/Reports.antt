@@ -69,7 +69,7 @@ report_of options config calls = report (configuration_for options config) (reve
 abbrev pub stored_of : Options → List ReportCall → Text
 stored_of options calls = stored (store_for options) (reverse calls)
 
--- the fault of a call that failed, on the line of this number; only a refused call's fault has that number
+-- the fault of a failed call; the fault of a refused call has the number of its line
 abbrev pub fault_at_call : ℕ → WriteEventError → Fault
 fault_at_call n RetriedSuccess = Line n line.RetriedSuccess
 fault_at_call n OutputNotLoaded = Line n line.OutputNotLoaded
@@ -78,7 +78,7 @@ fault_at_call n Memory = OutOfMemory
 fault_at_call n Failed = WriteFailed
 fault_at_call n StoreIo = StoreFailed
 
--- what the scene's reporter decides by
+-- the decider of the scene's reporter
 abbrev pub decider_for : Options → SceneConfig → OutputLoadDecider
 decider_for options config = decider_of (configuration_for options config)
 
@@ -93,7 +93,7 @@ pub record RefusesEvent (options : Options) (config : SceneConfig) (event : Scen
   pub of_event : IsCallOf event call
   pub refused : Refuses options config call f
 
--- a call as it is, or with its output left unread where the decider skips it
+-- a call, without its output if the decider skips that
 abbrev pub ready_if : Bool → OutputLoadDecider → ReportCall → ReportCall
 ready_if unloads d call = if unloads then unread_call d call else call
 
@@ -108,7 +108,7 @@ pub record IsReadyCall (options : Options) (d : OutputLoadDecider) (event : Scen
     pub of_event : IsCallOf event made
     pub ready : call ≡ ready_if options.unload_skipped d made
 
--- the calls are those of the run; so they have the same report and the same first refused call
+-- these are the calls of the run, with the same report and the same first refused call
 pub record AreReadyCallsOf (options : Options) (run : ParsedLines) (calls : List ReportCall) : Type 0 where
   pub made : List ReportCall
   pub of_run : AllZip IsCallOf run.events made

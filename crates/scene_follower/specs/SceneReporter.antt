@@ -13,7 +13,7 @@ use Rattle.scene_follower.specs.{declared.scene_reporter.SceneReporter.SceneRepo
 use Rattle.scene_follower.specs.{Reports.decider_for, Reports.unloaded_for}
 use Rattle.command_line.specs.declared.{fault.Fault.Fault, fault.Fault.TheVariants.Line, args.Options.Options}
 
--- its two writers
+-- the two writers of a scene's reporter
 abbrev pub Writers : Type 0 → Type 0 → Type 0
 Writers W S = W × Option (Store S)
 
@@ -26,7 +26,7 @@ IsSetFor options config r = (r.decider ≡ decider_for options config) × (r.unl
 
 module _ {W S : Type 0} (m : Meaning W) (n : Meaning S) (options : Options) (start : Writers W S)
     (now : SceneReporter W S) where
-  -- with these writers at its start, it has reported this run, and is after its calls
+  -- a reporter that began with these writers has reported this run
   pub record Follows (run : ParsedLines) : Type 0 where
     pub reported : PrintsFollowed m (store_meaning n) options start (writers now) now.outcome run
     pub stands : StandsAfter (configuration_for options run.config)
@@ -41,7 +41,7 @@ module _ {W S : Type 0} (m : Meaning W) (n : Meaning S) (options : Options) (sta
       ⊎ (Prints m (store_meaning n) options start (writers now) run
       × ((f : LineFault) × (fault ≡ Line number f) × RefusesEvent options run.config event f))
 
--- It reported the call of the line of this number. Its settings stay, and it keeps its writers.
+-- The reporter reported the call of the line with this number, with unchanged settings and the same writers.
 pub record ReportsCall {W S : Type 0} (m : Meaning W) (n : Meaning S) (old : SceneReporter W S) (number : ℕ)
     (stored : List PlacedOutput) (call : ReportCall) (result : Result (Unit {0}) Fault) (new : SceneReporter W S) : Type
     0 where

@@ -12,9 +12,9 @@ use store_text::config::StoreConfig;
 
 /// The device that records go to.
 pub(crate) enum RecordDevice<S: Write> {
-    /// The options ask for no records, so it stays as it is.
+    /// No records are asked for: the device without a buffer.
     Unused(S),
-    /// With its buffer, and which outputs the records hold.
+    /// The device behind a buffer, and which outputs the records hold.
     Buffered(TextBuffer<S>, StoreConfig),
 }
 

@@ -145,7 +145,7 @@ fn follow_to<'a, 'w, L: RunSource, W: WriteStr, S: WriteStr>(
     end(options, reporter, passed)
 }
 
-// The outcome of lines that were passed to a reporter, with its writers.
+// The outcome of the lines, and the reporter's writers.
 fn end<'a, 'w, W: WriteStr, S: WriteStr>(
     options: &Options<'_>,
     reporter: SceneReporter<'w, W, S>,

@@ -12,11 +12,11 @@ use run_model::stats::{FinalRunStats, RunFinishedStats, StressFinalRunStats};
 pub enum RunOutcome {
     /// It has not ended: there was no end line after the last start line.
     NotEnded,
-    /// Its end says that all tests ran, and none failed.
+    /// The run ended: all tests ran, and none failed.
     Success,
-    /// Its end says that there was no test to run.
+    /// The run ended, and there was no test to run.
     NoTestsRun,
-    /// Its end says that a test or a setup script failed, or that it was cancelled.
+    /// The run ended: a test or a setup script failed, or it was cancelled.
     Failed,
 }
 

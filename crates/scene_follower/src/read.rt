@@ -26,7 +26,7 @@ use std::mem;
 /// How many bytes of a file are read at once.
 const BYTES_AT_ONCE: usize = 16_384;
 
-/// Room for the fields of most lines: those of a finished test with one attempt, and of a second one.
+/// Room for the fields of most lines: of a finished test with up to two attempts.
 const FIELDS: usize = 32;
 
 /// Where the lines of a run come from.
@@ -70,7 +70,7 @@ pub trait RunSource {
             → PassesNext K.takes file.now before lines (left total self.new others) read.old sink.old
             result read.new sink.new };
 
-    // The text that is read next is that of the next line.
+    // The next text is that of the next line.
     ghost texts: { (total : ℕ) (s : Self) (text : List ℕ) (others : List (List ℕ)) (before : ParsedLines)
         (lines : List RunLine) → left total s (text ∷ others) before lines → HasText text lines };
 }
@@ -99,7 +99,7 @@ impl<R: Read + Drop> SceneSource<R> {
 }
 
 impl<R: Read> RunSource for SceneSource<R> {
-    // A scene has its outputs in its lines.
+    // The outputs of a scene are in its lines.
     ghost left = { λ total s texts before. AreLeftIn R.remaining s texts };
 
     ghost texts = { λ total s text others before lines h.
@@ -113,7 +113,7 @@ impl<R: Read> RunSource for SceneSource<R> {
         ensures fault { IfErr result (IsUnread file.now) }
         ensures unread { self.old.is_ended ≡ true → (self.new ≡ self.old) × (result ≡ Ok false) }
         ensures none_left { IfOk result (λ is_more. is_more ≡ false → self.new.is_ended ≡ true) }
-        // Also if the last line does not end in a line feed.
+        // Even if the last line does not end in a line feed.
         ensures last_line { (text : List ℕ) → reader_remaining R.remaining self.old.reader ≡ Some text
             → OnOk result (text ≡ piece.new.items → self.new.is_ended ≡ true) }
     {
@@ -159,7 +159,7 @@ impl<R: Read> RunSource for SceneSource<R> {
 pub struct Reading {
     pub read: LinesRead,
     piece: Vec<u8>,
-    // The place in the piece of the first buffered line.
+    // The index of the first buffered line in the piece.
     next: Option<usize>,
     ghost within: { ForSome next (λ at. at ≤ length piece.items) },
 }
@@ -188,7 +188,7 @@ impl Reading {
         }
     }
 
-    // Reads those lines, before any other.
+    // Reads the lines that configure the report.
     fn configure<'a, L: RunSource>(
         &mut self,
         alloc: Global,
@@ -297,7 +297,7 @@ fn is_large_line(piece: &[u8]) -> bool
     piece.len() >= LARGE && has_large_field(piece) && memchr(b'\n', piece).is_none()
 }
 
-// Whether a block of half that size has no tab, as each field of that size has one.
+// Whether some block of half that size has no tab: each field of that size contains one.
 fn has_large_field(line: &[u8]) -> bool {
     line.chunks_exact(LARGE / 2)
         .any(|block| memchr(b'\t', block).is_none())

@@ -23,9 +23,9 @@ use std::alloc::Global;
 pub struct SceneReporter<'a, W, S> {
     pub(crate) outcome: RunOutcome,
     pub reporter: DisplayReporter<'a, W, S>,
-    /// What decides which output it shows, and which calls it refuses.
+    /// The decider: which output the reporter shows, and which calls it refuses.
     pub decider: OutputLoadDecider,
-    // Whether other output is left unread.
+    // Whether output that is not shown is left unread.
     unloads: bool,
 }
 

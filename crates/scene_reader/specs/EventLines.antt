@@ -35,7 +35,7 @@ run_event_rows =
     ∷ (codes "subend", exactly 3 sub_end_line_fields)
     ∷ []
 
--- and each that is no event of a test
+-- the kinds of line that are no event of a test
 unfoldable pub other_event_rows : List (List ℕ × Line SceneEvent)
 other_event_rows =
     (codes "prefix", exactly 2 prefix_line_fields)
@@ -50,7 +50,7 @@ other_event_rows =
     ∷ (codes "endstress", exactly 7 end_stress_line_fields)
     ∷ run_event_rows
 
--- and each that is an event
+-- the kinds of line that are an event
 unfoldable pub event_rows : List (List ℕ × Line SceneEvent)
 event_rows =
     (codes "retry", exactly 15 retry_line_fields)

@@ -34,7 +34,7 @@ abbrev pub is_begun : List SceneEvent → Bool
 is_begun [] = false
 is_begun (e ∷ es) = true
 
--- what the reading of a line needs of the lines before it: how the run is reported, and whether one of them is an event
+-- what a line depends on of the lines before it: how the run is reported, and whether one of them is an event
 pub record LinesBefore : Type 0 where
   pub config : SceneConfig
   pub is_begun : Bool
@@ -58,7 +58,7 @@ config_words before p = if before.is_begun then Err ConfigAfterEvent else made C
 abbrev pub event_word : List ℕ → Line ParsedLine
 event_word word = made EventLine (event_line_fields word)
 
--- the fields behind the first one
+-- the fields after the first one
 abbrev pub words_behind : LinesBefore → List ℕ → Line ParsedLine
 words_behind before word p = if bytes_eq word (codes "config") then config_words before p else event_word word p
 
@@ -77,17 +77,17 @@ is_passed_over (c ∷ t) = c == 35
 abbrev pub is_configuration : List ℕ → Bool
 is_configuration t = is_passed_over t || (bytes_eq t (codes "config") || bytes_eq (take 7 t) (codes "config\t"))
 
--- a line's fields, of which none is taken
+-- the fields of a line, before any is taken
 abbrev pub line_place : Option Noted → List ℕ → Place
 line_place noted t = record { number = 0; left = split_on 9 t; noted = noted }
 
--- what a line says behind others, and where its fields were left; or its fault
+-- the value of a line after others and the rest of its fields, or its fault
 unfoldable pub line_from : Option Noted → LinesBefore → List ℕ → Result (ParsedLine × Place) LineFault
 line_from noted before t =
     if is_passed_over t then says NoEvent (line_place noted t)
     else (if is_utf8 t then line_words before (line_place noted t) else Err NotUtf8)
 
--- the value of a line behind others, or its fault
+-- the value of a line after others, or its fault
 abbrev pub parsed_line : LinesBefore → List ℕ → Result ParsedLine LineFault
 parsed_line before t = value_of (line_from None before t)
 
@@ -121,7 +121,7 @@ plain_line t = PlainLine t
 abbrev pub text_lines : List ℕ → List RunLine
 text_lines t = map plain_line (split_on 10 t)
 
--- a recorded line's value with this made of its stored outputs and its event
+-- the value of a recorded line, with its stored outputs and its event replaced by these
 abbrev pub with_made : (List PlacedOutput → SceneEvent → Result SceneEvent LineFault)
     → Result (ParsedLine × List PlacedOutput) LineFault → Result ParsedLine LineFault
 with_made make (Ok (NoEvent, stored)) = Ok NoEvent
@@ -143,8 +143,8 @@ abbrev pub lines_read_after : (ParsedLines → Result ParsedLines (ℕ × LineFa
 lines_read_after others n (Ok after) = others after
 lines_read_after others n (Err f) = Err (n, f)
 
--- the lines with these behind them, of which the first has this number; or the number and the fault of the first that
--- has one
+-- the lines followed by these, the first of which has this number; or the number and the fault of the first faulty one
+-- the number and the fault of the first that has one
 unfoldable pub lines_read : ℕ → ParsedLines → List RunLine → Result ParsedLines (ℕ × LineFault)
 lines_read n before [] = Ok before
 lines_read n before (t ∷ ts) = lines_read_after (λ after. lines_read (n + 1) after ts) n (line_read before t)
@@ -153,7 +153,7 @@ lines_read n before (t ∷ ts) = lines_read_after (λ after. lines_read (n + 1) 
 abbrev pub text_read : List ℕ → Result ParsedLines (ℕ × LineFault)
 text_read t = lines_read 1 no_lines (text_lines t)
 
--- the number of the line, where it is an event
+-- the number of the line, if it is an event
 abbrev pub line_here : ℕ → ParsedLines → ParsedLines → List ℕ
 line_here n before after = if nat_lt (length before.events) (length after.events) then n ∷ [] else []
 
@@ -176,21 +176,21 @@ abbrev pub fault_at : ℕ → LineError → Fault
 fault_at n error.OutOfMemory = fault.OutOfMemory
 fault_at n (error.Fault f) = fault.Line n f
 
--- what the reading of the next line needs
+-- what the next line depends on
 abbrev pub before_next : LinesRead → LinesBefore
 before_next read = record { config = read.config; is_begun = read.is_begun }
 
--- the same behind a line of this value
+-- what it depends on after a line of this value
 abbrev pub before_behind : LinesBefore → ParsedLine → LinesBefore
 before_behind before NoEvent = before
 before_behind before (ConfigLine config) = record before { config = config }
 before_behind before (EventLine e) = record before { is_begun = true }
 
--- how a sink takes the call of the line of a number in a file, which has these stored outputs
+-- what a sink does with the call of a line (its file, number and stored outputs)
 abbrev pub Takes : Type 0 → Type 1
 Takes K = K → List ℕ → ℕ → List PlacedOutput → ReportCall → Result (Unit {0}) Fault → K → Type 0
 
--- a sink took the call of a line of this value, or there is none
+-- the sink took the call of this line, if it has one
 abbrev pub IsTaken : {K : Type 0} → Takes K → List ℕ → ℕ → List PlacedOutput → ParsedLine → K → Result (Unit {0}) Fault
     → K → Type 0
 IsTaken takes file n stored NoEvent old result new = (new ≡ old) × (result ≡ Ok tt)
@@ -204,8 +204,7 @@ IsLineFault n value fault.OutOfMemory = ⊤
 IsLineFault n value (fault.Line m f) = (m ≡ n) × (value ≡ Err f)
 IsLineFault n value other = ⊥
 
--- The next line, of this value, was read, and the sink took its call; or a fault stopped it, which is the line's, or
--- the sink's.
+-- The next line has this value, and the sink took its call; or the line or the sink had this fault.
 pub record PassesValue {K : Type 0} (takes : Takes K) (file : List ℕ)
     (value : Result (ParsedLine × List PlacedOutput) LineFault) (old : LinesRead) (given : K)
     (result : Result (Unit {0}) Fault) (new : LinesRead) (after : K) : Type 0 where
@@ -222,7 +221,7 @@ abbrev pub with_config : {X : Type 0} → SceneConfig → Result X LineFault →
 with_config config (Ok x) = Ok (ConfigLine config)
 with_config config (Err f) = Err f
 
--- the call of a line of this value that was read again, or none if it says no event; or the line's fault
+-- the call of a line that is read again, none if the line is no event; or the line's fault
 abbrev pub IsReadAgain : Result ParsedLine LineFault → Result (Option ReportCall) LineError → Type 0
 IsReadAgain value (Ok (Some call)) = value ≡ Ok (EventLine (call_by_names call))
 IsReadAgain value (Ok None) = (e : SceneEvent) → value ≡ Ok (EventLine e) → ⊥

@@ -14,7 +14,7 @@ use Rattle.run_model.specs.declared.output.ChildOutputDescription.TheVariants as
 use Rattle.run_model.specs.declared.event.TestEventKind.TheVariants as event
 use Rattle.run_model.specs.declared.status.ExecutionResultDescription.TheVariants as outcome
 
--- how an attempt ended that has this exit code, if it failed
+-- the result of an attempt with this exit code, or a pass without one
 abbrev pub usual_result : Option ℤ → ExecutionResultDescription
 usual_result None = outcome.Pass
 usual_result (Some code) = exit_code false code
@@ -54,7 +54,7 @@ SaysFields fields u = (success failure flaky total outcome nanos : List ℕ) × 
     × (flaky_in flaky ≡ Some u.values.flaky_result) × (number_in 32 total ≡ Some u.values.total_attempts)
     × (result_in outcome ≡ Some (usual_result u.values.exit_code)) × (nanos_in nanos ≡ Some u.values.time_taken)
 
--- the line says this event, whatever the lines before it
+-- the value of the line is this event, whatever came before
 abbrev pub SaysEvent : List ℕ → SceneEvent → Type 0
 SaysEvent line e = (before : LinesBefore)
     → with_stored (line_words before (line_place None line)) ≡ Ok (EventLine e, [])

@@ -1,4 +1,4 @@
-//! The text of a scene, read: a run written as text, one event a line.
+//! Reads the text of a scene: a run written as text, one event a line.
 //!
 //! `reader` reads a scene's lines into calls of a reporter. What a field spells is in the crate `scene_fields`; no text
 //! of a report is known here.

@@ -36,7 +36,7 @@ use std::alloc::Global;
 
 /// What takes the calls of lines, one at a time.
 pub trait CallSink {
-    // how it takes the call of the line of this number in a file, which has these stored outputs
+    // what it does with the call of a line, by its file, number and stored outputs
     ghost takes: { Self → List ℕ → ℕ → List PlacedOutput → ReportCall → Result (Unit {0}) Fault → Self → Type 0 };
 
     /// Takes the call of the line of this number, of a run in this file. The outputs of the line that are stored are
@@ -57,11 +57,11 @@ pub trait CallSink {
 pub struct LinesRead {
     /// How the run is reported.
     pub config: SceneConfig,
-    /// Whether one of them is an event. Behind an event no line configures the run.
+    /// Whether one of these lines is an event. After an event no line configures the run.
     pub is_begun: bool,
-    /// The number of the line that follows.
+    /// The number of the next line.
     pub next: u64,
-    // Those of the last test. The next one's take their memory.
+    // The names of the last test. Those of the next one reuse their memory.
     names: OwnedTestInstanceId,
 }
 
@@ -80,7 +80,7 @@ impl LinesRead {
         }
     }
 
-    /// Reads the line that follows, and has the sink take its call, if it has one. What is wrong with the line leaves
+    /// Reads the next line, and has the sink take its call, if it has one. What is wrong with the line leaves
     /// the sink as it was. The list is for its fields.
     #[inline(always)]
     pub fn pass_line<'a, 't, K: CallSink>(
@@ -109,8 +109,8 @@ impl LinesRead {
         self.pass_split(alloc, file, line, texts, sink)
     }
 
-    /// Reads the line that follows as `pass_line` does. It has its own memory, which a large output in it takes. Each
-    /// of its fields costs more than in `pass_line`.
+    /// Reads the next line as `pass_line` does. The line owns its memory, and a large output keeps it. Each
+    /// field costs more than in `pass_line`.
     pub fn pass_owned_line<'a, K: CallSink>(
         &mut self,
         alloc: Global,
@@ -136,7 +136,7 @@ impl LinesRead {
         )
     }
 
-    /// Reads the line that follows as `pass_line` does, where outputs may be stored: the sink gets those that are.
+    /// Reads the next line as `pass_line` does, where outputs may be stored: the sink gets those that are.
     pub fn pass_recorded_line<'a, 't, K: CallSink>(
         &mut self,
         alloc: Global,
@@ -160,7 +160,7 @@ impl LinesRead {
         self.pass_fields(alloc, file, fields, sink)
     }
 
-    // Reads the fields of the line that follows.
+    // Reads the fields of the next line.
     #[inline(always)]
     fn pass_fields<'a, K: CallSink>(
         &mut self,
@@ -313,7 +313,7 @@ impl LinesRead {
         self.next = next;
     }
 
-    // A line more was read. No text has more than the number can hold.
+    // One more line was read; its number cannot overflow.
     #[inline(always)]
     fn pass_over(&mut self) -> Result<(), Fault<'static>>
         ensures before { before_next self.new ≡ before_next self.old }
@@ -324,7 +324,7 @@ impl LinesRead {
         Ok(())
     }
 
-    // The fault of the line that follows.
+    // The fault of the next line.
     fn fault(&self, fault: LineFault) -> Fault<'static>
         ensures { result ≡ Fault.Line self.now.next fault }
     {
@@ -335,7 +335,7 @@ impl LinesRead {
     }
 }
 
-/// The call of a line that was read before, if it has one. These were the names of its test.
+/// The call of a line that is read again, if it has one; `names` are those of its test.
 ///
 /// # Errors
 ///
@@ -358,7 +358,7 @@ pub fn read_call<'n>(
     read_words(alloc, names, Fields::new(texts.as_slice()))
 }
 
-// The call that all fields of a line say, if they say one.
+// The call of a line from all its fields, if it has one.
 fn read_words<'n>(
     alloc: Global,
     names: Option<&'n OwnedTestInstanceId>,
@@ -373,7 +373,7 @@ fn read_words<'n>(
     }
 }
 
-// Lends a call to the sink. It is let go here: each of its kinds is a branch of the function that drops it.
+// Lends a call to the sink and drops it: here alone, since dropping has a branch for each kind.
 #[inline(always)]
 fn lend<'a, K: CallSink>(
     alloc: Global,
@@ -405,7 +405,7 @@ fn is_passed_over(line: &[u8]) -> bool
     matches!(line, [] | [b'#', ..])
 }
 
-/// Whether a line says how the run is reported, or nothing.
+/// Whether a line configures the report, or is empty or a comment.
 pub fn is_configuration(line: &[u8]) -> bool
     ensures { result ≡ is_configuration line.now }
 {

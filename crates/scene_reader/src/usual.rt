@@ -35,10 +35,10 @@ use scene_fields::texts::read_bytes;
 use scene_fields::values::{read_display, read_flaky_result};
 use std::alloc::Global;
 
-// What a field spells, where it spells something.
+// The value of a field, if it has one.
 type Field<T> = Result<Option<T>, OutOfMemory>;
 
-/// What a usual `done` line says. Its names are read beside it.
+/// The values of a usual `done` line, except the names.
 #[derive(Drop)]
 pub struct UsualDone {
     values: UsualValues,
@@ -47,7 +47,7 @@ pub struct UsualDone {
     stderr: Option<ChildSingleOutput>,
 }
 
-// What its other fields say.
+// The values of its other fields.
 #[derive(Clone, Copy)]
 struct UsualValues {
     success_output: TestOutputDisplay,
@@ -87,7 +87,7 @@ struct StartFields<'t> {
     command_line: &'t str,
 }
 
-/// Reads a usual `done` line, with its names in place of others. Any other line gives None, and any names.
+/// Reads a usual `done` line, and replaces the names. None for any other line, after which the names are any.
 ///
 /// # Errors
 ///
@@ -224,7 +224,7 @@ fn cut_streams(line: &str) -> Option<(&str, &str)>
     Some((stdout, stderr))
 }
 
-// Reads a stream's bytes, or `-` where it was not captured. None is a bad field. Most streams are empty.
+// Reads a stream's bytes, or `-` if it was not captured. None is a bad field. Most streams are empty.
 #[inline(always)]
 #[tactic(auto, unfolding(scene_fields::specs::Texts::unescaped_after))]
 fn read_stream(alloc: Global, field: &str) -> Field<Option<ChildSingleOutput>>
@@ -250,7 +250,7 @@ fn read_written(alloc: Global, field: &str) -> Field<Option<ChildSingleOutput>>
     }
 }
 
-/// Reads a usual `start` line, with its names in place of others. Any other line gives None, and any names.
+/// Reads a usual `start` line, and replaces the names. None for any other line, after which the names are any.
 ///
 /// # Errors
 ///

@@ -13,7 +13,7 @@ use Rattle.scene_follower.specs.declared.scene_reporter.{SceneReporter.SceneRepo
 abbrev pub Texts : Type 0
 Texts = Writers (String Global) (String Global)
 
--- with these writers at its start, a reporter that writes to memory has followed a run
+-- a reporter to memory that began with these writers has followed a run
 abbrev pub HasFollowed : Options → Texts → ParsedLines → SceneReporter (String Global) (String Global) → Type 0
 HasFollowed options start run r = IsSetFor options run.config r
     × Follows string_meaning string_meaning options start r run
@@ -28,8 +28,7 @@ abbrev pub HoldsFault : {W S : Type 0} → Gathering W S → Fault → Result (U
 HoldsFault old (Line number f) result new = (result ≡ Ok tt) × (new ≡ record old { refused = Some (Line number f) })
 HoldsFault old other result new = (result ≡ Err other) × (new ≡ old)
 
--- It reported the call; or it took nothing, since an earlier call was refused; or it refused this call and holds its
--- fault.
+-- The call was reported; or ignored, since an earlier one was refused; or refused, and its fault is held.
 pub record GathersCall {W S : Type 0} (m : Meaning W) (n : Meaning S) (old : Gathering W S) (number : ℕ)
     (stored : List PlacedOutput) (call : ReportCall) (result : Result (Unit {0}) Fault) (new : Gathering W S) : Type 0
   where

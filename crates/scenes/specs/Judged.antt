@@ -88,7 +88,7 @@ SceneFails contents stored created options text old new fault = IsRejected optio
     ⊎ OfStore stored created options.store new.1 (λ store_old store_new. OfText text
     (λ run. Begins device device options (contents old, store_old) (contents new.0, store_new) run fault))
 
--- A judge was given the call of the line of this number. It holds the fault of the first line whose call is refused.
+-- After the call of the line with this number, a judge holds the fault of the first line whose call is refused.
 pub record JudgesCall (old : Judge) (n : ℕ) (stored : List PlacedOutput) (call : ReportCall)
     (result : Result (Unit {0}) Fault) (new : Judge) : Type 0 where
   pub returned : result ≡ Ok tt

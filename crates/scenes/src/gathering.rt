@@ -21,7 +21,7 @@ pub(crate) struct Gathering<'a, W, S> {
 }
 
 impl<'a, W: WriteStr, S: WriteStr> Gathering<'a, W, S> {
-    /// With this reporter, before its first call.
+    /// Gathers the report of this reporter, before its first call.
     pub(crate) fn new(reporter: SceneReporter<'a, W, S>) -> Gathering<'a, W, S>
         ensures reporter { result.reporter ≡ reporter.entry }
         ensures refused { result.refused ≡ None }

@@ -20,7 +20,7 @@ pub(crate) struct Judge {
 }
 
 impl Judge {
-    /// No call was judged yet.
+    /// A judge before its first call.
     pub(crate) fn new(decider: OutputLoadDecider) -> Judge
         ensures decider { result.decider ≡ decider }
         ensures refused { result.refused ≡ None }

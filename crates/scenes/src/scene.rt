@@ -25,7 +25,7 @@ use scene_unit_lines::lines::no_names;
 use std::alloc::Global;
 use std::marker::Model;
 
-/// A run whose lines were all read. It owns their text, and the names of their tests.
+/// A run of which all lines were read. It owns their text, and the names of their tests.
 #[derive(Drop)]
 pub struct Scene {
     config: SceneConfig,

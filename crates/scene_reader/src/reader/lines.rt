@@ -16,7 +16,7 @@ use scene_unit_lines::lines::{
 };
 use std::alloc::Global;
 
-/// Reads the fields behind a word, which names the kind of event, into the call that they spell. These are the names of
+/// Reads the fields after a word, which names the kind of event, into the call that they spell. These are the names of
 /// its test. The words of tests come first, since most lines are theirs, but usual `done` and `start` lines are read
 /// elsewhere.
 #[inline(always)]
@@ -58,7 +58,7 @@ pub fn read_event<'n, N: TestNames<'n>>(
     }
 }
 
-// Reads the fields behind a word that names no event of a test. Not inlined: the compiler zeroes all locals of a
+// Reads the fields after a word that names no event of a test. Not inlined: the compiler zeroes all locals of a
 // function at its entry, used or not.
 #[inline(never)]
 #[tactic(auto, unfolding(crate::specs::EventLines::other_event_rows))]
@@ -115,7 +115,7 @@ fn read_other_event<'n, N: TestNames<'n>>(
     }
 }
 
-// Reads the fields behind a word that names an event of the run as it goes on. They hold no text, so none allocates.
+// Reads the fields after a word that names an event of the run as it goes on. They hold no text, so none allocates.
 #[inline(never)]
 #[tactic(auto, unfolding(crate::specs::EventLines::run_event_rows))]
 fn read_run_event<'n>(word: &str, fields: &mut Fields<'_>) -> Result<ReportCall<'n>, LineError>
