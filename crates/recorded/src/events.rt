@@ -217,7 +217,7 @@ fn load_wanted<O: ReadAt + Drop>(
 {
     for placed in stored {
         if is_wanted(only, placed) {
-            load_placed(alloc, placed, outputs, event)?;
+            load_into_event(alloc, placed, outputs, event)?;
         }
     }
     Ok(())
@@ -234,7 +234,7 @@ fn is_wanted(only: Option<usize>, placed: &PlacedOutput) -> bool
 }
 
 // Loads one output and puts it into the event.
-fn load_placed<O: ReadAt + Drop>(
+fn load_into_event<O: ReadAt + Drop>(
     alloc: Global,
     placed: &PlacedOutput,
     outputs: &mut RecordedOutputs<O>,

@@ -317,7 +317,7 @@ pub fn front_len(texts: &[&str], number: usize) -> usize {
 }
 
 /// Whether these bytes are a prefix of these texts, joined.
-pub fn begin(bytes: &[u8], texts: &[&str]) -> bool {
+pub fn is_prefix(bytes: &[u8], texts: &[&str]) -> bool {
     let mut rest = bytes;
     for text in texts {
         match rest.strip_prefix(text.as_bytes()) {

@@ -87,7 +87,7 @@ struct StartFields<'t> {
     command_line: &'t str,
 }
 
-/// Reads a usual `done` line, and replaces the names. None for any other line, after which the names are any.
+/// Reads a usual `done` line, and replaces the names. None for any other line; the names are then unspecified.
 ///
 /// # Errors
 ///
@@ -250,7 +250,7 @@ fn read_written(alloc: Global, field: &str) -> Field<Option<ChildSingleOutput>>
     }
 }
 
-/// Reads a usual `start` line, and replaces the names. None for any other line, after which the names are any.
+/// Reads a usual `start` line, and replaces the names. None for any other line; the names are then unspecified.
 ///
 /// # Errors
 ///

@@ -1,7 +1,7 @@
 //! Each write and each flush of either writer fails once. The tests check what the two devices took, which call has the
 //! fault, and that neither a later call nor a refused one writes.
 
-use super::{ALL_OUTPUT, Texts, Trial, begin, front_len, run_alone, run_with_store, try_runs};
+use super::{ALL_OUTPUT, Texts, Trial, front_len, is_prefix, run_alone, run_with_store, try_runs};
 use crate::testing::{CallResults, line_builder, make_calls, retried_success, write_event};
 use console_reporter::imp::Store;
 use console_reporter::prelude::*;
@@ -208,8 +208,8 @@ impl Devices {
         let (report, records) = (self.report.taken(), self.records.taken());
         report.len() == left.report
             && records.len() == left.records
-            && begin(report, texts.report)
-            && begin(records, texts.records)
+            && is_prefix(report, texts.report)
+            && is_prefix(records, texts.records)
     }
 }
 

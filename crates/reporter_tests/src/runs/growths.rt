@@ -2,7 +2,7 @@
 //! once for each allocation, which it refuses: a test then returns that error, and fails with another message if a text
 //! is no prefix of the whole one.
 
-use super::{ALL_OUTPUT, Texts, Trial, begin, front_len, run_alone, run_with_store, try_runs};
+use super::{ALL_OUTPUT, Texts, Trial, front_len, is_prefix, run_alone, run_with_store, try_runs};
 use crate::testing::{CallResults, line_builder, make_call, make_calls};
 use console_reporter::prelude::*;
 use run_model::run_id::ShortestRunIdPrefix;
@@ -80,7 +80,7 @@ fn reaches(bytes: &[u8], texts: &[&str], outcome: Result<(), RunFault>) -> bool 
         Ok(()) => (texts.len(), texts.len()),
         Err(stop) => (stop.position, stop.position.saturating_add(1)),
     };
-    begin(bytes, texts)
+    is_prefix(bytes, texts)
         && bytes.len() >= front_len(texts, least)
         && bytes.len() <= front_len(texts, most)
 }

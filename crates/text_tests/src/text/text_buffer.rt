@@ -121,7 +121,7 @@ fn a_call_that_is_interrupted_is_made_again(rt: HostRuntime) -> Result<(), Fail>
 }
 
 // Whether the errors of a device's second write and of its flush are of this kind.
-fn is_passed_on(alloc: Global, kind: ErrorKind) -> bool {
+fn is_returned(alloc: Global, kind: ErrorKind) -> bool {
     let device = Device::failing_at(alloc, 1, Failure::Error).with_kind(kind);
     let mut device = RetryInterrupted::new(device);
     let first = device.write(TEXT.as_bytes());
@@ -136,7 +136,7 @@ fn no_other_result_of_a_device_is_changed(rt: HostRuntime) -> Result<(), Fail> {
     let alloc = rt.alloc();
     for (row, kind) in KINDS.iter().enumerate() {
         if *kind != ErrorKind::Interrupted {
-            expect_row(&rt, is_passed_on(alloc, *kind), row);
+            expect_row(&rt, is_returned(alloc, *kind), row);
         }
     }
     let mut device = RetryInterrupted::new(Device::failing_at(alloc, 0, Failure::NothingTaken));
