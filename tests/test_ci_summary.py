@@ -293,7 +293,8 @@ class Annotations(unittest.TestCase):
 class Made(unittest.TestCase):
     def test_words(self):
         needs = "needs a FILE, which is the last word"
-        for words, why in ([], needs), (["a", "b"], needs), (["-x"], "takes no -x"), (["--summary"], "takes no --summary"):
+        rows = ([], needs), (["a", "b"], needs), (["-", "b"], needs), (["-x"], "takes no -x"), (["-x", "b"], "takes no -x")
+        for words, why in rows:
             with self.subTest(words=words), self.assertRaisesRegex(Bad, f"^--summary {why}$"):
                 made_of("--summary", words, None)
 
