@@ -83,7 +83,8 @@ const goTo = async (line, hasFocus = false) => {
   if (!block.filled) block.scrollIntoView();
   await fill(block);
   const found = block.children[line % BLOCK];
-  if (generation !== shown.generation || !found) return;
+  // A later call takes its place.
+  if (generation !== shown.generation || marked !== line || !found) return;
   found.scrollIntoView({ block: "center" });
   markAll();
   if (!hasFocus) return;
